@@ -12,7 +12,7 @@ use Rattle.control_route.specs.Routes.{route_of}
 use Rattle.model_device.specs.Meaning.{Meaning}
 use Rattle.model_device.specs.Device.{meaning_of, first_state}
 use Rattle.model_device.specs.Keyboard.{keyboard}
-use Rattle.gate_history.specs.client.Requests.{Request}
+use Rattle.gate_history.specs.declared.request.Request.{Request}
 use Rattle.gate_history.specs.write.Answers.{ret_submit, ret_unlink}
 use Rattle.direct_device.specs.Direct.{first_direct}
 use Rattle.direct_device.specs.Acting.{Deed, Import, Submit, Unlink, Perform, Cancel, Answer, Offer, Arrive, Gone, ClientGone}

@@ -8,10 +8,11 @@ use Rattle.usb_base.specs.declared.transfer.Outcome.{Outcome}
 use Rattle.usb_base.specs.declared.transfer.StreamPacket.{StreamPacket}
 use Rattle.stream_buffers.specs.Cuts.{Cut}
 use Rattle.model_device.specs.Meaning.{Meaning}
-use Rattle.gate_history.specs.client.Requests.{Request}
-use Rattle.gate_history.specs.write.Errno.{eshutdown}
+use Rattle.gate_history.specs.declared.request.Request.{Request}
+use Rattle.gate_history.specs.declared.errno.TheConstants.{ESHUTDOWN}
 use Rattle.gate_history.specs.host.Fillings.{Given}
-use Rattle.gate_history.specs.client.Verdict.{Now, verdict, goes_by_id, changes}
+use Rattle.gate_history.specs.declared.verdict.Verdict.TheVariants.{Now}
+use Rattle.gate_history.specs.client.Verdict.{verdict, goes_by_id, changes}
 use Rattle.gate_history.specs.client.Submits.{is_waiting}
 use Rattle.gate_history.specs.write.Answers.{is_cancelled}
 use Rattle.gate_history.specs.step.Meaning.{by_stream}
@@ -36,7 +37,7 @@ keep-submit m d c r inv ok = record {
   lost = λ h i. filter (λ y. not (is_ended (made_of m d r) y)) (inv.lost h i) ++ joins_live (record { request = r; verdict = made_of m d r }) (now h i);
 }
   where
-    now : d.gone ≡ true → made_of m d r ≡ Now eshutdown
+    now : d.gone ≡ true → made_of m d r ≡ Now ESHUTDOWN
     now h = ap (λ (b : Bool). by_stream (stream_at d.streams r.transfer.ep) (verdict b (length d.live) (list_any (λ (l : Live). changes l.load.verdict) d.live) (m.table d.gadget) true r)) h ∙ gone-now (stream_at d.streams r.transfer.ep)
 
     there : goes_by_id (made_of m d r) ≡ true → d.gone ≡ false

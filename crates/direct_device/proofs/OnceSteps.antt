@@ -11,8 +11,10 @@ use Rattle.usb_base.specs.declared.setup.Setup.{Setup}
 use Rattle.chapter9.specs.Standard.{ended}
 use Rattle.model_device.specs.Submit.{routed_outcome, byte_seen}
 use Rattle.gate_history.proofs.lemmas.Lists.{Each, both, Each-append, Each-filter}
-use Rattle.gate_history.specs.client.Requests.{Request}
-use Rattle.gate_history.specs.client.Verdict.{Verdict, Routed, goes_by_id}
+use Rattle.gate_history.specs.declared.request.Request.{Request}
+use Rattle.gate_history.specs.declared.verdict.Verdict.{Verdict}
+use Rattle.gate_history.specs.declared.verdict.Verdict.TheVariants.{Routed}
+use Rattle.gate_history.specs.client.Verdict.{goes_by_id}
 use Rattle.gate_history.specs.client.Submits.{is_waiting}
 use Rattle.gate_history.specs.write.Answers.{is_cancelled}
 use Rattle.gate_history.specs.write.Packets.{no_setup}

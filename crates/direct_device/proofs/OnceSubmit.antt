@@ -4,9 +4,11 @@ use Rattle.std.specs.Prelude.{filter}
 use Rattle.std.specs.List.{list_any}
 use Rattle.std.proofs.lemmas.Bool.{eqb-true}
 use Rattle.gate_history.proofs.lemmas.Lists.{Each, Each-append, Each-filter}
-use Rattle.gate_history.specs.client.Requests.{Request}
-use Rattle.gate_history.specs.write.Errno.{eshutdown}
-use Rattle.gate_history.specs.client.Verdict.{Verdict, Now, Wire, Routed, IsoOut, Stream, goes_by_id}
+use Rattle.gate_history.specs.declared.request.Request.{Request}
+use Rattle.gate_history.specs.declared.errno.TheConstants.{ESHUTDOWN}
+use Rattle.gate_history.specs.declared.verdict.Verdict.{Verdict}
+use Rattle.gate_history.specs.declared.verdict.Verdict.TheVariants.{Now, Wire, Routed, IsoOut, Stream}
+use Rattle.gate_history.specs.client.Verdict.{goes_by_id}
 use Rattle.gate_history.specs.client.Submits.{is_waiting, is_touched as ends_by_change}
 use Rattle.gate_history.specs.state.Ups.{Up}
 use Rattle.gate_history.specs.step.Meaning.{by_stream}
@@ -115,6 +117,6 @@ none-queued live queue ran c n o free =
     omega (arith, z, by-id-number n live, o.balance n)
 
 -- where the device is gone, a submit is answered at once
-pub gone-now : (o : Option Up) → by_stream o (Now eshutdown) ≡ Now eshutdown
+pub gone-now : (o : Option Up) → by_stream o (Now ESHUTDOWN) ≡ Now ESHUTDOWN
 gone-now None = refl
 gone-now (Some up) = refl

@@ -1,6 +1,7 @@
 -- What the answers of a legal trace say of its performs.
+use Rattle.stream_buffers.specs.Fillings.{is_failed}
 use Rattle.std.proofs.Common.{◌≡◌, ℕ, ◌&&◌, ◌||◌, Bool, true, false, cond, List, [], ◌∷◌, Option, Some, None, refl, sym, ap, subst, ◌∙◌}
-use Rattle.std.specs.Prelude.{pos, slice_get}
+use Rattle.std.specs.Prelude.{pos, not, nat_lt, slice_get, ◌==◌, ◌%◌}
 use Rattle.std.specs.List.{find, list_any}
 use Rattle.std.proofs.lemmas.Bool.{eqb-true}
 use Rattle.usb_base.specs.declared.status.UsbStatus.{UsbStatus}
@@ -9,13 +10,13 @@ use Rattle.usb_base.specs.declared.transfer.Outcome.{Outcome}
 use Rattle.stream_buffers.specs.Cuts.{Cut}
 use Rattle.model_device.specs.Meaning.{Meaning}
 use Rattle.gate_history.proofs.lemmas.Lists.{Each}
-use Rattle.gate_history.specs.write.Errno.{econnreset, eremoteio, is_zero}
+use Rattle.gate_history.specs.declared.errno.TheConstants.{ECONNRESET, EREMOTEIO}
 use Rattle.gate_history.specs.step.Marks.{Submission}
-use Rattle.gate_history.specs.client.Requests.{Request}
-use Rattle.gate_history.specs.client.Verdict.{is_wire, goes_by_id}
+use Rattle.gate_history.specs.declared.request.Request.{Request}
+use Rattle.gate_history.specs.client.Verdict.{is_wire, goes_by_id, none_of}
 use Rattle.gate_history.specs.host.Fillings.{Given, Transferred, Isochronous}
 use Rattle.gate_history.specs.client.Submits.{is_waiting}
-use Rattle.gate_history.specs.write.Answers.{is_cancelled, is_short, ret_unlink, answers_by, with_outcome, with_given}
+use Rattle.gate_history.specs.write.Answers.{is_cancelled, ret_unlink, answers_by, with_outcome, with_given}
 use Rattle.direct_device.specs.Direct.{Load, Live, Ran, Direct, first_direct, as_submission, number, is_number}
 use Rattle.direct_device.specs.Acting.{Deed, Import, Submit, Unlink, Perform, Cancel, Answer, Offer, Arrive, Gone, ClientGone, answers_of, is_taken, is_target, unlink_answers, filled_answers, ran_answers, cut_for}
 use Rattle.direct_device.specs.Legal.{IsAllowed, acts}
@@ -49,7 +50,7 @@ taken-once m d c by n inv inside told = any-each (Idle c) (is_taken n) (c n ≡ 
         let parts = and-parts (is_waiting l.load.verdict) (is_number n l.load) is in
         ap c (sym (eqb-true (number l.load) n parts.1)) ∙ idle (waits-no_id l.load.verdict parts.0)
 
-    taken : (a b : Bool) → list_any is_won (cond a (ret_unlink by econnreset ∷ []) (cond b [] (ret_unlink by (pos 0) ∷ []))) ≡ true → a ≡ true
+    taken : (a b : Bool) → list_any is_won (cond a (ret_unlink by ECONNRESET ∷ []) (cond b [] (ret_unlink by (pos 0) ∷ []))) ≡ true → a ≡ true
     taken true b e = refl
     taken false true e = e
     taken false false e = e
@@ -70,7 +71,7 @@ won-cancelled : (s : Submission) (o : Outcome) (unlinker : Option ℕ) → list_
 won-cancelled s o None e = absurd (not-both (sym e))
 won-cancelled s o (Some own) e = go (is_wire s.verdict && is_cancelled o.status) refl e
   where
-    go : (b : Bool) → (is_wire s.verdict && is_cancelled o.status) ≡ b → list_any is_won (cond b (ret_unlink own econnreset ∷ []) (with_outcome s.request o ∷ ret_unlink own (pos 0) ∷ [])) ≡ true → is_cancelled o.status ≡ true
+    go : (b : Bool) → (is_wire s.verdict && is_cancelled o.status) ≡ b → list_any is_won (cond b (ret_unlink own ECONNRESET ∷ []) (with_outcome s.request o ∷ ret_unlink own (pos 0) ∷ [])) ≡ true → is_cancelled o.status ≡ true
     go true is k = (and-parts (is_wire s.verdict) (is_cancelled o.status) is).1
     go false is k = absurd (not-both (sym k))
 
@@ -78,12 +79,12 @@ won-cancelled s o (Some own) e = go (is_wire s.verdict && is_cancelled o.status)
 good-done : (r : Request) (o : Outcome) → is_good (with_outcome r o) ≡ true → is_cancelled o.status ≡ false
 good-done r o = go o.status
   where
-    short : (b : Bool) → is_zero (cond b eremoteio econnreset) ≡ true → ⊥
+    short : (b : Bool) → not (is_failed (cond b EREMOTEIO ECONNRESET)) ≡ true → ⊥
     short true e = not-both (sym e)
     short false e = not-both (sym e)
 
     go : (status : UsbStatus) → is_good (with_outcome r (record { status = status; done = o.done; body = o.body })) ≡ true → is_cancelled status ≡ false
-    go Cancelled e = absurd (short (is_short r econnreset o.done) e)
+    go Cancelled e = absurd (short (r.is_in && none_of r.descs && not (is_failed ECONNRESET) && nat_lt o.done r.transfer.wanted && (r.flags % 2 == 1)) e)
     go _ e = refl
 
 good-done_by : (s : Submission) (o : Outcome) (unlinker : Option ℕ) → list_any is_good (answers_by s o unlinker) ≡ true → is_cancelled o.status ≡ false
@@ -98,7 +99,7 @@ good-done_by s o (Some own) e = go (is_wire s.verdict && is_cancelled o.status) 
     alone true h = refl
     alone false h = h
 
-    go : (b : Bool) → list_any is_good (cond b (ret_unlink own econnreset ∷ []) (with_outcome s.request o ∷ ret_unlink own (pos 0) ∷ [])) ≡ true → is_cancelled o.status ≡ false
+    go : (b : Bool) → list_any is_good (cond b (ret_unlink own ECONNRESET ∷ []) (with_outcome s.request o ∷ ret_unlink own (pos 0) ∷ [])) ≡ true → is_cancelled o.status ≡ false
     go true k = absurd (not-both (sym k))
     go false k = good-done s.request o (alone (is_good (with_outcome s.request o)) k)
 

@@ -1,6 +1,6 @@
 -- What each item of a trace does to the device attached directly, and what it answers.
 use Rattle.std.specs.Prelude.{ℕ, ◌&&◌, ◌||◌, not, Bool, true, false, if◌then◌else◌, List, [], ◌∷◌, ◌++◌, filter, map, length, Option, Some, None, is_none, pos, drop, slice_get, option_and_then}
-use Rattle.std.specs.Option.{option_map_or, option_to_list}
+use Rattle.std.specs.Option.{option_map_or, option_or, option_to_list}
 use Rattle.std.specs.List.{find, list_any}
 use Rattle.usb_base.specs.Status.{is_success}
 use Rattle.usb_base.specs.declared.endpoint.EpTable.{EpTable}
@@ -12,16 +12,16 @@ use Rattle.stream_buffers.specs.Cuts.{Cut}
 use Rattle.control_route.specs.declared.route.Route.{Route}
 use Rattle.model_device.specs.Meaning.{Meaning}
 use Rattle.redir_host.specs.device.Changes.{is_touched}
-use Rattle.gate_history.specs.client.Requests.{Request}
-use Rattle.gate_history.specs.client.Verdict.{Verdict, Now, IsoOut, verdict, is_wire, goes_by_id, changes}
-use Rattle.gate_history.specs.write.Errno.{econnreset}
+use Rattle.gate_history.specs.declared.request.Request.{Request}
+use Rattle.gate_history.specs.declared.verdict.Verdict.{Verdict}
+use Rattle.gate_history.specs.declared.verdict.Verdict.TheVariants.{Now, IsoOut}
+use Rattle.gate_history.specs.client.Verdict.{verdict, is_wire, goes_by_id, changes}
+use Rattle.gate_history.specs.declared.errno.TheConstants.{ECONNRESET, ESHUTDOWN}
 use Rattle.gate_history.specs.host.Fillings.{Given, cut_of}
-use Rattle.gate_history.specs.state.Sides.{or_else}
 use Rattle.gate_history.specs.client.Submits.{is_waiting, is_touched as ends_by_change}
 use Rattle.gate_history.specs.state.Ups.{Up, no_streams, stream_at, stream_of, hold, opened_streams}
 use Rattle.gate_history.specs.step.Meaning.{by_stream}
 use Rattle.gate_history.specs.write.Answers.{ret_unlink, without_packets, with_given, answers_by, lost_answer}
-use Rattle.gate_history.specs.write.Errno.{eshutdown}
 use Rattle.direct_device.specs.Direct.{Load, Live, Waiting, Ran, Direct, no_way, as_submission, number, is_number, normal_of, seen_of, change_in, cancelled, is_at, without_first, way_by, with_way}
 
 -- an item of a trace; of a submit, what it asks
@@ -74,7 +74,7 @@ answered_now l _ = []
 abbrev pub submit_answers : {S : Type 0} → Direct S → Load → List UrbPacket
 submit_answers d l =
     let ended : List Live = filter (is_ended l.verdict) d.live in
-    map (λ (y : Live). without_packets y.load.request eshutdown) ended ++ answered_now l l.verdict
+    map (λ (y : Live). without_packets y.load.request ESHUTDOWN) ended ++ answered_now l l.verdict
 
 -- ---- an unlink
 
@@ -86,7 +86,7 @@ is_target target l = goes_by_id l.load.verdict && is_number target l.load && is_
 
 abbrev pub asked_back : ℕ → ℕ → Live → Live
 asked_back by target l = record l {
-  unlinker = or_else l.unlinker (if goes_by_id l.load.verdict && is_number target l.load then Some by else None);
+  unlinker = option_or l.unlinker (if goes_by_id l.load.verdict && is_number target l.load then Some by else None);
 }
 
 abbrev pub marked : ℕ → Waiting → Waiting
@@ -101,7 +101,7 @@ unlinked d by target = record d {
 -- a submit that waits for a stream is taken back at once; another may still win
 abbrev pub unlink_answers : {S : Type 0} → Direct S → ℕ → ℕ → List UrbPacket
 unlink_answers d by target =
-    if list_any (is_taken target) d.live then ret_unlink by econnreset ∷ []
+    if list_any (is_taken target) d.live then ret_unlink by ECONNRESET ∷ []
     else if list_any (is_target target) d.live then []
     else ret_unlink by (pos 0) ∷ []
 

@@ -11,8 +11,9 @@ use Rattle.model_device.specs.Submit.{routed_outcome}
 use Rattle.redir_host.specs.guest.Asking.{routed}
 pub use Rattle.usb_base.specs.Firsts.{without_first}
 use Rattle.redir_host.specs.state.Queues.{queue_of}
-use Rattle.gate_history.specs.client.Requests.{Request}
-use Rattle.gate_history.specs.client.Verdict.{Verdict, Routed}
+use Rattle.gate_history.specs.declared.request.Request.{Request}
+use Rattle.gate_history.specs.declared.verdict.Verdict.{Verdict}
+use Rattle.gate_history.specs.declared.verdict.Verdict.TheVariants.{Routed}
 use Rattle.gate_history.specs.step.Marks.{Submission}
 use Rattle.gate_history.specs.write.Packets.{no_setup}
 use Rattle.gate_history.specs.state.Ups.{Up, no_streams, stream_of}

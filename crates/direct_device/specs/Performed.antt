@@ -1,5 +1,6 @@
 -- Performed at most once: how often a submit has been performed where an item of a legal trace stands, by what the item
 -- answers. A number names the submit of its last item, up to its end.
+use Rattle.stream_buffers.specs.Fillings.{is_failed}
 use Rattle.std.specs.Prelude.{◌≡◌, ℕ, ◌+◌, ◌==◌, Bool, true, false, if◌then◌else◌, List, [], ◌∷◌, ◌++◌, Option, Some, ℤ, pos, negsuc, IfSome}
 use Rattle.std.specs.List.{find, list_any, AllByRecursion}
 use Rattle.usb_base.specs.declared.transfer.Transfer.{Transfer}
@@ -7,7 +8,6 @@ use Rattle.usb_base.specs.declared.transfer.Outcome.{Outcome}
 use Rattle.usbip_urb.specs.declared.packet.UrbPacket.{UrbPacket}
 use Rattle.usbip_urb.specs.declared.packet.UrbPacket.TheVariants as urb
 use Rattle.model_device.specs.Meaning.{Meaning}
-use Rattle.gate_history.specs.write.Errno.{is_zero}
 use Rattle.gate_history.specs.client.Verdict.{goes_by_id}
 use Rattle.gate_history.specs.write.Answers.{is_cancelled}
 use Rattle.direct_device.specs.Direct.{Live, Direct, first_direct, number, is_number}
@@ -42,7 +42,7 @@ is_won _ = false
 
 -- a submit that is answered 0
 abbrev pub is_good : UrbPacket → Bool
-is_good (urb.RetSubmit p) = is_zero p.status
+is_good (urb.RetSubmit p) = not (is_failed p.status)
 is_good _ = false
 
 -- ---- items

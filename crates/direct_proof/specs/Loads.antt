@@ -8,7 +8,10 @@ use Rattle.control_route.specs.declared.route.Route.{Route}
 use Rattle.control_route.specs.declared.route.Route.TheVariants as route
 use Rattle.model_device.specs.Gadget.{IsNamed}
 use Rattle.model_device.specs.Transfer.{IsOutcome, IsTransfer, is_control}
-use Rattle.gate_history.specs.client.Verdict.{Bulk, Control, InterruptOut, Pipe, Routed, Verdict, Wire}
+use Rattle.gate_history.specs.declared.verdict.Pipe.{Pipe}
+use Rattle.gate_history.specs.declared.verdict.Pipe.TheVariants.{Control, Bulk, InterruptOut}
+use Rattle.gate_history.specs.declared.verdict.Verdict.{Verdict}
+use Rattle.gate_history.specs.declared.verdict.Verdict.TheVariants.{Wire, Routed}
 use Rattle.direct_device.specs.Direct.{Load, normal_of}
 use Rattle.direct_proof.specs.Requests.{Coming}
 

@@ -14,7 +14,8 @@ use Rattle.redir_host.specs.declared.note.HostNote.{HostNote}
 use Rattle.redir_host.specs.declared.note.HostNote.TheVariants as host_note
 use Rattle.redir_host.specs.declared.note.Offered.{Offered}
 use Rattle.redir_host.specs.declared.note.Offered.TheVariants as offered
-use Rattle.gate_history.specs.step.Items.{Item as GateItem, Told}
+use Rattle.gate_history.specs.declared.item.Item.{Item as GateItem}
+use Rattle.gate_history.specs.declared.item.Item.TheVariants.{Told}
 use Rattle.gate_history.specs.step.Machine.{after}
 use Rattle.gate_history.specs.step.Marks.{Arrives, Effect, Imports, Mark, Unlinks}
 use Rattle.gate_history.specs.step.Meaning.{mark_of}

@@ -11,9 +11,13 @@ use Rattle.redir_host.specs.declared.request.Form.TheVariants as form
 use Rattle.redir_host.specs.declared.request.Request.{Request as HostRequest}
 use Rattle.gate_history.specs.step.Marks.{Submission}
 use Rattle.gate_history.specs.write.Packets.{no_setup}
-use Rattle.gate_history.specs.client.Requests.{Request}
+use Rattle.gate_history.specs.declared.request.Request.{Request}
 use Rattle.gate_history.specs.client.Submits.{Pending}
-use Rattle.gate_history.specs.client.Verdict.{Bulk, Control, InterruptOut, Pipe, Routed, Verdict, Wire, goes_by_id}
+use Rattle.gate_history.specs.declared.verdict.Pipe.{Pipe}
+use Rattle.gate_history.specs.declared.verdict.Pipe.TheVariants.{Control, Bulk, InterruptOut}
+use Rattle.gate_history.specs.declared.verdict.Verdict.{Verdict}
+use Rattle.gate_history.specs.declared.verdict.Verdict.TheVariants.{Wire, Routed}
+use Rattle.gate_history.specs.client.Verdict.{goes_by_id}
 use Rattle.direct_device.specs.Direct.{Live, Load, Ran, Waiting, normal_of, seen_of}
 
 -- ---- how a submit stands at the host

@@ -6,7 +6,7 @@ use Rattle.usbip_urb.specs.declared.client.ClientPacket.{ClientPacket}
 use Rattle.usbip_urb.specs.declared.client.ClientPacket.TheVariants.{Op, Urb}
 use Rattle.usbip_urb.specs.declared.packet.UrbPacket.{UrbPacket}
 use Rattle.model_device.specs.Meaning.{Meaning}
-use Rattle.gate_history.specs.step.Items.{Item}
+use Rattle.gate_history.specs.declared.item.Item.{Item}
 use Rattle.gate_history.specs.step.Machine.{run as gate_run}
 use Rattle.gate_history.specs.state.State.{State}
 use Rattle.direct_run.specs.Moves.{Move, World}

@@ -7,7 +7,7 @@ use Rattle.gate_history.specs.write.All.{all_of}
 use Rattle.gate_history.specs.step.History.{history}
 use Rattle.gate_history.specs.step.Marks.{Submission}
 use Rattle.gate_history.specs.write.Output.{to_client}
-use Rattle.gate_history.specs.client.Requests.{Request}
+use Rattle.gate_history.specs.declared.request.Request.{Request}
 use Rattle.gate_history.specs.client.Submits.{accepted}
 use Rattle.direct_run.specs.Steps.{Step}
 use Rattle.direct_run.specs.Trace.{trace}

@@ -14,8 +14,9 @@ use Rattle.usbip_urb.specs.Sound.ClientPackets.{client_packets_sound}
 use Rattle.model_device.specs.Meaning.{Meaning}
 use Rattle.gate_history.proofs.lemmas.Lists.{Each}
 use Rattle.gate_history.specs.step.Events.{Event, ClientPiece, ClientEnd, HostPiece, HostEnd, client_bytes}
-use Rattle.gate_history.specs.step.History.{client_split, client_wrong, client_items, brought}
-use Rattle.gate_history.specs.step.Items.{Item, Asked, ClientWrong, ClientLeft, Told, HostWrong, HostLeft}
+use Rattle.gate_history.specs.step.History.{client_split, client_items, brought, wrong_items}
+use Rattle.gate_history.specs.declared.item.Item.{Item}
+use Rattle.gate_history.specs.declared.item.Item.TheVariants.{Asked, ClientWrong, ClientLeft, Told, HostWrong, HostLeft}
 use Rattle.gate_history.specs.step.Streams.{client_format, client_next, client_start}
 use Rattle.direct_run.specs.Moves.{Move, ByClient, move, run}
 use Rattle.direct_run.specs.Clients.{IsMove, then_sent, present_outs}
@@ -38,7 +39,7 @@ client-fit bytes are =
     let found = is_splitting client_format client_next (λ s. client_packets_sound) client_start bytes are in
     fit-each client_format client_next IsClientPacket (λ s p fits. fits) client_start (client_split bytes).position bytes found.left (client_split bytes).packets found.spelled
 
-items-fit : (ps : List (ℕ × ClientPacket)) (wrong : Option (ℕ × Reason)) → Each (λ (i : ℕ × ClientPacket). IsClientPacket i.1) ps → Each IsPieceItem (map (λ (p : ℕ × ClientPacket). Asked p.0 p.1) ps ++ client_wrong wrong)
+items-fit : (ps : List (ℕ × ClientPacket)) (wrong : Option (ℕ × Reason)) → Each (λ (i : ℕ × ClientPacket). IsClientPacket i.1) ps → Each IsPieceItem (map (λ (p : ℕ × ClientPacket). Asked p.0 p.1) ps ++ wrong_items ClientWrong wrong)
 items-fit [] None h = tt
 items-fit [] (Some w) h = (tt, tt)
 items-fit (p ∷ ps) wrong h = (h.0, items-fit ps wrong h.1)

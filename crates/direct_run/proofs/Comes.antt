@@ -19,7 +19,8 @@ use Rattle.redir_host.specs.write.Output.{host_hello}
 use Rattle.gate_history.proofs.lemmas.Lists.{Each}
 use Rattle.gate_history.specs.write.Bytes.{gateway_hello}
 use Rattle.gate_history.specs.step.History.{onto}
-use Rattle.gate_history.specs.step.Items.{Item, Told}
+use Rattle.gate_history.specs.declared.item.Item.{Item}
+use Rattle.gate_history.specs.declared.item.Item.TheVariants.{Told}
 use Rattle.gate_history.specs.state.State.{State}
 use Rattle.gate_history.specs.step.Machine.{step, run}
 use Rattle.redir_data.specs.Sent.{sent_header, CanBeRead}

@@ -5,7 +5,7 @@ use Rattle.usbip_op.specs.declared.packet.OpPacket.TheVariants as op
 use Rattle.redir_wire.specs.declared.packet.RedirControl.TheVariants as plain
 use Rattle.redir_data.specs.declared.packet.RedirPacket.{RedirPacket}
 use Rattle.redir_data.specs.declared.packet.RedirPacket.TheVariants.{Plain}
-use Rattle.gate_history.specs.step.Items.{Asked, ClientLeft}
+use Rattle.gate_history.specs.declared.item.Item.TheVariants.{Asked, ClientLeft}
 use Rattle.model_device.specs.Meaning.{Meaning}
 use Rattle.redir_host.specs.device.Facts.{connect_of, facts_of}
 use Rattle.redir_host.specs.write.Output.{first_packet}

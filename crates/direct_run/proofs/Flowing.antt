@@ -24,8 +24,9 @@ use Rattle.gate_history.proofs.lemmas.Lists.{Each}
 use Rattle.redir_host.proofs.lemmas.step.Acts.{act-out}
 use Rattle.gate_history.specs.write.Bytes.{gateway_hello, host_bytes_of}
 use Rattle.gate_history.specs.step.Events.{Event, ClientPiece, ClientEnd, HostPiece, client_bytes, host_bytes}
-use Rattle.gate_history.specs.step.History.{client_split, host_split, client_wrong, client_items, brought, onto, arrivals}
-use Rattle.gate_history.specs.step.Items.{Item, Asked}
+use Rattle.gate_history.specs.step.History.{client_split, host_split, client_items, brought, onto, arrivals, wrong_items}
+use Rattle.gate_history.specs.declared.item.Item.{Item}
+use Rattle.gate_history.specs.declared.item.Item.TheVariants.{Asked, ClientWrong}
 use Rattle.gate_history.specs.step.Streams.{host_start}
 use Rattle.gate_history.proofs.lemmas.step.Piece.{host-added}
 use Rattle.direct_run.specs.World.{Course, first_id, nothing_yet, happened, acted, sent_to_host, sent_to_gate, wire_to_host, wire_to_gate}
@@ -102,7 +103,7 @@ each-drop P zero xs h = h
 each-drop P (suc n) [] h = tt
 each-drop P (suc n) (x ∷ xs) h = each-drop P n xs h.1
 
-of-client : (ps : List (ℕ × ClientPacket)) (wrong : Option (ℕ × Reason)) → Each IsClients (map (λ (p : ℕ × ClientPacket). Asked p.0 p.1) ps ++ client_wrong wrong)
+of-client : (ps : List (ℕ × ClientPacket)) (wrong : Option (ℕ × Reason)) → Each IsClients (map (λ (p : ℕ × ClientPacket). Asked p.0 p.1) ps ++ wrong_items ClientWrong wrong)
 of-client [] None = tt
 of-client [] (Some w) = (tt, tt)
 of-client (p ∷ ps) wrong = (tt, of-client ps wrong)

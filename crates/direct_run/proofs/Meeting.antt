@@ -13,7 +13,8 @@ use Rattle.redir_wire.specs.Capability.{no_caps}
 use Rattle.redir_data.specs.declared.packet.RedirPacket.{RedirPacket}
 use Rattle.redir_data.specs.declared.packet.RedirPacket.TheVariants.{Plain, Carrying}
 use Rattle.redir_host.specs.write.Output.{host_hello}
-use Rattle.gate_history.specs.step.Items.{Item, Asked, ClientWrong, ClientLeft, Told, HostWrong, HostLeft}
+use Rattle.gate_history.specs.declared.item.Item.{Item}
+use Rattle.gate_history.specs.declared.item.Item.TheVariants.{Asked, ClientWrong, ClientLeft, Told, HostWrong, HostLeft}
 use Rattle.gate_history.specs.step.Marks.{Mark, Agrees}
 use Rattle.gate_history.specs.state.Sides.{agreed as agreed_of, agrees, host_over as host_over_of}
 use Rattle.gate_history.specs.state.Ups.{Up}

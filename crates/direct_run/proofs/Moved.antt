@@ -16,7 +16,7 @@ use Rattle.gate_history.proofs.lemmas.Lists.{Each}
 use Rattle.redir_host.proofs.lemmas.step.Acts.{act-host, act-gives}
 use Rattle.gate_history.specs.step.Events.{Event, ClientPiece, HostPiece}
 use Rattle.gate_history.specs.step.History.{brought, arrivals}
-use Rattle.gate_history.specs.step.Items.{Item as GateItem}
+use Rattle.gate_history.specs.declared.item.Item.{Item as GateItem}
 use Rattle.gate_history.specs.write.Notes.{notes_of}
 use Rattle.gate_history.specs.write.Output.{to_client}
 use Rattle.gate_history.specs.step.Machine.{given_by}

@@ -9,7 +9,8 @@ use Rattle.model_device.specs.Meaning.{Meaning}
 use Rattle.redir_host.specs.guest.Guest.{asked}
 use Rattle.redir_host.specs.step.Items.{Item as HostItem}
 use Rattle.redir_host.specs.step.Machine.{move as host_move, notes_of as host_notes_of, steps as host_steps, given_by as host_given}
-use Rattle.gate_history.specs.step.Items.{Item, Told}
+use Rattle.gate_history.specs.declared.item.Item.{Item}
+use Rattle.gate_history.specs.declared.item.Item.TheVariants.{Told}
 use Rattle.gate_history.specs.write.Output.{to_client, to_host}
 use Rattle.gate_history.specs.write.Notes.{notes_of}
 use Rattle.gate_history.specs.step.Meaning.{mark_of}

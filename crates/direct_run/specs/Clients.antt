@@ -3,7 +3,8 @@ use Rattle.std.specs.Prelude.{List, [], ◌∷◌, ◌++◌}
 use Rattle.usbip_urb.specs.declared.client.ClientPacket.{ClientPacket}
 use Rattle.usbip_urb.specs.ClientPackets.{IsClientPacket}
 use Rattle.gate_history.specs.step.Events.{Event, ClientEnd}
-use Rattle.gate_history.specs.step.Items.{Item, Asked, ClientWrong, ClientLeft}
+use Rattle.gate_history.specs.declared.item.Item.{Item}
+use Rattle.gate_history.specs.declared.item.Item.TheVariants.{Asked, ClientWrong, ClientLeft}
 use Rattle.gate_history.specs.write.Output.{to_client}
 use Rattle.model_device.specs.Meaning.{Meaning}
 use Rattle.direct_run.specs.Trace.{given_of}

@@ -4,7 +4,8 @@ use Rattle.std.specs.List.{flat_map}
 use Rattle.redir_data.specs.declared.packet.RedirPacket.{RedirPacket}
 use Rattle.redir_data.specs.Sent.{sent_header}
 use Rattle.usbip_urb.specs.declared.client.ClientPacket.{ClientPacket}
-use Rattle.gate_history.specs.step.Items.{Item as GateItem, Told}
+use Rattle.gate_history.specs.declared.item.Item.{Item as GateItem}
+use Rattle.gate_history.specs.declared.item.Item.TheVariants.{Told}
 use Rattle.gate_history.specs.step.Marks.{Submission, Mark}
 use Rattle.gate_history.specs.client.Submits.{opened}
 use Rattle.gate_history.specs.state.State.{State}

@@ -2,7 +2,7 @@
 
 ghost use Rattle.std.specs.Prelude.{◌≡◌, ◌+◌, ◌++◌, ◌≤◌, [], List, length, ℕ, OnOk, OnErr, IfOk, IsErr};
 ghost use Rattle.gate_history.specs.step.Events.{Event as PastEvent, event_of};
-ghost use Rattle.gate_history.specs.step.Items.{Item as PastItem};
+ghost use Rattle.gate_history.specs.declared.item.Item.{Item as PastItem};
 ghost use Rattle.gate_history.specs.step.Past.{past};
 ghost use Rattle.gate_history.specs.step.History.{history, rest_length};
 ghost use Rattle.gate_history.specs.write.All.{counts_of};

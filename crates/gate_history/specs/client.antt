@@ -4,5 +4,4 @@ pub mod Verdict
 pub mod Carried
 pub mod Submits
 pub mod Replies
-pub mod Views
 pub mod Turns

@@ -1,7 +1,7 @@
 -- One item, one event, and all of them.
+pub mod Folds
 pub mod Events
 pub mod Streams
-pub mod Items
 pub mod Fits
 pub mod Came
 pub mod Marks

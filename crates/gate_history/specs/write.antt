@@ -1,5 +1,4 @@
 -- What is sent and told.
-pub mod Errno
 pub mod Answers
 pub mod Asked
 pub mod Packets

@@ -9,7 +9,7 @@ ghost use Rattle.redir_data.specs.Streams.{after};
 ghost use Rattle.stream_buffers.specs.declared.inbox.TheConstants.{MAX_HELD};
 ghost use Rattle.gate_history.specs.step.Streams.{client_format, client_next, client_start, host_format, host_start};
 ghost use Rattle.gate_history.specs.step.Events.{Event as PastEvent};
-ghost use Rattle.gate_history.specs.step.Items.{Item};
+ghost use Rattle.gate_history.specs.declared.item.Item.{Item};
 ghost use Rattle.gate_history.specs.state.Ids.{draw, greatest, IsNext, AreFresh, Once};
 ghost use Rattle.gate_history.specs.client.Submits.{live};
 ghost use Rattle.gate_history.specs.state.Flight.{wide_ids, in_flight};

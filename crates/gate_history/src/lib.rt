@@ -2,6 +2,7 @@
 //! whole, and what is sent to each side for them. No table, buffer or cursor is named here.
 #![tactic(auto)]
 
+pub mod errno;
 mod event;
 mod facts;
 mod item;

@@ -3,7 +3,6 @@
 ghost use Rattle.std.specs.Prelude.{◌≡◌, ◌≤◌, None, []};
 ghost use Rattle.usbip_urb.specs.Ranges.{IsSubmit};
 ghost use Rattle.gate_history.specs.client.Requests.{address, request_of, is_in_setup};
-ghost use Rattle.gate_history.specs.client.Views.{request_view};
 ghost use Rattle.gate_history.specs.client.Carried.{IsRequest};
 ghost use Rattle.gate_history.specs.write.Asked.{asked_view};
 
@@ -37,8 +36,8 @@ impl Request {
     /// What a submit asks for. Its body and its descriptors are moved.
     pub fn of(submit: Submit) -> Request
         requires { IsSubmit submit }
-        ensures value { request_view result ≡ request_of submit }
-        ensures whole { IsRequest (request_view result) }
+        ensures value { result ≡ request_of submit }
+        ensures whole { IsRequest result }
     {
         let Submit {
             head,

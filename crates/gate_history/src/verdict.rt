@@ -1,7 +1,6 @@
 //! What is made of a submit.
 
 ghost use Rattle.std.specs.Prelude.{◌≡◌, ◌⊎◌, ◌<◌};
-ghost use Rattle.gate_history.specs.client.Views.{pipe_view};
 ghost use Rattle.gate_history.specs.client.Verdict.{pipe_kind};
 
 use control_route::Route;
@@ -18,7 +17,7 @@ pub enum Pipe {
 impl Pipe {
     /// The kind of endpoints that have such transfers.
     pub fn kind(self) -> EpKind
-        ensures { result ≡ pipe_kind (pipe_view self) }
+        ensures { result ≡ pipe_kind self }
     {
         match self {
             Pipe::Control => EpKind::Control,

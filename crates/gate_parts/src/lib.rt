@@ -20,6 +20,5 @@ pub use write::ask::{
     acknowledge, packet_count, wire_packet, write_cancel, write_cancel_of, write_hello, write_iso,
     write_route, write_start, write_stop,
 };
-pub use write::errno::{ECONNRESET, ESHUTDOWN};
 pub use write::finish::{row_of, write_completed, write_end_of, write_lost};
 pub use write::refusal::{client_refusal, host_refusal};

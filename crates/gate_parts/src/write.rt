@@ -2,7 +2,6 @@
 
 pub mod answer;
 pub mod ask;
-pub mod errno;
 pub mod field;
 pub mod finish;
 pub mod refusal;

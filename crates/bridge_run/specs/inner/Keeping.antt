@@ -1,9 +1,9 @@
 -- What is kept, and how it changes.
+use Rattle.std.specs.Option.{option_or}
 use Rattle.std.specs.Prelude.{◌≡◌, ◌⊎◌, ◌<◌, ◌≤◌, ◌+◌, ◌*◌, ◌-◌, ℕ, ◌&&◌, ◌||◌, not, Bool, true, false, List, None, Result, Ok, Err}
 use Rattle.usb_base.specs.declared.side.Side.{Side}
 use Rattle.usb_base.specs.declared.side.Side.TheVariants.{Client, Host}
 use Rattle.usb_base.specs.declared.refusal.Refusal.{Refusal}
-use Rattle.gate_history.specs.state.Sides.{or_else}
 use Rattle.bridge_run.specs.declared.serve_end.ServeEnd.{ServeEnd}
 use Rattle.bridge_run.specs.declared.serve_end.ServeEnd.TheVariants.{Ended, LinkFault, WriteFault, Idle, Spent, Memory}
 use Rattle.bridge_run.specs.declared.rounds.Rounds.{Rounds}
@@ -35,7 +35,7 @@ abbrev pub refusing : List Refusal → Bool → Rounds → Rounds
 refusing refusals go k = record k {
   client_up = k.client_up && not (refuses Client refusals || go);
   host_up = k.host_up && not (refuses Host refusals);
-  refused = or_else k.refused (first_of refusals);
+  refused = option_or k.refused (first_of refusals);
 }
 
 -- no side is there any more

@@ -6,7 +6,8 @@ use Rattle.usb_base.specs.declared.transfer.Outcome.{Outcome}
 use Rattle.usbip_urb.specs.declared.client.ClientPacket.TheVariants.{Urb}
 use Rattle.redir_data.specs.Sent.{sent_header}
 use Rattle.model_device.specs.Meaning.{Meaning}
-use Rattle.gate_history.specs.step.Items.{Item as GateItem, Told}
+use Rattle.gate_history.specs.declared.item.Item.{Item as GateItem}
+use Rattle.gate_history.specs.declared.item.Item.TheVariants.{Told}
 use Rattle.gate_history.specs.step.Marks.{Answers, Mark}
 use Rattle.gate_history.specs.client.Submits.{Pending, has_id, is_waiting}
 use Rattle.gate_history.specs.state.State.{State, submits}

@@ -15,9 +15,11 @@ use Rattle.model_device.specs.Transfer.{IsOutcome}
 use Rattle.model_device.specs.Meaning.{Meaning}
 use Rattle.model_device.specs.Gadget.{IsNamed}
 use Rattle.redir_host.specs.write.Answers.{answer_by, alt_in}
-use Rattle.gate_history.specs.client.Requests.{Request}
-use Rattle.gate_history.specs.step.Items.{Told}
-use Rattle.gate_history.specs.client.Verdict.{Verdict, Control, Bulk, InterruptOut, Now, Wire, Routed, IsoOut, Stream}
+use Rattle.gate_history.specs.declared.request.Request.{Request}
+use Rattle.gate_history.specs.declared.item.Item.TheVariants.{Told}
+use Rattle.gate_history.specs.declared.verdict.Pipe.TheVariants.{Control, Bulk, InterruptOut}
+use Rattle.gate_history.specs.declared.verdict.Verdict.{Verdict}
+use Rattle.gate_history.specs.declared.verdict.Verdict.TheVariants.{Now, Wire, Routed, IsoOut, Stream}
 use Rattle.gate_history.specs.step.Marks.{Submission, Effect, Answers, Mark}
 use Rattle.gate_history.specs.client.Submits.{Pending, ByAnswer, has_id, ends, is_waiting}
 use Rattle.gate_history.specs.state.State.{State, submits}

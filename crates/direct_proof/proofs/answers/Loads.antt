@@ -15,9 +15,11 @@ use Rattle.model_device.specs.Gadget.{IsNamed}
 use Rattle.redir_host.specs.declared.host.Host.{Host}
 use Rattle.redir_host.specs.write.Answers.{answer_by, alt_in}
 use Rattle.redir_host.specs.device.Performing.{does, performs_any}
-use Rattle.gate_history.specs.client.Requests.{Request}
+use Rattle.gate_history.specs.declared.request.Request.{Request}
 use Rattle.gate_history.specs.write.Packets.{no_setup}
-use Rattle.gate_history.specs.client.Verdict.{Verdict, Control, Bulk, InterruptOut, Now, Wire, Routed, IsoOut, Stream}
+use Rattle.gate_history.specs.declared.verdict.Pipe.TheVariants.{Control, Bulk, InterruptOut}
+use Rattle.gate_history.specs.declared.verdict.Verdict.{Verdict}
+use Rattle.gate_history.specs.declared.verdict.Verdict.TheVariants.{Now, Wire, Routed, IsoOut, Stream}
 use Rattle.gate_history.specs.host.Responses.{Response, Data, Status, response_of, seen, got, outcome}
 use Rattle.direct_device.specs.Direct.{normal_of, normal_by, seen_by, change_in}
 use Rattle.direct_proof.specs.Requests.{Entry, at_queue, form_by, queued_transfer}

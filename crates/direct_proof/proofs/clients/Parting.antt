@@ -4,7 +4,7 @@ use Rattle.usb_base.specs.declared.reason.Reason.{Reason}
 use Rattle.usb_base.specs.declared.side.Side.TheVariants.{Client}
 use Rattle.usbip_urb.specs.declared.client.ClientPacket.{ClientPacket}
 use Rattle.model_device.specs.Meaning.{Meaning}
-use Rattle.gate_history.specs.step.Items.{Asked, ClientLeft, ClientWrong}
+use Rattle.gate_history.specs.declared.item.Item.TheVariants.{Asked, ClientWrong, ClientLeft}
 use Rattle.gate_history.specs.step.Marks.{Effect, Ends}
 use Rattle.gate_history.specs.step.Meaning.{mark_as, mark_of, meaning, refused}
 use Rattle.gate_history.specs.write.Output.{cancels, cancel}
@@ -12,7 +12,8 @@ use Rattle.gate_history.specs.state.Sound.{IsSound}
 use Rattle.gate_history.specs.state.State.{State, next_ids}
 use Rattle.gate_history.specs.client.Submits.{Pending}
 use Rattle.gate_history.specs.state.Ups.{Up, is_ended, no_streams}
-use Rattle.gate_history.specs.state.Calls.{called, last_or}
+use Rattle.std.specs.List.{last_or}
+use Rattle.gate_history.specs.state.Calls.{called}
 use Rattle.gate_history.specs.state.Ids.{last_of}
 use Rattle.gate_history.specs.write.Packets.{stops}
 use Rattle.gate_history.specs.state.Sides.{ends_client, refuses_client, turned}

@@ -8,7 +8,8 @@ use Rattle.model_device.specs.Meaning.{Meaning}
 use Rattle.redir_host.specs.device.Offering.{told_offered}
 use Rattle.redir_host.specs.guest.Packets.{packet_move}
 use Rattle.redir_host.specs.device.Performing.{performed}
-use Rattle.gate_history.specs.step.Items.{Item as GateItem, Told}
+use Rattle.gate_history.specs.declared.item.Item.{Item as GateItem}
+use Rattle.gate_history.specs.declared.item.Item.TheVariants.{Told}
 use Rattle.gate_history.specs.step.Marks.{Mark}
 use Rattle.gate_history.specs.step.Meaning.{mark_of}
 use Rattle.gate_history.specs.step.Past.{is_left_out}

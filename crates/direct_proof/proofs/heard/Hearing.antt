@@ -9,8 +9,9 @@ use Rattle.model_device.specs.Transfer.{IsTransfer, is_control}
 use Rattle.redir_host.specs.declared.request.Asking.TheVariants.{Nothing, Asks}
 use Rattle.redir_host.specs.declared.request.Form.TheVariants as form
 use Rattle.redir_host.specs.guest.Asking.{asking_of, asked_if, is_other, greatest}
-use Rattle.gate_history.specs.client.Verdict.{Pipe, Control, Bulk, InterruptOut}
-use Rattle.gate_history.specs.write.Packets.{wire_packet, control_packet, no_setup}
+use Rattle.gate_history.specs.declared.verdict.Pipe.{Pipe}
+use Rattle.gate_history.specs.declared.verdict.Pipe.TheVariants.{Control, Bulk, InterruptOut}
+use Rattle.gate_history.specs.write.Packets.{wire_packet, no_setup}
 use Rattle.direct_proof.specs.Requests.{pipe_form}
 use Rattle.direct_proof.specs.Loads.{FitsPipe}
 use Rattle.direct_proof.proofs.performs.Performs.{itself}
@@ -40,7 +41,7 @@ heard-as Control t is fits d packet = go t.setup refl fits
     go : (setup : Option Setup) → t.setup ≡ setup → FitsPipe Control t setup → asking_of d ≡ Asks (pipe_form Control t) t
     go None e fit = absurd fit
     go (Some s) e fit =
-        sym (which (moving.Control t.ep s.request s.kind 0 s.value s.index t.wanted t.body) (ap (λ (o : Option Setup). control_packet t (unwrap_or o no_setup)) e))
+        sym (which (moving.Control t.ep s.request s.kind 0 s.value s.index t.wanted t.body) (ap (λ (o : Option Setup). wire_packet Control (record t { setup = o })) e))
         ∙ ap (λ (b : Bool). asked_if b (form.Control (told t.wanted)) (asked t.wanted)) (ap (λ (n : ℕ). n == cond (nat_lt s.kind 128) 0 128) fit.0 ∙ itself (cond (nat_lt s.kind 128) 0 128))
         ∙ (λ i. Asks (form.Control (told (sym fit.2 i))) (asked (sym fit.2 i)))
         ∙ (λ i. Asks (form.Control (unwrap_or (sym e i) no_setup)) (record t { setup = sym e i; wanted = fit.2 i }))

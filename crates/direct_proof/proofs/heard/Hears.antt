@@ -22,8 +22,11 @@ use Rattle.redir_host.specs.guest.Line.{Waits, asked_line}
 use Rattle.redir_host.specs.step.Moves.{quiet as host_quiet}
 use Rattle.redir_host.specs.guest.Packets.{packet_move_by, data_move, joins, queued, request}
 use Rattle.redir_host.specs.state.Queues.{is_first_queue}
-use Rattle.gate_history.specs.client.Requests.{Request}
-use Rattle.gate_history.specs.client.Verdict.{Verdict, Control, Bulk, InterruptOut, Wire, Routed, changes}
+use Rattle.gate_history.specs.declared.request.Request.{Request}
+use Rattle.gate_history.specs.declared.verdict.Pipe.TheVariants.{Control, Bulk, InterruptOut}
+use Rattle.gate_history.specs.declared.verdict.Verdict.{Verdict}
+use Rattle.gate_history.specs.declared.verdict.Verdict.TheVariants.{Wire, Routed}
+use Rattle.gate_history.specs.client.Verdict.{changes}
 use Rattle.direct_device.specs.Direct.{normal_of}
 use Rattle.direct_proof.specs.Requests.{Entry, at_queue, form_of, form_by, queued_transfer, resets}
 use Rattle.direct_proof.specs.Shared.{in_line}

@@ -1,9 +1,8 @@
 -- The last of the packets that are drawn ids for, whose id is the fence.
 use Rattle.std.proofs.Common.{◌≡◌, ℕ, List, [], ◌∷◌, ◌++◌, length, Option, Some, refl, ap, arith}
 use Rattle.std.specs.Prelude.{zip}
-use Rattle.std.specs.List.{AllByRecursion}
+use Rattle.std.specs.List.{AllByRecursion, last_or}
 use Rattle.redir_data.specs.declared.packet.RedirPacket.{RedirPacket}
-use Rattle.gate_history.specs.state.Calls.{last_or}
 
 pub data IsLast (P : ℕ → Type 0) (before : Option ℕ) (zs : List (ℕ × RedirPacket)) (now : Option ℕ) : Type 0 where
   NoneIs : zs ≡ [] → now ≡ before → IsLast P before zs now

@@ -1,10 +1,10 @@
 -- A client leaves, by its end or as the gateway refuses it: what the gateway makes of it.
 use Rattle.std.proofs.Common.{◌≡◌, ℕ, suc, ◌&&◌, ◌||◌, not, Bool, true, false, cond, List, [], ◌++◌, length, map, filter, Some, None, unwrap_or, refl, ap, ◌∙◌, append-nil}
 use Rattle.std.specs.Prelude.{zip}
-use Rattle.std.specs.List.{flat_map}
+use Rattle.std.specs.List.{flat_map, last_or}
 use Rattle.std.proofs.lemmas.Grind.{flat_map-append}
 use Rattle.redir_data.specs.declared.packet.RedirPacket.{RedirPacket}
-use Rattle.gate_history.specs.state.Calls.{called, last_or, moved_fence}
+use Rattle.gate_history.specs.state.Calls.{called, moved_fence}
 use Rattle.gate_history.specs.state.Facts.{no_facts, tell}
 use Rattle.gate_history.specs.state.Ids.{last_of}
 use Rattle.gate_history.specs.step.Marks.{Effect, Mark}

@@ -31,7 +31,8 @@ use Rattle.direct_proof.proofs.leaving.Left.{leave_ids, leave_stops, left_world,
 use Rattle.direct_proof.proofs.leaving.LeftWire.{IsStopping, each-stop, every_up, none-stopped, last-stop, left-controls, left-fenced, left-quits, left-trails, none-up}
 use Rattle.direct_proof.proofs.leaving.LeftLists.{asked_all, asked-fits, no-starts, by_id, debts-again, kinds-none, starts-down, tagged-none}
 use Rattle.redir_host.specs.declared.request.Request.{Request as HostRequest}
-use Rattle.gate_history.specs.state.Calls.{called, last_or}
+use Rattle.std.specs.List.{last_or}
+use Rattle.gate_history.specs.state.Calls.{called}
 use Rattle.gate_history.specs.step.Marks.{Submission}
 use Rattle.gate_history.specs.state.Ids.{holds}
 use Rattle.gate_history.specs.state.Ups.{Up, no_streams}

@@ -6,7 +6,8 @@ use Rattle.redir_data.specs.declared.packet.RedirPacket.{RedirPacket}
 use Rattle.redir_data.specs.declared.packet.RedirPacket.TheVariants.{Plain}
 use Rattle.redir_host.specs.state.Sound.{Each}
 use Rattle.usb_base.specs.Endpoint.{endpoint_index}
-use Rattle.gate_history.specs.state.Calls.{called, call_ids, last_or}
+use Rattle.std.specs.List.{last_or}
+use Rattle.gate_history.specs.state.Calls.{called, call_ids}
 use Rattle.gate_history.specs.state.Flight.{wide_ids, ids_of}
 use Rattle.gate_history.specs.state.Ids.{AreFresh, greatest, holds, times}
 use Rattle.gate_history.specs.write.Packets.{stops}

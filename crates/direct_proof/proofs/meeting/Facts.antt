@@ -7,7 +7,7 @@ use Rattle.redir_wire.specs.declared.packet.Connect.{Connect}
 use Rattle.redir_wire.specs.declared.packet.Caps.{Caps}
 use Rattle.redir_data.specs.Sent.{sent_header}
 use Rattle.model_device.specs.Meaning.{Meaning}
-use Rattle.gate_history.specs.step.Items.{Told}
+use Rattle.gate_history.specs.declared.item.Item.TheVariants.{Told}
 use Rattle.gate_history.specs.step.Marks.{Idle, Agrees}
 use Rattle.gate_history.specs.state.State.{State}
 use Rattle.gate_history.specs.step.Meaning.{meaning, mark_as, fact_of}

@@ -9,7 +9,7 @@ use Rattle.usbip_urb.specs.declared.client.ClientPacket.TheVariants.{Op, Urb}
 use Rattle.redir_wire.specs.declared.packet.Connect.{Connect}
 use Rattle.redir_data.specs.declared.packet.RedirPacket.{RedirPacket}
 use Rattle.model_device.specs.Meaning.{Meaning}
-use Rattle.gate_history.specs.step.Items.{Asked}
+use Rattle.gate_history.specs.declared.item.Item.TheVariants.{Asked}
 use Rattle.gate_history.specs.step.Marks.{Replies, Imports}
 use Rattle.gate_history.specs.client.Submits.{Pending, ends}
 use Rattle.gate_history.specs.client.Replies.{list_reply, import_reply, failed_import, is_exported}
@@ -18,7 +18,7 @@ use Rattle.gate_history.specs.client.Verdict.{none_of}
 use Rattle.gate_history.specs.state.State.{State}
 use Rattle.gate_history.specs.state.Sound.{IsSound}
 use Rattle.gate_history.specs.step.Machine.{live_after}
-use Rattle.gate_history.specs.step.Meaning.{mark_as, mark_of, refused, may_import, importable, imported_as}
+use Rattle.gate_history.specs.step.Meaning.{mark_as, mark_of, refused, importable, imported_as}
 use Rattle.gate_history.specs.declared.note.Note.TheVariants as note
 use Rattle.gate_history.proofs.lemmas.Lists.{filter-all, filter-none, flat_map-none}
 use Rattle.gate_history.proofs.lemmas.step.NoCancel.{asks-none, none-cancelled, stays-uncancelled}
@@ -116,7 +116,7 @@ keep-import {S = S} m w j place status busid rel sound out = go w.gate.client_ov
     no-fence None h = refl
     no-fence (Some x) h = absurd (not-both (sym h))
 
-    succeeds : st.client_over ≡ false → (c : Connect) → may_import st busid ≡ true → st.facts.connect ≡ Some c → importable st busid ≡ Some c → Keeps m w j made
+    succeeds : st.client_over ≡ false → (c : Connect) → (is_exported busid && none_of st.abandoned && is_none st.fence) ≡ true → st.facts.connect ≡ Some c → importable st busid ≡ Some c → Keeps m w j made
     succeeds on c may known e = keeps-import
       where
         parts : (none_of st.abandoned ≡ true) × (is_none st.fence ≡ true)
@@ -189,9 +189,9 @@ keep-import {S = S} m w j place status busid rel sound out = go w.gate.client_ov
 
     go : (b : Bool) → st.client_over ≡ b → Keeps m w j made
     go true over = keeps-quiet m w j j made w (ap (λ (b : Bool). cond b (quiet w) (gate_made w (mark_of st (Asked place (Op (op.ReqImport status busid)))))) over) rel refl
-    go false on = by (may_import st busid) refl st.facts.connect refl
+    go false on = by (is_exported busid && none_of st.abandoned && is_none st.fence) refl st.facts.connect refl
       where
-        by : (b : Bool) → may_import st busid ≡ b → (o : Option Connect) → st.facts.connect ≡ o → Keeps m w j made
+        by : (b : Bool) → (is_exported busid && none_of st.abandoned && is_none st.fence) ≡ b → (o : Option Connect) → st.facts.connect ≡ o → Keeps m w j made
         by false barred o e = fails on (ap (λ (b : Bool). cond b st.facts.connect None) barred)
         by true may None e = fails on (ap (λ (b : Bool). cond b st.facts.connect None) may ∙ e)
         by true may (Some c) e = succeeds on c may e (ap (λ (b : Bool). cond b st.facts.connect None) may ∙ e)

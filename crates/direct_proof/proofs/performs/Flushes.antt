@@ -13,8 +13,10 @@ use Rattle.model_device.specs.Transfer.{is_control}
 use Rattle.redir_host.specs.device.Changes.{is_touched}
 use Rattle.chapter9.specs.Standard.{ended}
 use Rattle.redir_host.specs.state.Sound.{Each}
-use Rattle.gate_history.specs.client.Requests.{Request}
-use Rattle.gate_history.specs.client.Verdict.{Verdict, Wire, Routed, is_wire}
+use Rattle.gate_history.specs.declared.request.Request.{Request}
+use Rattle.gate_history.specs.declared.verdict.Verdict.{Verdict}
+use Rattle.gate_history.specs.declared.verdict.Verdict.TheVariants.{Wire, Routed}
+use Rattle.gate_history.specs.client.Verdict.{is_wire}
 use Rattle.direct_run.specs.declared.submitted.Submitted.{Submitted}
 use Rattle.direct_run.specs.Noted.{number_in}
 use Rattle.direct_device.specs.Direct.{Load, number, normal_of, normal_by}

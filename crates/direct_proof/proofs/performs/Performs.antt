@@ -14,8 +14,9 @@ use Rattle.redir_host.specs.state.Queues.{queue_of, is_at}
 use Rattle.redir_host.specs.device.Performing.{does, performs_any, first_performed, with_id}
 use Rattle.gate_history.proofs.lemmas.Lists.{filter-all, filter-none}
 use Rattle.gate_history.specs.state.Ups.{stream_of}
-use Rattle.gate_history.specs.client.Verdict.{Verdict, Routed}
-use Rattle.gate_history.specs.client.Requests.{Request}
+use Rattle.gate_history.specs.declared.verdict.Verdict.{Verdict}
+use Rattle.gate_history.specs.declared.verdict.Verdict.TheVariants.{Routed}
+use Rattle.gate_history.specs.declared.request.Request.{Request}
 use Rattle.direct_run.specs.Noted.{queue_byte, number_in}
 use Rattle.direct_run.specs.Moves.{World, Performs}
 use Rattle.direct_device.specs.Direct.{Load, Waiting, Direct, number, normal_of, normal_by, change_in, cancelled, is_at as is_first_at, without_first as without, is_number}

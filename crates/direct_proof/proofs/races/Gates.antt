@@ -5,7 +5,8 @@ use Rattle.redir_data.specs.declared.packet.RedirPacket.{RedirPacket}
 use Rattle.redir_data.specs.Sent.{sent_header}
 use Rattle.model_device.specs.Meaning.{Meaning}
 use Rattle.redir_host.specs.state.Sound.{Each}
-use Rattle.gate_history.specs.step.Items.{Item as GateItem, Told}
+use Rattle.gate_history.specs.declared.item.Item.{Item as GateItem}
+use Rattle.gate_history.specs.declared.item.Item.TheVariants.{Told}
 use Rattle.gate_history.specs.step.Marks.{Submission, Mark}
 use Rattle.gate_history.specs.client.Submits.{Pending, pending, live, abandoned}
 use Rattle.gate_history.specs.state.Ids.{holds, AreFresh, Fits, greatest}

@@ -13,13 +13,14 @@ use Rattle.redir_data.specs.declared.packet.RedirPacket.{RedirPacket}
 use Rattle.redir_data.specs.declared.packet.RedirPacket.TheVariants.{Plain, Carrying}
 use Rattle.control_route.specs.declared.route.Route.{Route}
 use Rattle.redir_host.specs.state.Sound.{Each}
-use Rattle.gate_history.specs.step.Items.{Asked, ClientLeft, ClientWrong}
+use Rattle.gate_history.specs.declared.item.Item.TheVariants.{Asked, ClientWrong, ClientLeft}
 use Rattle.gate_history.specs.step.Meaning.{verdict_of}
 use Rattle.gate_history.specs.client.Requests.{request_of}
 use Rattle.gate_history.specs.state.State.{State, has_number}
 use Rattle.gate_history.specs.client.Submits.{Pending, is_touched}
 use Rattle.gate_history.specs.state.Ups.{Up, is_ended}
-use Rattle.gate_history.specs.client.Verdict.{Verdict, Routed, Stream}
+use Rattle.gate_history.specs.declared.verdict.Verdict.{Verdict}
+use Rattle.gate_history.specs.declared.verdict.Verdict.TheVariants.{Routed, Stream}
 use Rattle.direct_run.specs.Moves.{World, Move, ByClient, HostReads, GateReads, Performs, Unplugs}
 use Rattle.direct_proof.specs.Running.{called_endpoint}
 

@@ -12,9 +12,9 @@ use Rattle.model_device.specs.Meaning.{Meaning}
 use Rattle.model_device.specs.Gadget.{IsGadget}
 use Rattle.redir_host.specs.state.Sound.{Each}
 use Rattle.redir_host.specs.declared.running.StreamKind.TheVariants.{Iso, Interrupt}
-use Rattle.gate_history.specs.step.Items.{Asked, ClientWrong, ClientLeft, Told, HostWrong, HostLeft}
+use Rattle.gate_history.specs.declared.item.Item.TheVariants.{Asked, ClientWrong, ClientLeft, Told, HostWrong, HostLeft}
 use Rattle.gate_history.specs.state.Sound.{IsSound}
-use Rattle.gate_history.specs.step.Meaning.{refused, import_meaning}
+use Rattle.gate_history.specs.step.Meaning.{refused, imported_as, importable}
 use Rattle.gate_history.specs.step.Marks.{Unlinks, Replies}
 use Rattle.gate_history.specs.client.Replies.{list_reply}
 use Rattle.direct_run.specs.Moves.{World, Move, ByClient, HostReads, GateReads, Performs, Offers, Unplugs}
@@ -78,7 +78,7 @@ keep-imports : {S : Type 0} (m : Meaning S) (w : World S) (j : Shared) (place st
 keep-imports {S = S} m w j place status busid rel run = go w.gate.imported refl
   where
     go : (b : Bool) → w.gate.imported ≡ b → Keeps m w j (move m w (ByClient (Asked place (Op (op.ReqImport status busid)))))
-    go true h = keep-refused m w j rel run place place (Op (op.ReqImport status busid)) AlreadyImported (ap (λ (b : Bool). cond b (refused Client place AlreadyImported) (import_meaning w.gate busid)) h)
+    go true h = keep-refused m w j rel run place place (Op (op.ReqImport status busid)) AlreadyImported (ap (λ (b : Bool). cond b (refused Client place AlreadyImported) (imported_as w.gate (importable w.gate busid))) h)
     go false h = keep-import m w j place status busid rel (run-sound w.gate run) h
 
 keep-lists : {S : Type 0} (m : Meaning S) (w : World S) (j : Shared) (place status : ℕ) → Related m w j → IsRun w.gate → Keeps m w j (move m w (ByClient (Asked place (Op (op.ReqDevlist status)))))

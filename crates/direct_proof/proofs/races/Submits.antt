@@ -18,10 +18,14 @@ use Rattle.model_device.specs.Meaning.{Meaning}
 use Rattle.model_device.specs.Transfer.{IsTransfer, is_control}
 use Rattle.model_device.specs.Gadget.{IsGadget}
 use Rattle.redir_host.specs.state.Sound.{Each}
-use Rattle.gate_history.specs.client.Requests.{Request, request_of}
-use Rattle.gate_history.specs.step.Items.{Asked}
-use Rattle.gate_history.specs.client.Verdict.{Verdict, Pipe, Now, Wire, Routed, IsoOut, Stream, by_transfer, by_endpoint, changes}
-use Rattle.gate_history.specs.write.Errno.{enoent, eshutdown, ebusy}
+use Rattle.gate_history.specs.declared.request.Request.{Request}
+use Rattle.gate_history.specs.client.Requests.{request_of}
+use Rattle.gate_history.specs.declared.item.Item.TheVariants.{Asked}
+use Rattle.gate_history.specs.declared.verdict.Pipe.{Pipe}
+use Rattle.gate_history.specs.declared.verdict.Verdict.{Verdict}
+use Rattle.gate_history.specs.declared.verdict.Verdict.TheVariants.{Now, Wire, Routed, IsoOut, Stream}
+use Rattle.gate_history.specs.client.Verdict.{by_transfer, by_endpoint, changes}
+use Rattle.gate_history.specs.declared.errno.TheConstants.{ENOENT, EBUSY, ESHUTDOWN}
 use Rattle.gate_history.specs.state.Flight.{wide_bulk}
 use Rattle.gate_history.specs.state.Ups.{Up, is_ended}
 use Rattle.gate_history.specs.client.Submits.{Pending, is_touched}
@@ -78,7 +82,7 @@ ends-none st x h = record { ups = ups st.streams h.ups; waiting = waiting st.liv
 wire-behind : (st : State) (r : Request) (pipe : Pipe) → verdict_of st r ≡ Wire pipe → IsTransfer r.transfer → (change_waits st ≡ false) ⊎ (is_control r.transfer.ep ≡ true)
 wire-behind st r pipe is transfer = go (change_waits st) refl
   where
-    never : (lost full : Bool) → cond lost (Now eshutdown) (cond full (Now ebusy) (Now enoent)) ≡ Wire pipe → ⊥
+    never : (lost full : Bool) → cond lost (Now ESHUTDOWN) (cond full (Now EBUSY) (Now ENOENT)) ≡ Wire pipe → ⊥
     never true full h = cc
     never false true h = cc
     never false false h = cc
@@ -86,10 +90,10 @@ wire-behind st r pipe is transfer = go (change_waits st) refl
     by : (c : Bool) → change_waits st ≡ c → c ≡ true → (setup : Option Setup) → r.transfer.setup ≡ setup → is_control r.transfer.ep ≡ true
     by c e t (Some s) k = sym transfer.has_setup ∙ ap is_some k
     by c e t None k = absurd (never st.lost (nat_le MAX_LIVE (length st.live))
-        (ap (λ (v : Verdict). cond st.lost (Now eshutdown) (cond (nat_le MAX_LIVE (length st.live)) (Now ebusy) v)) (sym same) ∙ is))
+        (ap (λ (v : Verdict). cond st.lost (Now ESHUTDOWN) (cond (nat_le MAX_LIVE (length st.live)) (Now EBUSY) v)) (sym same) ∙ is))
       where
-        same : by_transfer (change_waits st) st.facts.table (wide_bulk st.agreed) r r.transfer.setup ≡ Now enoent
-        same = ap (by_transfer (change_waits st) st.facts.table (wide_bulk st.agreed) r) k ∙ ap (λ (b : Bool). cond b (Now enoent) (by_endpoint (wide_bulk st.agreed) r (row_of st.facts.table r.transfer.ep))) (e ∙ t)
+        same : by_transfer (change_waits st) st.facts.table (wide_bulk st.agreed) r r.transfer.setup ≡ Now ENOENT
+        same = ap (by_transfer (change_waits st) st.facts.table (wide_bulk st.agreed) r) k ∙ ap (λ (b : Bool). cond b (Now ENOENT) (by_endpoint (wide_bulk st.agreed) r (row_of st.facts.table r.transfer.ep))) (e ∙ t)
 
     go : (c : Bool) → change_waits st ≡ c → (change_waits st ≡ false) ⊎ (is_control r.transfer.ep ≡ true)
     go false e = inl e
@@ -139,11 +143,11 @@ simple-submit st run place s read inside new v same by_id ends = go v same (subm
 -- ---- both ways
 
 -- what goes by an id does so only while the device is there
-there-by : (lost : Bool) (other v : Verdict) → cond lost (Now eshutdown) other ≡ v → goes_by_id v ≡ true → lost ≡ false
+there-by : (lost : Bool) (other v : Verdict) → cond lost (Now ESHUTDOWN) other ≡ v → goes_by_id v ≡ true → lost ≡ false
 there-by true other v e h = absurd (let bad : false ≡ true = ap goes_by_id e ∙ h in cc)
 there-by false other v e h = refl
 
-there-iso : (lost : Bool) (other : Verdict) (row : EpRow) → cond lost (Now eshutdown) other ≡ IsoOut row → lost ≡ false
+there-iso : (lost : Bool) (other : Verdict) (row : EpRow) → cond lost (Now ESHUTDOWN) other ≡ IsoOut row → lost ≡ false
 there-iso true other row e = absurd (cc)
 there-iso false other row e = refl
 
@@ -168,8 +172,8 @@ keep-taken {S = S} m laws w j place s rel run read inside new fits = go (verdict
     same-now : (status : ℤ) → verdict_of st r ≡ Now status → (b : Bool) → st.lost ≡ b → made_of m (view w j) r ≡ Now status
     same-now status e true off =
         (λ i. by_stream up (verdict ((sym (rel.sides.seen inside) ∙ off) i) (length (map live_of st.live)) (list_any (λ (l : Live). changes l.load.verdict) (map live_of st.live)) (m.table w.host.gadget) true r))
-        ∙ kept-now up eshutdown
-        ∙ (λ i. cond (sym off i) (Now eshutdown) (cond (nat_le MAX_LIVE (length st.live)) (Now ebusy) (by_transfer (change_waits st) st.facts.table (wide_bulk st.agreed) r r.transfer.setup)))
+        ∙ kept-now up ESHUTDOWN
+        ∙ (λ i. cond (sym off i) (Now ESHUTDOWN) (cond (nat_le MAX_LIVE (length st.live)) (Now EBUSY) (by_transfer (change_waits st) st.facts.table (wide_bulk st.agreed) r r.transfer.setup)))
         ∙ e
     same-now status e false there = same-verdict m w j rel inside there r (addressed s read.0).index ∙ ap (by_stream up) e ∙ kept-now up status
 

@@ -2,7 +2,9 @@
 use Rattle.std.proofs.Common.{◌≡◌, ℕ, suc, ◌+◌, ◌≤◌, ◌==◌, ◌&&◌, not, Bool, true, false, cond, List, [], ◌∷◌, ◌++◌, map, filter, length, Some, refl, sym, ap, ◌∙◌, arith}
 use Rattle.std.specs.List.{find}
 use Rattle.usb_base.specs.declared.transfer.Transfer.{Transfer}
-use Rattle.gate_history.specs.client.Verdict.{Verdict, Wire, Routed, goes_by_id}
+use Rattle.gate_history.specs.declared.verdict.Verdict.{Verdict}
+use Rattle.gate_history.specs.declared.verdict.Verdict.TheVariants.{Wire, Routed}
+use Rattle.gate_history.specs.client.Verdict.{goes_by_id}
 use Rattle.gate_history.specs.step.Marks.{Submission}
 use Rattle.gate_history.specs.client.Submits.{Pending, has_id, is_waiting}
 use Rattle.gate_history.specs.state.State.{State, submits, is_number as is_numbered}

@@ -11,7 +11,8 @@ use Rattle.redir_host.specs.device.Offering.{told_offered}
 use Rattle.redir_host.specs.guest.Packets.{packet_move}
 use Rattle.redir_host.specs.device.Performing.{performed}
 use Rattle.redir_host.specs.state.Sound.{Each}
-use Rattle.gate_history.specs.step.Items.{Item as GateItem, Asked, ClientWrong, ClientLeft, Told, HostWrong, HostLeft}
+use Rattle.gate_history.specs.declared.item.Item.{Item as GateItem}
+use Rattle.gate_history.specs.declared.item.Item.TheVariants.{Asked, ClientWrong, ClientLeft, Told, HostWrong, HostLeft}
 use Rattle.gate_history.specs.step.Meaning.{mark_of}
 use Rattle.gate_history.specs.step.Past.{is_left_out}
 use Rattle.gate_history.specs.state.Sound.{IsSound}

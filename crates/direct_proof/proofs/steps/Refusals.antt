@@ -1,4 +1,5 @@
 -- A gateway that still reads its host has never refused it.
+use Rattle.std.specs.Option.{option_map_or}
 use Rattle.std.proofs.Common.{◌≡◌, ℕ, Bool, true, false, ◌||◌, ◌&&◌, not, cond, List, [], ◌∷◌, ◌++◌, map, filter, Option, Some, None, refl, ap, ◌∙◌}
 use Rattle.std.specs.List.{flat_map, list_any}
 use Rattle.std.proofs.lemmas.List.Folds.{list_any-append}
@@ -7,7 +8,7 @@ use Rattle.usb_base.specs.declared.refusal.Refusal.{Refusal}
 use Rattle.gate_history.specs.declared.note.Note.{Note}
 use Rattle.gate_history.specs.declared.note.Note.TheVariants as note
 use Rattle.gate_history.specs.step.Marks.{Submission, Effect, Imports, Unlinks, Arrives, Mark}
-use Rattle.gate_history.specs.state.Sides.{is_client, is_of, refused_at, refuses_host as effect_refuses, ends_host, leaves, is_loss, closes_host, host_over}
+use Rattle.gate_history.specs.state.Sides.{is_client, refused_at, refuses_host as effect_refuses, ends_host, leaves, is_loss, closes_host, host_over}
 use Rattle.gate_history.specs.client.Submits.{Pending, opened, ends}
 use Rattle.gate_history.specs.state.State.{State, state_of}
 use Rattle.gate_history.specs.write.Output.{present}
@@ -53,7 +54,7 @@ left-spares : (b : Bool) → refuses (when b note.ClientGone) ≡ false
 left-spares true = refl
 left-spares false = refl
 
-refused-is : (o : Option Refusal) → refuses (refusal_notes o) ≡ is_of false o
+refused-is : (o : Option Refusal) → refuses (refusal_notes o) ≡ option_map_or (λ (r : Refusal). not (is_client r.side)) o false
 refused-is None = refl
 refused-is (Some r) = or-false (not (is_client r.side))
   where

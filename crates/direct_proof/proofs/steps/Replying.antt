@@ -21,19 +21,22 @@ use Rattle.redir_data.specs.declared.packet.RedirData.TheVariants as moving
 use Rattle.redir_data.specs.declared.packet.RedirPacket.{RedirPacket}
 use Rattle.redir_data.specs.declared.packet.RedirPacket.TheVariants.{Plain, Carrying}
 use Rattle.gate_history.specs.write.Answers.{ret_unlink}
-use Rattle.gate_history.specs.step.Items.{Item, Asked, ClientWrong, ClientLeft, Told, HostWrong, HostLeft}
+use Rattle.gate_history.specs.declared.item.Item.{Item}
+use Rattle.gate_history.specs.declared.item.Item.TheVariants.{Asked, ClientWrong, ClientLeft, Told, HostWrong, HostLeft}
 use Rattle.gate_history.specs.step.Marks.{Submission, Effect, Replies, Unlinks}
-use Rattle.gate_history.specs.step.Meaning.{meaning, refused, imported_as, importable, op_meaning, urb_meaning, accepts, accepted_as, submission, by_stream, drawn_for, verdict_of, told_meaning, data_meaning, by_response, answer_to, answered_as, arrives}
+use Rattle.gate_history.specs.step.Meaning.{meaning, refused, imported_as, importable, asked_meaning, accepts, accepted_as, submission, by_stream, drawn_for, verdict_of, told_meaning, by_response, answer_to, answered_as, arrives}
 use Rattle.gate_history.specs.write.Output.{replies, is_target, is_taken}
 use Rattle.gate_history.specs.step.Past.{is_left_out}
 use Rattle.gate_history.specs.client.Replies.{list_reply, failed_import, import_reply}
-use Rattle.gate_history.specs.client.Requests.{Request, request_of}
+use Rattle.gate_history.specs.declared.request.Request.{Request}
+use Rattle.gate_history.specs.client.Requests.{request_of}
 use Rattle.gate_history.specs.host.Responses.{Response, response_of}
 use Rattle.gate_history.specs.state.Sides.{ends_client, imports}
 use Rattle.gate_history.specs.state.State.{State, has_number}
 use Rattle.gate_history.specs.client.Submits.{Pending, opened}
 use Rattle.gate_history.specs.state.Ups.{Up, stream_at, stream_of}
-use Rattle.gate_history.specs.client.Verdict.{Verdict, Now}
+use Rattle.gate_history.specs.declared.verdict.Verdict.{Verdict}
+use Rattle.gate_history.specs.declared.verdict.Verdict.TheVariants.{Now}
 use Rattle.direct_proof.specs.Simulates.{is_import}
 
 pub record Replying (st : State) (e : Effect) : Type 0 where
@@ -72,7 +75,7 @@ arrival-says : (st : State) (ep : ℕ) (iso : Bool) (packet : StreamPacket) (o :
 arrival-says st ep iso packet None = silent st (arrives st ep iso packet None) refl refl refl refl
 arrival-says st ep iso packet (Some up) = silent st (arrives st ep iso packet (Some up)) refl refl refl refl
 
-data-says : (st : State) (place : ℕ) (h : Header) (d : RedirData) → Replying st (data_meaning st place h d)
+data-says : (st : State) (place : ℕ) (h : Header) (d : RedirData) → Replying st (told_meaning st place h (Carrying d))
 data-says st place h (moving.Interrupt endpoint status length body) =
     by-test st (is_in_endpoint endpoint) _ _ (λ k. arrival-says st endpoint false _ (stream_of st.streams endpoint)) (λ k. response-says st place h _)
 data-says st place h (moving.Iso endpoint status length body) =
@@ -100,7 +103,7 @@ module _ (st : State) (there : st.client_over ≡ false) where
   import-says out None = record { ops = failed_import ∷ []; urbs = []; said = refl; ends = refl; before = no-import out; on = not-over; success = refl; behind = λ h. (refl, refl) }
   import-says out (Some c) = record { ops = import_reply st.facts c ∷ []; urbs = []; said = refl; ends = refl; before = no-import out; on = not-over; success = refl; behind = λ h. (refl, refl) }
 
-  op-says : (place : ℕ) (p : OpPacket) → Replying st (op_meaning st place p)
+  op-says : (place : ℕ) (p : OpPacket) → Replying st (asked_meaning st place (Op p))
   op-says place (op.ReqDevlist status) =
       by-test st st.imported (refused Client place AlreadyImported) (Replies (list_reply st.facts)) (λ h. silent st (refused Client place AlreadyImported) refl refl refl refl)
       (λ out. record { ops = list_reply st.facts ∷ []; urbs = []; said = refl; ends = refl; before = no-import out; on = not-over; success = refl; behind = λ h. (refl, refl) })
@@ -134,7 +137,7 @@ module _ (st : State) (there : st.client_over ≡ false) where
   not-false true h = refl
   not-false false h = absurd (cc)
 
-  urb-says : (place : ℕ) (p : UrbPacket) → Replying st (urb_meaning st place p)
+  urb-says : (place : ℕ) (p : UrbPacket) → Replying st (asked_meaning st place (Urb p))
   urb-says place (urb.Submit s) =
       by-test st (not st.imported) _ _ (λ h. silent st _ refl refl refl refl) (λ h. by-test st (has_number st s.head.seqnum) _ _ (λ k. silent st _ refl refl refl refl) (λ k. submit-says (not-false st.imported h) (request_of s) (verdict_of st (request_of s))))
   urb-says place (urb.Unlink u) = by-test st (not st.imported) _ _ (λ h. silent st _ refl refl refl refl) (λ h. unlink-says (not-false st.imported h) u.head.seqnum u.target)

@@ -6,10 +6,11 @@ use Rattle.usbip_urb.specs.declared.packet.UrbPacket.TheVariants as urb
 use Rattle.redir_data.specs.declared.packet.RedirPacket.{RedirPacket}
 use Rattle.model_device.specs.Meaning.{Meaning}
 use Rattle.model_device.specs.Gadget.{IsGadget}
-use Rattle.gate_history.specs.step.Items.{Asked, ClientWrong, ClientLeft, Told, HostWrong, HostLeft}
+use Rattle.gate_history.specs.declared.item.Item.TheVariants.{Asked, ClientWrong, ClientLeft, Told, HostWrong, HostLeft}
 use Rattle.gate_history.specs.step.Meaning.{mark_of, verdict_of}
 use Rattle.gate_history.specs.client.Requests.{request_of}
-use Rattle.gate_history.specs.client.Verdict.{Verdict, Routed, Stream}
+use Rattle.gate_history.specs.declared.verdict.Verdict.{Verdict}
+use Rattle.gate_history.specs.declared.verdict.Verdict.TheVariants.{Routed, Stream}
 use Rattle.direct_run.specs.Moves.{World, Move, ByClient, HostReads, GateReads, Performs, Offers, Unplugs}
 use Rattle.direct_proof.specs.Moves.{move, quiet, gate_made, gate_reads, host_reads}
 use Rattle.direct_proof.specs.Related.{Related}

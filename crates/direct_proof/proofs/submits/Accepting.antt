@@ -7,8 +7,10 @@ use Rattle.model_device.specs.Meaning.{Meaning}
 use Rattle.model_device.specs.Transfer.{is_control}
 use Rattle.redir_host.specs.guest.Line.{Waiting as InLine}
 use Rattle.redir_host.specs.state.Sound.{Each}
-use Rattle.gate_history.specs.client.Requests.{Request, request_of}
-use Rattle.gate_history.specs.client.Verdict.{Verdict, goes_by_id}
+use Rattle.gate_history.specs.declared.request.Request.{Request}
+use Rattle.gate_history.specs.client.Requests.{request_of}
+use Rattle.gate_history.specs.declared.verdict.Verdict.{Verdict}
+use Rattle.gate_history.specs.client.Verdict.{goes_by_id}
 use Rattle.gate_history.specs.step.Marks.{Submission, Effect, Opens, Mark}
 use Rattle.gate_history.specs.client.Submits.{Pending, is_touched}
 use Rattle.gate_history.specs.state.Calls.{called}
@@ -47,7 +49,7 @@ use Rattle.direct_proof.proofs.submits.Verdicts.{live-debts, calm-entries, same-
 use Rattle.direct_proof.proofs.submits.Fresh.{is-new, IsSimpleSubmit, behind-none, behind-zero}
 use Rattle.usbip_urb.specs.declared.packet.UrbPacket.TheVariants as urb
 use Rattle.usbip_urb.specs.declared.client.ClientPacket.TheVariants.{Urb}
-use Rattle.gate_history.specs.step.Items.{Asked}
+use Rattle.gate_history.specs.declared.item.Item.TheVariants.{Asked}
 use Rattle.gate_history.specs.state.Ups.{stream_at, stream_of}
 use Rattle.direct_device.specs.Acting.{Submit, act, answers, made_of}
 use Rattle.direct_proof.proofs.shared.Keeps.{Keeps, keeps-quiet, keeps-deed}

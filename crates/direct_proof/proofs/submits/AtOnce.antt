@@ -10,9 +10,11 @@ use Rattle.usbip_urb.specs.declared.packet.UrbPacket.TheVariants as urb
 use Rattle.usbip_urb.specs.declared.client.ClientPacket.TheVariants.{Urb}
 use Rattle.redir_data.specs.declared.packet.RedirPacket.{RedirPacket}
 use Rattle.model_device.specs.Meaning.{Meaning}
-use Rattle.gate_history.specs.client.Requests.{Request, request_of}
-use Rattle.gate_history.specs.step.Items.{Asked}
-use Rattle.gate_history.specs.client.Verdict.{Verdict, Now}
+use Rattle.gate_history.specs.declared.request.Request.{Request}
+use Rattle.gate_history.specs.client.Requests.{request_of}
+use Rattle.gate_history.specs.declared.item.Item.TheVariants.{Asked}
+use Rattle.gate_history.specs.declared.verdict.Verdict.{Verdict}
+use Rattle.gate_history.specs.declared.verdict.Verdict.TheVariants.{Now}
 use Rattle.gate_history.specs.step.Marks.{Submission, Effect, Opens}
 use Rattle.gate_history.specs.client.Submits.{Pending, ends, at_once, AtOnce}
 use Rattle.gate_history.specs.state.Ups.{Up, stream_at, stream_of}
@@ -23,7 +25,7 @@ use Rattle.gate_history.specs.write.Output.{fresh, present}
 use Rattle.gate_history.specs.write.Answers.{answers_at, without_packets}
 use Rattle.gate_history.specs.write.Notes.{is_by_answer}
 use Rattle.gate_history.specs.declared.note.Note.TheVariants as note
-use Rattle.gate_history.specs.write.Errno.{eshutdown}
+use Rattle.gate_history.specs.declared.errno.TheConstants.{ESHUTDOWN}
 use Rattle.gate_history.proofs.lemmas.Lists.{filter-all, filter-none, list_any-map}
 use Rattle.gate_history.proofs.lemmas.step.NoCancel.{asks-none, none-cancelled, stays-uncancelled}
 use Rattle.direct_run.specs.Moves.{World, ByClient}
@@ -139,7 +141,7 @@ keep-now {S = S} m w j place s status rel before inside new is made-is = go st.c
 
     says : answers m d (Submit r) ≡ without_packets r status ∷ []
     says = ap (λ (v : Verdict). submit_answers d (record { request = r; verdict = v })) made-is
-        ∙ ap (λ (l : List Live). map (λ (y : Live). without_packets y.load.request eshutdown) l ++ without_packets r status ∷ []) (filter-none d.live)
+        ∙ ap (λ (l : List Live). map (λ (y : Live). without_packets y.load.request ESHUTDOWN) l ++ without_packets r status ∷ []) (filter-none d.live)
 
     go : (b : Bool) → st.client_over ≡ b → Keeps m w j made
     go true over = keeps-quiet m w j j made w (ap (λ (b : Bool). cond b (quiet w) (gate_made w (mark_of st (Asked place (Urb (urb.Submit s)))))) over) rel refl

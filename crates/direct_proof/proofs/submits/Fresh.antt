@@ -6,7 +6,8 @@ use Rattle.usbip_urb.specs.declared.packet.Submit.{Submit as UrbSubmit}
 use Rattle.model_device.specs.Transfer.{is_control}
 use Rattle.redir_host.specs.state.Sound.{Each}
 use Rattle.gate_history.specs.client.Requests.{request_of}
-use Rattle.gate_history.specs.client.Verdict.{Verdict, goes_by_id}
+use Rattle.gate_history.specs.declared.verdict.Verdict.{Verdict}
+use Rattle.gate_history.specs.client.Verdict.{goes_by_id}
 use Rattle.gate_history.specs.step.Marks.{Submission}
 use Rattle.gate_history.specs.state.Ids.{holds}
 use Rattle.gate_history.specs.state.Flight.{ids_of}

@@ -1,4 +1,5 @@
 -- No submit goes to the device as isochronous packets: no device has such an endpoint.
+use Rattle.std.specs.Bool.{beq}
 use Rattle.std.proofs.Common.{◌≡◌, ℕ, ◌<◌, ◌&&◌, nat_lt, nat_le, not, Bool, true, false, cond, length, Option, Some, None, refl, sym, ap, ◌∙◌, subst, arith, ◌-◌, ◌==◌}
 use Rattle.std.specs.Prelude.{get_or}
 use Rattle.std.proofs.lemmas.Bool.{ltb-true}
@@ -17,12 +18,16 @@ use Rattle.control_route.specs.declared.route.Route.TheVariants as route
 use Rattle.control_route.specs.Routes.{route_of}
 use Rattle.model_device.specs.Gadget.{IsGadget}
 use Rattle.model_device.specs.Meaning.{Meaning}
-use Rattle.gate_history.specs.write.Errno.{enoent, ebusy, einval, emsgsize, eshutdown}
+use Rattle.gate_history.specs.declared.errno.TheConstants.{ENOENT, EBUSY, EINVAL, EMSGSIZE, ESHUTDOWN}
 use Rattle.gate_history.specs.state.Flight.{wide_bulk}
 use Rattle.gate_history.specs.step.Meaning.{verdict_of}
-use Rattle.gate_history.specs.client.Requests.{Request, request_of, is_in_setup}
+use Rattle.gate_history.specs.declared.request.Request.{Request}
+use Rattle.gate_history.specs.client.Requests.{request_of, is_in_setup}
 use Rattle.gate_history.specs.state.State.{State, change_waits}
-use Rattle.gate_history.specs.client.Verdict.{Verdict, Now, Wire, IsoOut, Stream, max_narrow, none_of, bool_eq, by_route, by_setup, by_kind, is_control, is_iso, is_invalid, is_narrow, by_transfer, verdict, InterruptOut}
+use Rattle.gate_history.specs.declared.verdict.Pipe.TheVariants.{InterruptOut}
+use Rattle.gate_history.specs.declared.verdict.Verdict.{Verdict}
+use Rattle.gate_history.specs.declared.verdict.Verdict.TheVariants.{Now, Wire, IsoOut, Stream}
+use Rattle.gate_history.specs.client.Verdict.{max_narrow, none_of, by_route, by_setup, by_kind, is_control, is_iso, is_invalid, is_narrow, by_transfer, verdict}
 use Rattle.gate_history.specs.client.Carried.{IsDirected}
 use Rattle.gate_history.proofs.lemmas.client.Carried.{is_request}
 use Rattle.direct_run.specs.Moves.{World}
@@ -48,9 +53,9 @@ module _ (table : EpTable) (changing : Bool) (r : Request) where
 
   setup-shows : (s : Setup) → ShowsIso table changing r (by_setup r s)
   setup-shows s =
-      unless (not (none_of r.descs)) einval _ (λ none.
-      unless (not (s.length == 0) && not (bool_eq (is_in_setup s) r.is_in)) einval _ (λ one.
-      unless (not (s.length == r.transfer.wanted)) einval _ (λ same.
+      unless (not (none_of r.descs)) EINVAL _ (λ none.
+      unless (not (s.length == 0) && not (beq (is_in_setup s) r.is_in)) EINVAL _ (λ one.
+      unless (not (s.length == r.transfer.wanted)) EINVAL _ (λ same.
       route-shows (route_of s))))
 
   kind-shows : changing ≡ false → r.transfer.setup ≡ None → (k : EpKind) → (row_of table r.transfer.ep).kind ≡ k → ShowsIso table changing r (by_kind r (row_of table r.transfer.ep) k)
@@ -65,7 +70,7 @@ module _ (table : EpTable) (changing : Bool) (r : Request) where
   kind-shows still none kind.Invalid e = tt
 
   shows : (lost : Bool) (live : ℕ) (wide : Bool) → ShowsIso table changing r (verdict lost live changing table wide r)
-  shows lost live wide = unless lost eshutdown _ (λ there. unless (nat_le MAX_LIVE live) ebusy _ (λ room. by r.transfer.setup refl))
+  shows lost live wide = unless lost ESHUTDOWN _ (λ there. unless (nat_le MAX_LIVE live) EBUSY _ (λ room. by r.transfer.setup refl))
     where
       row : EpRow
       row = row_of table r.transfer.ep
@@ -73,12 +78,12 @@ module _ (table : EpTable) (changing : Bool) (r : Request) where
       by : (o : Option Setup) → r.transfer.setup ≡ o → ShowsIso table changing r (by_transfer changing table wide r o)
       by (Some s) has = setup-shows s
       by None has =
-          unless changing enoent _ (λ still.
-          unless (is_invalid row.kind) enoent _ (λ valid.
-          unless (is_control row.kind) einval _ (λ moves.
-          unless (bool_eq (is_iso row.kind) (none_of r.descs)) einval _ (λ iso.
-          unless (not (laid r.descs r.transfer.wanted)) einval _ (λ lies.
-          unless (is_narrow wide r.is_in row.kind && nat_lt max_narrow r.transfer.wanted) emsgsize _ (λ narrow.
+          unless changing ENOENT _ (λ still.
+          unless (is_invalid row.kind) ENOENT _ (λ valid.
+          unless (is_control row.kind) EINVAL _ (λ moves.
+          unless (beq (is_iso row.kind) (none_of r.descs)) EINVAL _ (λ iso.
+          unless (not (laid r.descs r.transfer.wanted)) EINVAL _ (λ lies.
+          unless (is_narrow wide r.is_in row.kind && nat_lt max_narrow r.transfer.wanted) EMSGSIZE _ (λ narrow.
           kind-shows still has row.kind refl))))))
 
 pub no-iso : {S : Type 0} (m : Meaning S) → IsGadget m → (w : World S) (j : Shared) → Related m w j → w.gate.imported ≡ true → w.gate.lost ≡ false → (s : UrbSubmit) → IsSubmit s → (row : EpRow) → verdict_of w.gate (request_of s) ≡ IsoOut row → ⊥

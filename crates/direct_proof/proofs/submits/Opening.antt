@@ -8,13 +8,14 @@ use Rattle.usbip_urb.specs.declared.packet.UrbPacket.TheVariants as urb
 use Rattle.usbip_urb.specs.declared.client.ClientPacket.TheVariants.{Urb}
 use Rattle.redir_data.specs.declared.packet.RedirPacket.{RedirPacket}
 use Rattle.model_device.specs.Meaning.{Meaning}
-use Rattle.gate_history.specs.client.Requests.{Request, request_of}
-use Rattle.gate_history.specs.step.Items.{Asked}
-use Rattle.gate_history.specs.client.Verdict.{Verdict}
+use Rattle.gate_history.specs.declared.request.Request.{Request}
+use Rattle.gate_history.specs.client.Requests.{request_of}
+use Rattle.gate_history.specs.declared.item.Item.TheVariants.{Asked}
+use Rattle.gate_history.specs.declared.verdict.Verdict.{Verdict}
 use Rattle.gate_history.specs.step.Marks.{Submission, Effect, Opens}
 use Rattle.gate_history.specs.client.Submits.{Pending, ends, at_once, ByChange, is_touched}
 use Rattle.gate_history.specs.state.Ids.{last_of}
-use Rattle.gate_history.specs.write.Errno.{eshutdown}
+use Rattle.gate_history.specs.declared.errno.TheConstants.{ESHUTDOWN}
 use Rattle.gate_history.specs.state.Calls.{asking}
 use Rattle.gate_history.specs.state.Ups.{stream_at, stream_of, opened_streams}
 use Rattle.gate_history.specs.state.State.{State, has_number, next_ids}
@@ -115,7 +116,7 @@ device-simple {S = S} m st d r v x same untouched made ways = (
         way = λ ep. (ap (λ ups. way_if (stream_of ups ep) (d.way ep)) streams ∙ ways ep) i;
       }),
   ap (λ (u : Verdict). submit_answers d (record { request = r; verdict = u })) made
-      ∙ (λ i. map (λ (y : Live). without_packets y.load.request eshutdown) ((filter-same (λ (y : Live). is_touched v y.load.verdict) (λ y. false) d.live untouched ∙ filter-none d.live) i) ++ x.answered l i),
+      ∙ (λ i. map (λ (y : Live). without_packets y.load.request ESHUTDOWN) ((filter-same (λ (y : Live). is_touched v y.load.verdict) (λ y. false) d.live untouched ∙ filter-none d.live) i) ++ x.answered l i),
 )
   where
     l : Load

@@ -1,4 +1,5 @@
 -- What is known of a submit that a client can send and that goes by an id: its transfer is one, and its packet fits it.
+use Rattle.std.specs.Bool.{beq}
 use Rattle.std.proofs.Common.{◌≡◌, ℕ, ◌≤◌, ◌==◌, ◌&&◌, nat_lt, nat_le, not, Bool, true, false, cond, List, [], ◌∷◌, length, Option, Some, None, is_some, refl, sym, ap, ◌∙◌, subst, arith}
 use Rattle.std.specs.Prelude.{IfSome}
 use Rattle.std.proofs.lemmas.Bool.{eqb-true, ltb-false}
@@ -22,12 +23,16 @@ use Rattle.redir_wire.specs.declared.packet.Way.TheVariants.{ToHost}
 use Rattle.model_device.specs.Transfer.{IsTransfer, is_control}
 use Rattle.model_device.proofs.Submits.{asks_transfer}
 use Rattle.redir_host.specs.guest.Asking.{routed}
-use Rattle.gate_history.specs.write.Errno.{enoent, ebusy, einval, emsgsize, eshutdown}
+use Rattle.gate_history.specs.declared.errno.TheConstants.{ENOENT, EBUSY, EINVAL, EMSGSIZE, ESHUTDOWN}
 use Rattle.gate_history.specs.state.Flight.{wide_bulk}
 use Rattle.gate_history.specs.step.Meaning.{verdict_of}
-use Rattle.gate_history.specs.client.Requests.{Request, request_of, address, is_in_setup}
+use Rattle.gate_history.specs.declared.request.Request.{Request}
+use Rattle.gate_history.specs.client.Requests.{request_of, address, is_in_setup}
 use Rattle.gate_history.specs.state.State.{State, change_waits}
-use Rattle.gate_history.specs.client.Verdict.{Verdict, Control, InterruptOut, Now, Wire, Routed, IsoOut, Stream, max_narrow, none_of, bool_eq, by_route, by_setup, by_kind, is_iso, is_invalid, is_narrow, by_endpoint, by_transfer, verdict, goes_by_id}
+use Rattle.gate_history.specs.declared.verdict.Pipe.TheVariants.{Control, InterruptOut}
+use Rattle.gate_history.specs.declared.verdict.Verdict.{Verdict}
+use Rattle.gate_history.specs.declared.verdict.Verdict.TheVariants.{Now, Wire, Routed, IsoOut, Stream}
+use Rattle.gate_history.specs.client.Verdict.{max_narrow, none_of, by_route, by_setup, by_kind, is_iso, is_invalid, is_narrow, by_endpoint, by_transfer, verdict, goes_by_id}
 use Rattle.gate_history.specs.client.Verdict as of_kind
 use Rattle.gate_history.specs.client.Carried.{IsDirected, IsRequest, IsCarried}
 use Rattle.gate_history.proofs.lemmas.client.Carried.{is_request, carried, not-false}
@@ -89,9 +94,9 @@ route-fits r s route.Bad has way is long = tt
 
 setup-fits : (r : Request) (s : Setup) → r.transfer.setup ≡ Some s → r.transfer.ep ≡ address (is_in_setup s) 0 → FitsIt (by_setup r s) r
 setup-fits r s has way =
-    unless (not (none_of r.descs)) einval _ r (λ none.
-    unless (not (s.length == 0) && not (bool_eq (is_in_setup s) r.is_in)) einval _ r (λ one.
-    unless (not (s.length == r.transfer.wanted)) einval _ r (λ same.
+    unless (not (none_of r.descs)) EINVAL _ r (λ none.
+    unless (not (s.length == 0) && not (beq (is_in_setup s) r.is_in)) EINVAL _ r (λ one.
+    unless (not (s.length == r.transfer.wanted)) EINVAL _ r (λ same.
     route-fits r s (route_of s) has way refl (eqb-true s.length r.transfer.wanted (not-false (s.length == r.transfer.wanted) same)))))
 
 kind-fits : (wide : Bool) (r : Request) (row : EpRow) (k : EpKind) → r.transfer.setup ≡ None → is_control r.transfer.ep ≡ false → is_in_endpoint r.transfer.ep ≡ r.is_in → r.transfer.wanted ≤ 16777216 → (is_narrow wide r.is_in k && nat_lt max_narrow r.transfer.wanted) ≡ false → FitsIt (by_kind r row k) r
@@ -107,22 +112,22 @@ kind-fits wide r row kind.Invalid none other way few narrow = tt
 
 endpoint-fits : (wide : Bool) (r : Request) (row : EpRow) → r.transfer.setup ≡ None → is_control r.transfer.ep ≡ false → is_in_endpoint r.transfer.ep ≡ r.is_in → r.transfer.wanted ≤ 16777216 → FitsIt (by_endpoint wide r row) r
 endpoint-fits wide r row none other way few =
-    unless (is_invalid row.kind) enoent _ r (λ valid.
-    unless (of_kind.is_control row.kind) einval _ r (λ moves.
-    unless (bool_eq (is_iso row.kind) (none_of r.descs)) einval _ r (λ iso.
-    unless (not (laid r.descs r.transfer.wanted)) einval _ r (λ lies.
-    unless (is_narrow wide r.is_in row.kind && nat_lt max_narrow r.transfer.wanted) emsgsize _ r (λ narrow.
+    unless (is_invalid row.kind) ENOENT _ r (λ valid.
+    unless (of_kind.is_control row.kind) EINVAL _ r (λ moves.
+    unless (beq (is_iso row.kind) (none_of r.descs)) EINVAL _ r (λ iso.
+    unless (not (laid r.descs r.transfer.wanted)) EINVAL _ r (λ lies.
+    unless (is_narrow wide r.is_in row.kind && nat_lt max_narrow r.transfer.wanted) EMSGSIZE _ r (λ narrow.
     kind-fits wide r row row.kind none other way few narrow)))))
 
 verdict-fits : (lost : Bool) (live : ℕ) (changing : Bool) (table : EpTable) (wide : Bool) (r : Request) → IsAddressed r.transfer → IsRequest r → FitsIt (verdict lost live changing table wide r) r
 verdict-fits lost live changing table wide r at is =
-    unless lost eshutdown _ r (λ there.
-    unless (nat_le MAX_LIVE live) ebusy _ r (λ room.
+    unless lost ESHUTDOWN _ r (λ there.
+    unless (nat_le MAX_LIVE live) EBUSY _ r (λ room.
     by r.transfer.setup refl))
   where
     by : (o : Option Setup) → r.transfer.setup ≡ o → FitsIt (by_transfer changing table wide r o) r
     by (Some s) has = setup-fits r s has (subst (λ (x : Option Setup). IsDirected r.is_in x r.transfer.ep) has is.directed)
-    by None has = unless changing enoent _ r (λ still. endpoint-fits wide r (row_of table r.transfer.ep) has (sym at.has_setup ∙ ap is_some has) (subst (λ (x : Option Setup). IsDirected r.is_in x r.transfer.ep) has is.directed) is.few_bytes)
+    by None has = unless changing ENOENT _ r (λ still. endpoint-fits wide r (row_of table r.transfer.ep) has (sym at.has_setup ∙ ap is_some has) (subst (λ (x : Option Setup). IsDirected r.is_in x r.transfer.ep) has is.directed) is.few_bytes)
 
 -- ---- a submit
 

@@ -10,8 +10,11 @@ use Rattle.control_route.specs.declared.route.Route.{Route}
 use Rattle.model_device.specs.Transfer.{IsTransfer}
 use Rattle.redir_host.specs.guest.Line.{Waiting as InLine, asked_line}
 use Rattle.redir_host.specs.state.Sound.{Each as HostEach}
-use Rattle.gate_history.specs.client.Requests.{Request}
-use Rattle.gate_history.specs.client.Verdict.{Verdict, Pipe, Wire, Routed, Stream, goes_by_id}
+use Rattle.gate_history.specs.declared.request.Request.{Request}
+use Rattle.gate_history.specs.declared.verdict.Pipe.{Pipe}
+use Rattle.gate_history.specs.declared.verdict.Verdict.{Verdict}
+use Rattle.gate_history.specs.declared.verdict.Verdict.TheVariants.{Wire, Routed, Stream}
+use Rattle.gate_history.specs.client.Verdict.{goes_by_id}
 use Rattle.gate_history.specs.step.Marks.{Submission, Opens}
 use Rattle.gate_history.specs.client.Submits.{Pending, at_once, is_touched}
 use Rattle.gate_history.specs.state.Ids.{last_of, draw, greatest}

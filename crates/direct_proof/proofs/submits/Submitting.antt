@@ -5,9 +5,12 @@ use Rattle.usb_base.specs.declared.setup.Setup.{Setup}
 use Rattle.usb_base.specs.declared.endpoint.EpTable.{EpTable}
 use Rattle.usb_base.specs.declared.endpoint.EpRow.{EpRow}
 use Rattle.usb_base.specs.Endpoint.{row_of}
-use Rattle.gate_history.specs.client.Requests.{Request}
-use Rattle.gate_history.specs.client.Verdict.{Verdict, Pipe, Wire, verdict, by_transfer, by_endpoint, Now}
-use Rattle.gate_history.specs.write.Errno.{enoent, eshutdown, ebusy}
+use Rattle.gate_history.specs.declared.request.Request.{Request}
+use Rattle.gate_history.specs.declared.verdict.Pipe.{Pipe}
+use Rattle.gate_history.specs.declared.verdict.Verdict.{Verdict}
+use Rattle.gate_history.specs.declared.verdict.Verdict.TheVariants.{Now, Wire}
+use Rattle.gate_history.specs.client.Verdict.{verdict, by_transfer, by_endpoint}
+use Rattle.gate_history.specs.declared.errno.TheConstants.{ENOENT, EBUSY, ESHUTDOWN}
 use Rattle.gate_history.specs.client.Submits.{Pending}
 use Rattle.gate_history.specs.state.Ups.{Up}
 use Rattle.gate_history.specs.step.Meaning.{by_stream}
@@ -27,8 +30,8 @@ AreBefore place ps = Each (λ (p : Pending). (place == p.submit.place) ≡ false
 
 -- a verdict reads one row of the table
 pub same-verdict : (lost : Bool) (live : ℕ) (changing : Bool) (t u : EpTable) (wide : Bool) (r : Request) → row_of t r.transfer.ep ≡ row_of u r.transfer.ep → verdict lost live changing t wide r ≡ verdict lost live changing u wide r
-same-verdict lost live changing t u wide r h = ap (λ (v : Verdict). cond lost (Now eshutdown) (cond (nat_le MAX_LIVE live) (Now ebusy) v)) (go r.transfer.setup)
+same-verdict lost live changing t u wide r h = ap (λ (v : Verdict). cond lost (Now ESHUTDOWN) (cond (nat_le MAX_LIVE live) (Now EBUSY) v)) (go r.transfer.setup)
   where
     go : (setup : Option Setup) → by_transfer changing t wide r setup ≡ by_transfer changing u wide r setup
     go (Some s) = refl
-    go None = ap (λ (row : EpRow). cond changing (Now enoent) (by_endpoint wide r row)) h
+    go None = ap (λ (row : EpRow). cond changing (Now ENOENT) (by_endpoint wide r row)) h

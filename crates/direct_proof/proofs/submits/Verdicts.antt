@@ -11,9 +11,11 @@ use Rattle.model_device.specs.Meaning.{Meaning}
 use Rattle.redir_host.specs.device.Facts.{ep_info_of}
 use Rattle.redir_host.specs.state.Sound.{Each}
 use Rattle.redir_host.specs.declared.running.StreamKind.TheVariants.{Iso, Interrupt}
-use Rattle.gate_history.specs.client.Requests.{Request}
-use Rattle.gate_history.specs.client.Verdict.{Verdict, Now, verdict, by_transfer, by_endpoint, changes, goes_by_id}
-use Rattle.gate_history.specs.write.Errno.{eshutdown, ebusy}
+use Rattle.gate_history.specs.declared.request.Request.{Request}
+use Rattle.gate_history.specs.declared.verdict.Verdict.{Verdict}
+use Rattle.gate_history.specs.declared.verdict.Verdict.TheVariants.{Now}
+use Rattle.gate_history.specs.client.Verdict.{verdict, by_transfer, by_endpoint, changes, goes_by_id}
+use Rattle.gate_history.specs.declared.errno.TheConstants.{EBUSY, ESHUTDOWN}
 use Rattle.gate_history.specs.step.Marks.{Submission}
 use Rattle.gate_history.specs.client.Submits.{Pending}
 use Rattle.gate_history.specs.state.Ups.{stream_at}
@@ -168,4 +170,4 @@ module _ {S : Type 0} (m : Meaning S) (w : World S) (j : Shared) (rel : Related 
       rows h = sym (row-told (m.table w.host.gadget) r.transfer.ep address) ∙ ap (λ (t : EpTable). row_of t r.transfer.ep) (sym (table-known h))
 
       by_changing : (c : Bool) → change_waits w.gate ≡ c → verdict w.gate.lost (length w.gate.live) (change_waits w.gate) (m.table w.host.gadget) (wide_bulk w.gate.agreed) r ≡ verdict_of w.gate r
-      by_changing c e = ap (λ (v : Verdict). cond w.gate.lost (Now eshutdown) (cond (nat_le MAX_LIVE (length w.gate.live)) (Now ebusy) v)) (by_transfers (m.table w.host.gadget) w.gate.facts.table (change_waits w.gate) r.transfer.setup rows)
+      by_changing c e = ap (λ (v : Verdict). cond w.gate.lost (Now ESHUTDOWN) (cond (nat_le MAX_LIVE (length w.gate.live)) (Now EBUSY) v)) (by_transfers (m.table w.host.gadget) w.gate.facts.table (change_waits w.gate) r.transfer.setup rows)

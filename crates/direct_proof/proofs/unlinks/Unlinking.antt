@@ -10,7 +10,7 @@ use Rattle.model_device.specs.Meaning.{Meaning}
 use Rattle.redir_host.specs.declared.request.Request.{Request as HostRequest}
 use Rattle.redir_host.specs.guest.Line.{Waiting as InLine}
 use Rattle.redir_host.specs.state.Sound.{Each}
-use Rattle.gate_history.specs.step.Items.{Asked}
+use Rattle.gate_history.specs.declared.item.Item.TheVariants.{Asked}
 use Rattle.gate_history.specs.step.Marks.{Submission, Mark}
 use Rattle.gate_history.specs.client.Submits.{Pending, is_waiting}
 use Rattle.gate_history.specs.write.Output.{cancels, cancel, is_taken as gate_taken}

@@ -5,11 +5,13 @@ use Rattle.std.specs.List.{list_any, flat_map}
 use Rattle.usbip_urb.specs.declared.client.ClientPacket.{ClientPacket}
 use Rattle.usbip_urb.specs.declared.client.ClientPacket.TheVariants.{Urb}
 use Rattle.redir_host.specs.state.Sound.{Each}
-use Rattle.gate_history.specs.client.Verdict.{Verdict, Wire, Routed, goes_by_id}
+use Rattle.gate_history.specs.declared.verdict.Verdict.{Verdict}
+use Rattle.gate_history.specs.declared.verdict.Verdict.TheVariants.{Wire, Routed}
+use Rattle.gate_history.specs.client.Verdict.{goes_by_id}
 use Rattle.gate_history.specs.step.Marks.{Submission, Effect, Unlinks}
 use Rattle.gate_history.specs.client.Submits.{Pending, is_waiting, ends, ByUnlink}
 use Rattle.gate_history.specs.write.Answers.{ret_unlink, answers_at}
-use Rattle.gate_history.specs.write.Errno.{econnreset}
+use Rattle.gate_history.specs.declared.errno.TheConstants.{ECONNRESET}
 use Rattle.gate_history.specs.write.Output.{is_target as gate_target, is_taken as gate_taken, cancels, cancel, to_host, to_client, present}
 use Rattle.gate_history.specs.write.Notes.{is_by_answer, notes_of}
 use Rattle.gate_history.specs.state.State.{State, submits}
@@ -98,16 +100,16 @@ module _ (st : State) (by target : ℕ) where
       replies : List ClientPacket
       replies = cond (list_any (λ p. gate_target target p || gate_taken target p) st.live) [] (Urb (ret_unlink by (pos 0)) ∷ [])
 
-      told : flat_map (λ p. answers_at p.submit p.unlinker (ends what p.submit)) (present st what) ≡ flat_map (λ p. ret_unlink by econnreset ∷ []) (filter (gate_taken target) st.live)
+      told : flat_map (λ p. answers_at p.submit p.unlinker (ends what p.submit)) (present st what) ≡ flat_map (λ p. ret_unlink by ECONNRESET ∷ []) (filter (gate_taken target) st.live)
       told = ap (flat_map (λ p. answers_at p.submit p.unlinker (ends what p.submit))) (append-nil st.live)
-          ∙ flat_map-same (λ p. answers_at p.submit p.unlinker (ends what p.submit)) (λ p. cond (gate_taken target p) (ret_unlink by econnreset ∷ []) []) st.live
-          (every (λ p. answers_at p.submit p.unlinker (ends what p.submit) ≡ cond (gate_taken target p) (ret_unlink by econnreset ∷ []) [])
-          (λ p. elim (gate_taken target p) as (λ b. answers_at p.submit p.unlinker (cond b (Some (ByUnlink by)) None) ≡ cond b (ret_unlink by econnreset ∷ []) []) [ true ↦ refl | false ↦ refl ]) st.live)
-          ∙ sym (flat_map-filter (λ p. ret_unlink by econnreset ∷ []) (gate_taken target) st.live)
+          ∙ flat_map-same (λ p. answers_at p.submit p.unlinker (ends what p.submit)) (λ p. cond (gate_taken target p) (ret_unlink by ECONNRESET ∷ []) []) st.live
+          (every (λ p. answers_at p.submit p.unlinker (ends what p.submit) ≡ cond (gate_taken target p) (ret_unlink by ECONNRESET ∷ []) [])
+          (λ p. elim (gate_taken target p) as (λ b. answers_at p.submit p.unlinker (cond b (Some (ByUnlink by)) None) ≡ cond b (ret_unlink by ECONNRESET ∷ []) []) [ true ↦ refl | false ↦ refl ]) st.live)
+          ∙ sym (flat_map-filter (λ p. ret_unlink by ECONNRESET ∷ []) (gate_taken target) st.live)
 
-      said : unlink_answers d by target ≡ cond (list_any (gate_taken target) st.live) (ret_unlink by econnreset ∷ []) (cond (list_any (gate_target target) st.live) [] (ret_unlink by (pos 0) ∷ []))
-      said = (λ i. cond (list_any (is_taken target) (live i)) (ret_unlink by econnreset ∷ []) (cond (list_any (is_target target) (live i)) [] (ret_unlink by (pos 0) ∷ [])))
-          ∙ (λ i. cond (list_any-map (is_taken target) live_of st.live i) (ret_unlink by econnreset ∷ []) (cond (list_any-map (is_target target) live_of st.live i) [] (ret_unlink by (pos 0) ∷ [])))
+      said : unlink_answers d by target ≡ cond (list_any (gate_taken target) st.live) (ret_unlink by ECONNRESET ∷ []) (cond (list_any (gate_target target) st.live) [] (ret_unlink by (pos 0) ∷ []))
+      said = (λ i. cond (list_any (is_taken target) (live i)) (ret_unlink by ECONNRESET ∷ []) (cond (list_any (is_target target) (live i)) [] (ret_unlink by (pos 0) ∷ [])))
+          ∙ (λ i. cond (list_any-map (is_taken target) live_of st.live i) (ret_unlink by ECONNRESET ∷ []) (cond (list_any-map (is_target target) live_of st.live i) [] (ret_unlink by (pos 0) ∷ [])))
 
       either : (ps : List Pending) → list_any (gate_taken target) ps ≡ true → list_any (λ p. gate_target target p || gate_taken target p) ps ≡ true
       either [] h = absurd (not-both (sym h))
@@ -137,16 +139,16 @@ module _ (st : State) (by target : ℕ) where
           turned (x ∷ xs) k = (k.0, turned xs k.1)
 
       go : (b : Bool) → list_any (gate_taken target) st.live ≡ b → (ts : List Pending) → filter (gate_taken target) st.live ≡ ts → length (filter (gate_taken target) st.live) ≤ 1 →
-          replies ++ map Urb (flat_map (λ p. ret_unlink by econnreset ∷ []) (filter (gate_taken target) st.live)) ≡ map Urb (cond (list_any (gate_taken target) st.live) (ret_unlink by econnreset ∷ []) (cond (list_any (gate_target target) st.live) [] (ret_unlink by (pos 0) ∷ [])))
+          replies ++ map Urb (flat_map (λ p. ret_unlink by ECONNRESET ∷ []) (filter (gate_taken target) st.live)) ≡ map Urb (cond (list_any (gate_taken target) st.live) (ret_unlink by ECONNRESET ∷ []) (cond (list_any (gate_target target) st.live) [] (ret_unlink by (pos 0) ∷ [])))
       go true some [] is one = absurd (passes st.live some is)
-      go true some (t ∷ []) is one = (λ i. cond (either st.live some i) [] (Urb (ret_unlink by (pos 0)) ∷ []) ++ map Urb (flat_map (λ p. ret_unlink by econnreset ∷ []) (is i)))
-          ∙ ap (λ (b : Bool). map Urb (cond b (ret_unlink by econnreset ∷ []) (cond (list_any (gate_target target) st.live) [] (ret_unlink by (pos 0) ∷ [])))) (sym some)
+      go true some (t ∷ []) is one = (λ i. cond (either st.live some i) [] (Urb (ret_unlink by (pos 0)) ∷ []) ++ map Urb (flat_map (λ p. ret_unlink by ECONNRESET ∷ []) (is i)))
+          ∙ ap (λ (b : Bool). map Urb (cond b (ret_unlink by ECONNRESET ∷ []) (cond (list_any (gate_target target) st.live) [] (ret_unlink by (pos 0) ∷ [])))) (sym some)
       go true some (t ∷ u ∷ ts) is one = absurd (let many = ap length is in omega (arith, one, many))
       go false some ts is one =
-          (λ i. cond (none st.live each i) [] (Urb (ret_unlink by (pos 0)) ∷ []) ++ map Urb (flat_map (λ p. ret_unlink by econnreset ∷ []) (fails st.live each i)))
+          (λ i. cond (none st.live each i) [] (Urb (ret_unlink by (pos 0)) ∷ []) ++ map Urb (flat_map (λ p. ret_unlink by ECONNRESET ∷ []) (fails st.live each i)))
           ∙ append-nil (cond (list_any (gate_target target) st.live) [] (Urb (ret_unlink by (pos 0)) ∷ []))
           ∙ spread (list_any (gate_target target) st.live)
-          ∙ ap (λ (b : Bool). map Urb (cond b (ret_unlink by econnreset ∷ []) (cond (list_any (gate_target target) st.live) [] (ret_unlink by (pos 0) ∷ [])))) (sym some)
+          ∙ ap (λ (b : Bool). map Urb (cond b (ret_unlink by ECONNRESET ∷ []) (cond (list_any (gate_target target) st.live) [] (ret_unlink by (pos 0) ∷ [])))) (sym some)
         where
           each : Each (λ (p : Pending). gate_taken target p ≡ false) st.live
           each = any-none (gate_taken target) st.live some

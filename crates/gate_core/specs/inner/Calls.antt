@@ -11,8 +11,8 @@ use Rattle.gate_history.specs.step.Marks.{Effect}
 use Rattle.gate_history.specs.state.State.{State}
 use Rattle.gate_history.specs.step.Meaning.{drawn_by}
 use Rattle.gate_history.specs.write.Packets.{starts, stops, asked_packets}
-use Rattle.gate_history.specs.state.Calls.{called, call_ids, last_or}
-use Rattle.std.specs.List.{flat_map}
+use Rattle.gate_history.specs.state.Calls.{called, call_ids}
+use Rattle.std.specs.List.{flat_map, last_or}
 use Rattle.gate_history.specs.write.Bytes.{host_packet_bytes}
 use Rattle.gate_history.specs.state.Flight.{wide_ids}
 use Rattle.gate_parts.specs.state.Ids.{ids_in}

@@ -6,10 +6,10 @@ use Rattle.unlink_race.specs.declared.live.LiveKind.TheVariants as live_kind
 use Rattle.unlink_race.specs.Searches.{waits_for}
 use Rattle.gate_history.specs.declared.note.Note.{Note}
 use Rattle.gate_core.specs.declared.state.kept.Kept.{Kept}
-use Rattle.gate_history.specs.step.Items.{capped}
+use Rattle.usb_base.specs.Number.{capped}
 use Rattle.gate_history.specs.state.Ups.{Up}
 use Rattle.gate_history.specs.step.Meaning.{is_held}
-use Rattle.gate_history.specs.client.Requests.{Request}
+use Rattle.gate_history.specs.declared.request.Request.{Request}
 use Rattle.gate_parts.specs.state.Rows.{row_for}
 use Rattle.gate_parts.specs.host.Fill.{filled_notes, without_firsts, up_fill, up_bytes}
 

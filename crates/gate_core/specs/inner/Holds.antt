@@ -10,11 +10,12 @@ use Rattle.unlink_race.specs.Searches.{goes_by_id, has_number, is_stream}
 use Rattle.gate_core.specs.declared.write.outputs.Outputs.{Outputs}
 use Rattle.gate_core.specs.declared.state.kept.Kept.{Kept}
 use Rattle.gate_parts.specs.declared.state.calls.Called.{Called}
-use Rattle.gate_history.specs.step.Items.{capped}
+use Rattle.usb_base.specs.Number.{capped}
 use Rattle.gate_history.specs.step.Marks.{Mark}
 use Rattle.gate_history.specs.state.Facts.{no_facts}
 use Rattle.gate_history.specs.state.Ups.{no_streams}
-use Rattle.gate_history.specs.client.Verdict.{Verdict, goes_by_id as goes_by_id_of}
+use Rattle.gate_history.specs.declared.verdict.Verdict.{Verdict}
+use Rattle.gate_history.specs.client.Verdict.{goes_by_id as goes_by_id_of}
 use Rattle.gate_history.specs.write.Packets.{HasRoute}
 use Rattle.gate_history.specs.client.Submits.{is_waiting}
 use Rattle.gate_history.specs.state.State.{State}
@@ -23,7 +24,7 @@ use Rattle.gate_history.specs.write.Notes.{notes_of, dropped}
 use Rattle.gate_history.specs.write.All.{is_ret_submit, is_won_unlink}
 use Rattle.gate_history.specs.write.Bytes.{client_bytes_of, host_bytes_of}
 use Rattle.gate_history.specs.step.Machine.{start, after}
-use Rattle.gate_history.specs.client.Requests.{Request}
+use Rattle.gate_history.specs.declared.request.Request.{Request}
 use Rattle.gate_core.specs.state.Kept.{ItemsKept}
 use Rattle.gate_core.specs.step.Stands.{IsOf}
 use Rattle.gate_history.specs.write.Asked.{HasItsPackets}

@@ -10,8 +10,8 @@ use Rattle.usbip_urb.specs.declared.client.ClientPacket.{ClientPacket}
 use Rattle.redir_wire.specs.declared.packet.Header.{Header}
 use Rattle.redir_data.specs.declared.packet.RedirPacket.{RedirPacket}
 use Rattle.redir_data.specs.declared.state.RedirState.{RedirState}
-use Rattle.gate_history.specs.declared.item.Item.{Item as RawItem}
-use Rattle.gate_history.specs.step.Items.{Item, Asked, ClientWrong, Told, HostWrong}
+use Rattle.gate_history.specs.declared.item.Item.{Item as RawItem, Item}
+use Rattle.gate_history.specs.declared.item.Item.TheVariants.{Asked, ClientWrong, Told, HostWrong}
 use Rattle.gate_history.specs.step.Streams.{client_reader, client_start, host_reader, host_start}
 use Rattle.gate_history.specs.step.Came.{asked, told}
 use Rattle.gate_history.specs.step.Fits.{IsItem, ItemFits}

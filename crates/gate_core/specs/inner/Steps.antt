@@ -8,11 +8,10 @@ use Rattle.packet_stream.specs.Split.{Reader}
 use Rattle.packet_stream.specs.Streams.{StreamView, ended, Nexts, Changes}
 use Rattle.redir_wire.specs.declared.packet.Header.{Header}
 use Rattle.redir_data.specs.declared.packet.RedirPacket.{RedirPacket}
-use Rattle.gate_history.specs.declared.item.Item.{Item as RawItem}
+use Rattle.gate_history.specs.declared.item.Item.{Item as RawItem, Item}
 use Rattle.gate_history.specs.declared.item.Item.TheVariants as raw
 use Rattle.gate_core.specs.declared.write.outputs.Outputs.{Outputs}
 use Rattle.gate_core.specs.declared.step.inner.Inner.{Inner}
-use Rattle.gate_history.specs.step.Items.{Item}
 use Rattle.gate_history.specs.step.Events.{Event}
 use Rattle.gate_history.specs.step.Past.{past}
 use Rattle.gate_history.specs.step.History.{arrivals}

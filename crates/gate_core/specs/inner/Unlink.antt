@@ -1,4 +1,5 @@
 -- What an unlink is told, and what it leaves, by the row that has its target's number.
+use Rattle.std.specs.Option.{option_or}
 use Rattle.std.specs.Prelude.{◌≡◌, ℕ, ◌+◌, ◌==◌, ◌&&◌, not, Bool, true, false, if◌then◌else◌, List, [], map, filter, Option, Some, None, is_none}
 use Rattle.redir_wire.specs.declared.packet.Caps.{Caps}
 use Rattle.redir_wire.specs.declared.packet.RedirControl.TheVariants as plain
@@ -14,11 +15,10 @@ use Rattle.gate_core.specs.declared.client.unlink.UnlinkAnswer.TheVariants.{Late
 use Rattle.redir_wire.specs.Header.{IdFits}
 use Rattle.gate_core.specs.declared.state.kept.Kept.{Kept}
 use Rattle.usbip_urb.specs.Spelling.{spelling}
-use Rattle.gate_history.specs.step.Items.{capped}
-use Rattle.gate_history.specs.write.Errno.{econnreset}
+use Rattle.usb_base.specs.Number.{capped}
+use Rattle.gate_history.specs.declared.errno.TheConstants.{ECONNRESET}
 use Rattle.gate_history.specs.write.Answers.{ret_unlink}
 use Rattle.gate_history.specs.state.Flight.{wide_ids}
-use Rattle.gate_history.specs.state.Sides.{or_else}
 use Rattle.gate_history.specs.write.Bytes.{host_packet_bytes}
 use Rattle.gate_parts.specs.state.Rows.{is_wire_row}
 
@@ -41,7 +41,7 @@ asked_of (Some l) = asked_kind l.kind l.id l.unlinker
 -- ---- of every row
 
 abbrev pub asked_row : ℕ → ℕ → Live → Live
-asked_row target by l = record l { unlinker = or_else l.unlinker (if goes_by_id l && (l.seqnum == target) then Some by else None) }
+asked_row target by l = record l { unlinker = option_or l.unlinker (if goes_by_id l && (l.seqnum == target) then Some by else None) }
 
 abbrev pub is_target_row : ℕ → Live → Bool
 is_target_row target l = goes_by_id l && (l.seqnum == target) && is_none l.unlinker
@@ -82,7 +82,7 @@ abbrev pub taken_bytes : ℕ → UnlinkAnswer → List ℕ
 taken_bytes by Late = []
 taken_bytes by (Cancel id) = []
 taken_bytes by Waits = []
-taken_bytes by Taken = spelling (ret_unlink by econnreset)
+taken_bytes by Taken = spelling (ret_unlink by ECONNRESET)
 
 abbrev pub told_bytes : Caps → UnlinkAnswer → List ℕ
 told_bytes caps Late = []

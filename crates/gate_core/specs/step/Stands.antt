@@ -1,13 +1,13 @@
 -- When the gate stands for items and for events, and what one event more makes of it.
 use Rattle.std.specs.Prelude.{◌≡◌, ◌⊎◌, ◌++◌, ◌∷◌, [], ℕ, Bool, true, false, List, length, map, filter}
-use Rattle.usb_base.specs.Number.{AreBytes}
+use Rattle.usb_base.specs.Number.{AreBytes, capped}
 use Rattle.usb_base.specs.declared.reason.Reason.{Reason}
 use Rattle.packet_stream.specs.Split.{Reader, Position, Splitting, split}
 use Rattle.packet_stream.specs.Streams.{StreamView, Drained, Closed, Holds as IsLeft}
 use Rattle.gate_history.specs.declared.note.Note.{Note}
 use Rattle.gate_history.specs.step.Events.{Event, client_bytes, host_bytes}
 use Rattle.gate_history.specs.step.Streams.{client_reader, client_start, host_reader, host_start}
-use Rattle.gate_history.specs.step.Items.{Item, capped}
+use Rattle.gate_history.specs.declared.item.Item.{Item}
 use Rattle.gate_history.specs.state.Sides.{client_over, host_over}
 use Rattle.gate_history.specs.state.State.{State, state_of}
 use Rattle.gate_history.specs.step.Past.{past}

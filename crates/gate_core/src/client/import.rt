@@ -3,11 +3,12 @@
 ghost use Rattle.std.specs.Prelude.{◌≡◌, ℕ, List, IfSome, [], None, false, OnOk, OnErr};
 ghost use Rattle.usbip_op.specs.declared.packet.OpPacket.TheVariants.{ReqDevlist, ReqImport};
 ghost use Rattle.usbip_op.specs.Ranges.{IsWritable};
-ghost use Rattle.gate_history.specs.step.Items.{capped};
+ghost use Rattle.usbip_urb.specs.declared.client.ClientPacket.TheVariants.{Op};
+ghost use Rattle.usb_base.specs.Number.{capped};
 ghost use Rattle.gate_history.specs.step.Marks.{Replies, Imports};
 ghost use Rattle.gate_history.specs.state.State.{State};
 ghost use Rattle.gate_history.specs.client.Replies.{list_reply as list_of, import_reply as import_of};
-ghost use Rattle.gate_history.specs.step.Meaning.{mark_as, op_meaning, importable as importable_in, import_meaning};
+ghost use Rattle.gate_history.specs.step.Meaning.{mark_as, asked_meaning, importable as importable_in, imported_as};
 ghost use Rattle.gate_core.specs.inner.Holds.{IsKept, Holds, Does, StopsShort};
 
 use crate::state::kept::Kept;
@@ -29,7 +30,7 @@ impl Kept {
         requires kept { IsKept self.old }
         ensures kept { IsKept self.new }
         ensures ok { (st : State) (at : ℕ) → place ≡ capped at → Holds self.old st → st.client_over ≡ false
-            → OnOk result (Does st (mark_as st (op_meaning st at packet.now) None) self.old self.new out.old out.new) }
+            → OnOk result (Does st (mark_as st (asked_meaning st at (Op packet.now)) None) self.old self.new out.old out.new) }
         ensures err { OnErr result (StopsShort self.old self.new out.old out.new) }
     {
         match packet {
@@ -46,7 +47,7 @@ impl Kept {
         requires kept { IsKept self.old }
         ensures kept { IsKept self.new }
         ensures ok { (st : State) (at : ℕ) (status : ℕ) → place ≡ capped at → Holds self.old st → st.client_over ≡ false
-            → OnOk result (Does st (mark_as st (op_meaning st at (ReqDevlist status)) None) self.old self.new out.old out.new) }
+            → OnOk result (Does st (mark_as st (asked_meaning st at (Op (ReqDevlist status))) None) self.old self.new out.old out.new) }
         ensures err { OnErr result (StopsShort self.old self.new out.old out.new) }
     {
         if self.imported {
@@ -66,7 +67,7 @@ impl Kept {
         requires kept { IsKept self.old }
         ensures kept { IsKept self.new }
         ensures ok { (st : State) (at : ℕ) (status : ℕ) → place ≡ capped at → Holds self.old st → st.client_over ≡ false
-            → OnOk result (Does st (mark_as st (op_meaning st at (ReqImport status busid.now)) None) self.old self.new out.old out.new) }
+            → OnOk result (Does st (mark_as st (asked_meaning st at (Op (ReqImport status busid.now))) None) self.old self.new out.old out.new) }
         ensures err { OnErr result (StopsShort self.old self.new out.old out.new) }
     {
         if self.imported {

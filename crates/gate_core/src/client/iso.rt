@@ -3,14 +3,13 @@
 ghost use Rattle.std.specs.Prelude.{◌≡◌, ◌≤◌, ◌++◌, ℕ, None, false, [], length, OnOk, OnErr, IfOk};
 ghost use Rattle.usbip_urb.specs.declared.code.TheConstants.{MAX_LENGTH};
 ghost use Rattle.gate_history.specs.state.Ids.{last_of};
-ghost use Rattle.gate_history.specs.client.Verdict.{IsoOut};
+ghost use Rattle.gate_history.specs.declared.verdict.Verdict.TheVariants.{IsoOut};
 ghost use Rattle.gate_history.specs.step.Marks.{Opens};
 ghost use Rattle.gate_history.specs.state.State.{State};
 ghost use Rattle.gate_history.specs.write.Packets.{iso_packets};
 ghost use Rattle.gate_history.specs.step.Meaning.{mark_as, submission};
 ghost use Rattle.gate_history.specs.state.Sound.{IsSound};
 ghost use Rattle.gate_history.specs.write.Asked.{HasItsPackets};
-ghost use Rattle.gate_history.specs.client.Views.{request_view};
 ghost use Rattle.gate_history.specs.client.Carried.{IsLaid};
 ghost use Rattle.gate_core.specs.inner.Calls.{ids_after, starts_of, called_of, after_starts, bytes_of};
 ghost use Rattle.gate_core.specs.inner.Holds.{IsKept, Holds, Does, StopsShort};
@@ -32,12 +31,12 @@ impl Kept {
         out: &mut Outputs,
     ) -> Result<(), Memory>
         requires kept { IsKept self.old }
-        requires laid { IsLaid (request_view request.now) }
+        requires laid { IsLaid request.now }
         requires packets { HasItsPackets request.now.packets request.now.descs }
         requires few_bytes { request.now.transfer.wanted ≤ MAX_LENGTH }
         ensures kept { IsKept self.new }
         ensures ok { (st : State) → Holds self.old st → IsSound st
-            → OnOk result (Does st (mark_as st (Opens (submission st (request_view request.now) (IsoOut row) [])) None) self.old self.new out.old out.new) }
+            → OnOk result (Does st (mark_as st (Opens (submission st request.now (IsoOut row) [])) None) self.old self.new out.old out.new) }
         ensures err { OnErr result (StopsShort self.old self.new out.old out.new) }
     {
         out.notes.push(Note::Submitted {
@@ -83,9 +82,9 @@ impl Kept {
         to_host: &mut Bytes,
     ) -> Result<u64, Memory>
         requires kept { IsKept self.now }
-        requires laid { IsLaid (request_view request.now) }
-        ensures sent { OnOk result (to_host.new ≡ to_host.old ++ bytes_of self.now last (iso_packets (request_view request.now))) }
-        ensures last { IfOk result (λ id. id ≡ last_of last (ids_after self.now last (length (iso_packets (request_view request.now))))) }
+        requires laid { IsLaid request.now }
+        ensures sent { OnOk result (to_host.new ≡ to_host.old ++ bytes_of self.now last (iso_packets request.now)) }
+        ensures last { IfOk result (λ id. id ≡ last_of last (ids_after self.now last (length (iso_packets request.now)))) }
         ensures err { OnErr result (Extends to_host.old to_host.new) }
     {
         let body = request.transfer.body.as_slice();

@@ -1,9 +1,10 @@
 //! What becomes of a client's submits.
 
 ghost use Rattle.std.specs.Prelude.{◌≡◌, ◌≤◌, ◌++◌, length, ℕ, List, [], None, Some, true, false, OnOk, OnErr, IfOk};
+ghost use Rattle.usbip_urb.specs.declared.client.ClientPacket.TheVariants.{Urb};
 ghost use Rattle.gate_history.specs.step.Marks.{Opens};
-ghost use Rattle.gate_history.specs.client.Verdict.{Now, Wire};
-ghost use Rattle.gate_history.specs.client.Verdict as verdict;
+ghost use Rattle.gate_history.specs.declared.verdict.Verdict.TheVariants.{Now, Wire};
+ghost use Rattle.gate_history.specs.declared.verdict.Verdict.TheVariants as verdict;
 ghost use Rattle.gate_history.specs.state.Ups.{lower, is_ended};
 ghost use Rattle.gate_history.specs.state.Ids.{draw, greatest, last_of};
 ghost use Rattle.gate_history.specs.state.Flight.{wide_ids, wide_bulk};
@@ -13,14 +14,13 @@ ghost use Rattle.std.specs.List.{list_any};
 ghost use Rattle.usbip_urb.specs.declared.packet.UrbPacket.TheVariants.{Submit as SubmitPacket};
 ghost use Rattle.usbip_urb.specs.Ranges.{IsSubmit};
 ghost use Rattle.unlink_race.specs.Searches.{has_number};
-ghost use Rattle.gate_history.specs.step.Items.{capped};
+ghost use Rattle.usb_base.specs.Number.{capped};
 ghost use Rattle.unlink_race.specs.declared.live.LiveKind.TheVariants.{Routed};
 ghost use Rattle.gate_history.specs.state.State.{State, next_ids};
-ghost use Rattle.gate_history.specs.step.Meaning.{mark_as, submission, drawn_for, accepts, verdict_of, urb_meaning};
+ghost use Rattle.gate_history.specs.step.Meaning.{mark_as, submission, drawn_for, accepts, verdict_of, asked_meaning};
 ghost use Rattle.gate_history.specs.state.Sound.{IsSound};
 ghost use Rattle.gate_history.specs.write.Asked.{HasItsPackets};
 ghost use Rattle.gate_core.specs.inner.Calls.{flying_in, ids_after, bytes_of};
-ghost use Rattle.gate_history.specs.client.Views.{request_view, pipe_view, verdict_view};
 ghost use Rattle.gate_history.specs.client.Carried.{IsRequest, IsSent, IsCarried};
 ghost use Rattle.gate_parts.specs.state.Rows.{kind_of, IsFine};
 ghost use Rattle.gate_core.specs.inner.Holds.{IsKept, Holds, Does, StopsShort, IsFree, CanAnswer, CanGo, HasOpened};
@@ -28,9 +28,10 @@ ghost use Rattle.gate_core.specs.inner.Holds.{IsKept, Holds, Does, StopsShort, I
 use crate::state::kept::Kept;
 use crate::write::outputs::Outputs;
 use control_route::Route;
+use gate_history::errno::ESHUTDOWN;
 use gate_history::{Note, Pipe, Request, Verdict};
 use gate_parts::{
-    Calls, ESHUTDOWN, client_refusal, decide, draw, packet_count, row_of, wire_packet, write_route,
+    Calls, client_refusal, decide, draw, packet_count, row_of, wire_packet, write_route,
     write_without_packets,
 };
 use redir_data::move_data;
@@ -47,7 +48,7 @@ impl Kept {
         requires fits { IsSubmit submit }
         ensures kept { IsKept self.new }
         ensures ok { (st : State) (at : ℕ) → place ≡ capped at → Holds self.old st → IsSound st → st.client_over ≡ false
-            → OnOk result (Does st (mark_as st (urb_meaning st at (SubmitPacket submit)) None) self.old self.new out.old out.new) }
+            → OnOk result (Does st (mark_as st (asked_meaning st at (Urb (SubmitPacket submit))) None) self.old self.new out.old out.new) }
         ensures err { OnErr result (StopsShort self.old self.new out.old out.new) }
     {
         if !self.imported {
@@ -69,10 +70,10 @@ impl Kept {
 
     /// What is made of a request here.
     fn verdict(&self, request: &Request) -> Verdict
-        requires whole { IsRequest (request_view request.now) }
-        ensures value { (st : State) → Holds self.now st → verdict_view result ≡ verdict_of st (request_view request.now) }
-        ensures carried { IsCarried (wide_bulk self.now.caps) (verdict_view result) (request_view request.now) }
-        ensures answered { CanGo self.now (request_view request.now) (verdict_view result) }
+        requires whole { IsRequest request.now }
+        ensures value { (st : State) → Holds self.now st → result ≡ verdict_of st request.now }
+        ensures carried { IsCarried (wide_bulk self.now.caps) result request.now }
+        ensures answered { CanGo self.now request.now result }
     {
         let changing = self.lives.change_waits();
         let wide = self.caps.has(WIDE_BULK_LENGTH);
@@ -97,7 +98,7 @@ impl Kept {
         requires packets { HasItsPackets request.now.packets request.now.descs }
         ensures kept { IsKept self.new }
         ensures ok { (st : State) → Holds self.old st → IsSound st
-            → OnOk result (Does st (mark_as st (Opens (submission st (request_view request.now) (Now status) [])) None) self.old self.new out.old out.new) }
+            → OnOk result (Does st (mark_as st (Opens (submission st request.now (Now status) [])) None) self.old self.new out.old out.new) }
         ensures err { OnErr result (StopsShort self.old self.new out.old out.new) }
     {
         out.notes.push(Note::Submitted {
@@ -113,11 +114,11 @@ impl Kept {
     fn send(&mut self, pipe: Pipe, request: Request, out: &mut Outputs) -> Result<(), Memory>
         requires kept { IsKept self.old }
         requires free { IsFree self.old request.number }
-        requires sent { IsSent (wide_bulk self.old.caps) (pipe_view pipe) request.transfer }
-        requires answered { CanAnswer (request_view request) (kind_of (Wire (pipe_view pipe)) request.transfer.ep) }
+        requires sent { IsSent (wide_bulk self.old.caps) pipe request.transfer }
+        requires answered { CanAnswer request (kind_of (Wire pipe) request.transfer.ep) }
         ensures kept { IsKept self.new }
         ensures ok { (st : State) → Holds self.old st → IsSound st
-            → OnOk result (Does st (mark_as st (Opens (submission st (request_view request) (Wire (pipe_view pipe)) (next_ids st 1))) None) self.old self.new out.old out.new) }
+            → OnOk result (Does st (mark_as st (Opens (submission st request (Wire pipe) (next_ids st 1))) None) self.old self.new out.old out.new) }
         ensures err { OnErr result (StopsShort self.old self.new out.old out.new) }
     {
         let id = self.draw(self.last);
@@ -165,11 +166,11 @@ impl Kept {
     ) -> Result<(), Memory>
         requires kept { IsKept self.old }
         requires free { IsFree self.old request.number }
-        requires answered { CanAnswer (request_view request) (Routed route) }
+        requires answered { CanAnswer request (Routed route) }
         requires some { 1 ≤ length (route_packets route) }
         ensures kept { IsKept self.new }
         ensures ok { (st : State) → Holds self.old st → IsSound st
-            → OnOk result (Does st (mark_as st (Opens (submission st (request_view request) (verdict.Routed route) (drawn_for st (request_view request) (verdict.Routed route)))) None) self.old self.new out.old out.new) }
+            → OnOk result (Does st (mark_as st (Opens (submission st request (verdict.Routed route) (drawn_for st request (verdict.Routed route)))) None) self.old self.new out.old out.new) }
         ensures err { OnErr result (StopsShort self.old self.new out.old out.new) }
     {
         let end = StreamEnd::Change(route);

@@ -6,11 +6,12 @@ ghost use Rattle.usbip_urb.specs.declared.packet.UrbPacket.TheVariants.{Unlink a
 ghost use Rattle.usbip_urb.specs.Spelling.{spelling};
 ghost use Rattle.redir_wire.specs.Header.{IdFits};
 ghost use Rattle.unlink_race.specs.Searches.{has_number};
-ghost use Rattle.gate_history.specs.step.Items.{capped};
+ghost use Rattle.usbip_urb.specs.declared.client.ClientPacket.TheVariants.{Urb};
+ghost use Rattle.usb_base.specs.Number.{capped};
 ghost use Rattle.gate_history.specs.step.Marks.{Unlinks};
 ghost use Rattle.gate_history.specs.state.Flight.{wide_ids};
 ghost use Rattle.gate_history.specs.state.State.{State};
-ghost use Rattle.gate_history.specs.step.Meaning.{mark_as, urb_meaning};
+ghost use Rattle.gate_history.specs.step.Meaning.{mark_as, asked_meaning};
 ghost use Rattle.gate_history.specs.state.Sound.{IsSound};
 ghost use Rattle.gate_core.specs.inner.Unlink.{asked_of, CancelFits, HasMarked, HasTakenBack};
 ghost use Rattle.gate_core.specs.inner.Holds.{IsKept, Holds, Does, StopsShort};
@@ -18,7 +19,8 @@ ghost use Rattle.gate_core.specs.inner.Holds.{IsKept, Holds, Does, StopsShort};
 use crate::state::kept::Kept;
 use crate::write::outputs::Outputs;
 use gate_history::Note;
-use gate_parts::{ECONNRESET, client_refusal, write_cancel, write_ret_unlink};
+use gate_history::errno::ECONNRESET;
+use gate_parts::{client_refusal, write_cancel, write_ret_unlink};
 use unlink_race::LiveKind;
 use usb_base::{Memory, Reason};
 use usbip_urb::Unlink;
@@ -42,7 +44,7 @@ impl Kept {
         requires kept { IsKept self.old }
         ensures kept { IsKept self.new }
         ensures ok { (st : State) (at : ℕ) → place ≡ capped at → Holds self.old st → IsSound st → st.client_over ≡ false
-            → OnOk result (Does st (mark_as st (urb_meaning st at (UnlinkPacket unlink.now)) None) self.old self.new out.old out.new) }
+            → OnOk result (Does st (mark_as st (asked_meaning st at (Urb (UnlinkPacket unlink.now))) None) self.old self.new out.old out.new) }
         ensures err { OnErr result (StopsShort self.old self.new out.old out.new) }
     {
         if !self.imported {

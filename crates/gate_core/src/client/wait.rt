@@ -3,11 +3,10 @@
 ghost use Rattle.std.specs.Prelude.{◌≡◌, ◌++◌, ◌∷◌, [], ℕ, List, None, OnOk, OnErr};
 ghost use Rattle.gate_history.specs.state.Ups.{stream_at};
 ghost use Rattle.gate_history.specs.declared.note.Note.TheVariants.{Submitted};
-ghost use Rattle.gate_history.specs.client.Verdict.{Stream};
+ghost use Rattle.gate_history.specs.declared.verdict.Verdict.TheVariants.{Stream};
 ghost use Rattle.gate_history.specs.step.Meaning.{mark_as, accepts};
 ghost use Rattle.gate_history.specs.state.State.{State};
 ghost use Rattle.gate_history.specs.state.Sound.{IsSound};
-ghost use Rattle.gate_history.specs.client.Views.{request_view};
 ghost use Rattle.gate_parts.specs.host.Fill.{up_fill, up_bytes, filled_notes};
 ghost use Rattle.gate_core.specs.inner.Fill.{HasJoined, joined_rows};
 ghost use Rattle.gate_core.specs.inner.Holds.{IsKept, Holds, Does, StopsShort, IsFree, CanWait};
@@ -26,10 +25,10 @@ impl Kept {
     pub fn wait(&mut self, row: EpRow, request: Request, out: &mut Outputs) -> Result<(), Memory>
         requires kept { IsKept self.old }
         requires free { IsFree self.old request.number }
-        requires waits { CanWait (request_view request) }
+        requires waits { CanWait request }
         ensures kept { IsKept self.new }
         ensures ok { (st : State) → Holds self.old st → IsSound st
-            → OnOk result (Does st (mark_as st (accepts st (request_view request) (Stream row)) None) self.old self.new out.old out.new) }
+            → OnOk result (Does st (mark_as st (accepts st request (Stream row)) None) self.old self.new out.old out.new) }
         ensures err { OnErr result (StopsShort self.old self.new out.old out.new) }
     {
         let ep = request.ep();
@@ -51,11 +50,11 @@ impl Kept {
     ) -> Result<(), Memory>
         requires kept { IsKept self.old }
         requires free { IsFree self.old request.number }
-        requires waits { CanWait (request_view request) }
+        requires waits { CanWait request }
         ensures kept { IsKept self.new }
-        ensures joined { OnOk result (HasJoined up.old up.new (request_view request) self.old self.new) }
-        ensures sent { OnOk result (to_client.new ≡ to_client.old ++ up_bytes request.transfer.ep up.old (joined_rows up.old (request_view request) self.old)) }
-        ensures told { OnOk result (notes.new ≡ notes.old ++ Submitted request.number 0 ∷ filled_notes (up_fill request.transfer.ep up.old (joined_rows up.old (request_view request) self.old))) }
+        ensures joined { OnOk result (HasJoined up.old up.new request self.old self.new) }
+        ensures sent { OnOk result (to_client.new ≡ to_client.old ++ up_bytes request.transfer.ep up.old (joined_rows up.old request self.old)) }
+        ensures told { OnOk result (notes.new ≡ notes.old ++ Submitted request.number 0 ∷ filled_notes (up_fill request.transfer.ep up.old (joined_rows up.old request self.old))) }
         ensures same { OnErr result (self.new ≡ self.old) }
         ensures same_up { OnErr result (up.new ≡ up.old) }
         ensures err { OnErr result (Extends to_client.old to_client.new) }
@@ -85,11 +84,11 @@ impl Kept {
     fn start(&mut self, row: EpRow, request: Request, out: &mut Outputs) -> Result<(), Memory>
         requires kept { IsKept self.old }
         requires free { IsFree self.old request.number }
-        requires waits { CanWait (request_view request) }
+        requires waits { CanWait request }
         requires down { stream_at self.old.streams request.transfer.ep ≡ None }
         ensures kept { IsKept self.new }
         ensures ok { (st : State) → Holds self.old st → IsSound st
-            → OnOk result (Does st (mark_as st (accepts st (request_view request) (Stream row)) None) self.old self.new out.old out.new) }
+            → OnOk result (Does st (mark_as st (accepts st request (Stream row)) None) self.old self.new out.old out.new) }
         ensures err { OnErr result (StopsShort self.old self.new out.old out.new) }
     {
         out.notes.push(Note::Submitted {

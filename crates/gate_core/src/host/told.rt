@@ -9,7 +9,7 @@ ghost use Rattle.redir_data.specs.declared.packet.RedirPacket.TheVariants.{Plain
 ghost use Rattle.unlink_race.specs.declared.live.Live.{Live};
 ghost use Rattle.unlink_race.specs.Requests.{in_flight};
 ghost use Rattle.unlink_race.specs.Searches.{has_id};
-ghost use Rattle.gate_history.specs.step.Items.{capped};
+ghost use Rattle.usb_base.specs.Number.{capped};
 ghost use Rattle.gate_history.specs.step.Marks.{StreamTold};
 ghost use Rattle.gate_history.specs.state.Facts.{tell};
 ghost use Rattle.usb_base.specs.Status.{status_of};
@@ -18,7 +18,7 @@ ghost use Rattle.gate_history.specs.state.Flight.{wide_ids};
 ghost use Rattle.gate_history.specs.client.Submits.{has_id as submit_has_id};
 ghost use Rattle.gate_history.specs.state.State.{State, submits};
 ghost use Rattle.gate_history.specs.host.Responses.{response_of};
-ghost use Rattle.gate_history.specs.step.Meaning.{mark_as, fact_of, by_response, data_meaning, told_meaning};
+ghost use Rattle.gate_history.specs.step.Meaning.{mark_as, fact_of, by_response, told_meaning};
 ghost use Rattle.gate_history.specs.state.Sound.{IsSound};
 ghost use Rattle.gate_history.specs.step.Wants.{GivesSome};
 ghost use Rattle.gate_parts.specs.host.Responses.{response_view, stream_in, row_mismatch, IsAnswer, completes};
@@ -71,9 +71,9 @@ impl Kept {
         requires fits { ResponseFits header.now.kind (response_of (Carrying packet)) }
         ensures kept { IsKept self.new }
         ensures ok { (st : State) (at : ℕ) → place ≡ capped at → Holds self.old st → IsSound st
-            → OnOk result (Does st (mark_as st (data_meaning st at header.now packet) None) self.old self.new out.old out.new) }
+            → OnOk result (Does st (mark_as st (told_meaning st at header.now (Carrying packet)) None) self.old self.new out.old out.new) }
         ensures err { OnErr result (StopsShort self.old self.new out.old out.new) }
-        ensures wants { (st : State) (at : ℕ) → place ≡ capped at → Holds self.old st → IsSound st → OnErr result (GivesSome st (mark_as st (data_meaning st at header.now packet) None)) }
+        ensures wants { (st : State) (at : ℕ) → place ≡ capped at → Holds self.old st → IsSound st → OnErr result (GivesSome st (mark_as st (told_meaning st at header.now (Carrying packet)) None)) }
     {
         let Some(stream) = stream_in(&packet) else {
             return self.respond(place, header, data_of(packet), out);

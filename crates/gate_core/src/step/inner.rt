@@ -3,7 +3,7 @@
 ghost use Rattle.std.specs.Prelude.{◌≡◌, ◌≤◌, ℕ, List, [], IfOk};
 ghost use Rattle.packet_stream.specs.Split.{reads};
 ghost use Rattle.gate_history.specs.step.Events.{ClientEnd, HostEnd, event_of};
-ghost use Rattle.gate_history.specs.step.Items.{Item as PastItem};
+ghost use Rattle.gate_history.specs.declared.item.Item.{Item as PastItem};
 ghost use Rattle.gate_core.specs.step.Stands.{HasPast, Stands};
 ghost use Rattle.gate_core.specs.inner.Steps.{NextItem, TakesEvent, kept_of, ended_if};
 ghost use Rattle.gate_core.specs.inner.Sides.{IsSide, IsAt, FitsNext, TakesPiece};

@@ -1,7 +1,7 @@
 //! What becomes of the items of both streams: what each sends, and what is kept of it.
 
 ghost use Rattle.std.specs.Prelude.{◌≡◌, ◌≤◌, OnOk, OnErr, IfOk, false};
-ghost use Rattle.gate_history.specs.step.Items.{Item as PastItem};
+ghost use Rattle.gate_history.specs.declared.item.Item.{Item as PastItem};
 ghost use Rattle.gate_history.specs.state.State.{State};
 ghost use Rattle.gate_history.specs.step.Meaning.{mark_of};
 ghost use Rattle.gate_history.specs.step.Past.{is_left_out};

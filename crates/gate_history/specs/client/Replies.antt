@@ -1,11 +1,11 @@
 -- The replies to list and import requests: the one device, as it was told, or none.
-use Rattle.std.specs.Prelude.{ℕ, ◌-◌, ◌==◌, Bool, if◌then◌else◌, List, [], ◌∷◌, ◌++◌, length, take, replicate, codes, bytes_eq, Option, Some, None}
+use Rattle.std.specs.Prelude.{ℕ, ◌-◌, ◌==◌, Bool, if◌then◌else◌, List, [], ◌∷◌, ◌++◌, length, take, map, replicate, codes, bytes_eq, Option, Some, None}
+use Rattle.std.specs.Option.{option_map_or, option_to_list}
 use Rattle.usb_base.specs.Speed.{speed_of, usbip_speed}
 use Rattle.usbip_op.specs.declared.packet.OpPacket.{OpPacket}
 use Rattle.usbip_op.specs.declared.packet.OpPacket.TheVariants.{RepDevlist, RepImport}
 use Rattle.usbip_op.specs.declared.packet.DeviceRow.{DeviceRow}
 use Rattle.usbip_op.specs.declared.packet.IfaceRow.{IfaceRow}
-use Rattle.usbip_op.specs.declared.packet.Listed.{Listed}
 use Rattle.redir_wire.specs.declared.packet.Connect.{Connect}
 use Rattle.redir_wire.specs.declared.packet.InterfaceInfo.{InterfaceInfo}
 use Rattle.gate_history.specs.declared.facts.Facts.{Facts}
@@ -17,14 +17,11 @@ padded n text = text ++ replicate (n - length text) 0
 -- rows of class, subclass and protocol
 abbrev pub rows : List ℕ → List ℕ → List ℕ → List IfaceRow
 rows (c ∷ cs) (s ∷ ss) (p ∷ ps) = record { class = c; subclass = s; protocol = p; pad = 0 } ∷ rows cs ss ps
-rows [] ss ps = []
-rows (c ∷ cs) [] ps = []
-rows (c ∷ cs) (s ∷ ss) [] = []
+rows _ _ _ = []
 
 -- the first rows of an interface_info, as many as its count, which is at most 32; none before one is told
 abbrev pub interface_rows : Option InterfaceInfo → List IfaceRow
-interface_rows None = []
-interface_rows (Some info) = take info.count (rows info.class info.subclass info.protocol)
+interface_rows info = option_map_or (λ i. take i.count (rows i.class i.subclass i.protocol)) info []
 
 abbrev pub device_row : Facts → Connect → DeviceRow
 device_row f c = record {
@@ -46,12 +43,8 @@ device_row f c = record {
 
 -- ---- a list request
 
-abbrev pub devices_of : Facts → Option Connect → List Listed
-devices_of f None = []
-devices_of f (Some c) = record { device = device_row f c; interfaces = interface_rows f.interfaces } ∷ []
-
 abbrev pub list_reply : Facts → OpPacket
-list_reply f = RepDevlist 0 (devices_of f f.connect)
+list_reply f = RepDevlist 0 (map (λ c. record { device = device_row f c; interfaces = interface_rows f.interfaces }) (option_to_list f.connect))
 
 -- ---- an import request
 

@@ -1,21 +1,11 @@
 -- What a submit asks for, beside the bytes that it is written in.
-use Rattle.std.specs.Prelude.{ℕ, ◌+◌, ◌==◌, nat_lt, Bool, not, if◌then◌else◌, List, Some, None}
+use Rattle.std.specs.Prelude.{ℕ, ◌+◌, ◌==◌, nat_lt, Bool, not, if◌then◌else◌, Some, None}
 use Rattle.usb_base.specs.Setup.{setup_at}
 use Rattle.usb_base.specs.declared.setup.Setup.{Setup}
 use Rattle.usb_base.specs.declared.transfer.Transfer.{Transfer}
-use Rattle.usbip_urb.specs.declared.packet.IsoDesc.{IsoDesc}
 use Rattle.usbip_urb.specs.declared.packet.Submit.{Submit}
 use Rattle.usbip_urb.specs.Sizes.{is_out}
-
--- a transfer, and what its answer has of the submit
-pub record Request : Type 0 where
-  pub number : ℕ
-  pub is_in : Bool
-  pub flags : ℕ
-  -- number_of_packets, which the answer echoes
-  pub packets : ℕ
-  pub descs : List IsoDesc
-  pub transfer : Transfer
+use Rattle.gate_history.specs.declared.request.Request.{Request}
 
 -- bit 7 of an endpoint's address is its direction
 abbrev pub address : Bool → ℕ → ℕ
@@ -33,9 +23,6 @@ transfer_by control s = record {
   body = s.body;
 }
 
-abbrev pub transfer_of : Submit → Transfer
-transfer_of s = transfer_by (s.head.ep == 0) s
-
 abbrev pub request_of : Submit → Request
 request_of s = record {
   number = s.head.seqnum;
@@ -43,5 +30,5 @@ request_of s = record {
   flags = s.flags;
   packets = s.packets;
   descs = s.descs;
-  transfer = transfer_of s;
+  transfer = transfer_by (s.head.ep == 0) s;
 }

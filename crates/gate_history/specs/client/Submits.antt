@@ -1,15 +1,17 @@
 -- The accepted submits, how each ended, which are live, and which were asked back: by search of the past.
-use Rattle.std.specs.Prelude.{ℕ, ◌==◌, ◌&&◌, nat_le, not, Bool, true, false, if◌then◌else◌, List, [], ◌∷◌, ◌++◌, length, filter, map, Option, Some, None, is_none, ℤ}
-use Rattle.std.specs.Option.{option_map}
+use Rattle.std.specs.Prelude.{ℕ, ◌==◌, ◌&&◌, nat_le, not, Bool, true, false, if◌then◌else◌, List, [], ◌∷◌, ◌++◌, length, filter, Option, Some, None, is_none, ℤ}
+use Rattle.std.specs.Option.{option_map, option_or}
 use Rattle.usb_base.specs.declared.status.UsbStatus.{UsbStatus}
 use Rattle.usb_base.specs.declared.transfer.Outcome.{Outcome}
 use Rattle.usb_base.specs.Status.{is_success}
-use Rattle.control_route.specs.declared.route.Route.{Route}
 use Rattle.control_route.specs.Changes.{touches}
-use Rattle.gate_history.specs.client.Verdict.{Verdict, Now, Routed, IsoOut, Stream, goes_by_id}
+use Rattle.gate_history.specs.step.Folds.{rfold}
+use Rattle.gate_history.specs.declared.verdict.Verdict.{Verdict}
+use Rattle.gate_history.specs.declared.verdict.Verdict.TheVariants.{Now, Routed, IsoOut, Stream}
+use Rattle.gate_history.specs.client.Verdict.{goes_by_id}
 use Rattle.gate_history.specs.host.Fillings.{Given, Filling, given_to}
 use Rattle.gate_history.specs.step.Marks.{Submission, Effect, Opens, Waits, Arrives, Unlinks, Answers, StreamTold, Mark}
-use Rattle.gate_history.specs.state.Sides.{leaves, is_loss, or_else}
+use Rattle.gate_history.specs.state.Sides.{leaves, is_loss}
 
 -- how a submit ends
 pub data End : Type 0 where
@@ -36,8 +38,7 @@ opened _ = []
 
 -- in order
 abbrev pub accepted : List Mark → List Submission
-accepted [] = []
-accepted (m ∷ ms) = accepted ms ++ opened m.what
+accepted ms = rfold (λ before m. before ++ opened m.what) [] ms
 
 -- ---- their ends
 
@@ -58,14 +59,10 @@ is_waiting _ = false
 abbrev pub waits_at : ℕ → Submission → Bool
 waits_at ep s = is_waiting s.verdict && (s.request.transfer.ep == ep)
 
--- for those of a stream that ends with this route
-abbrev pub touches_stream : Route → Verdict → Bool
-touches_stream r (Stream row) = touches r row.interface
-touches_stream r _ = false
-
+-- for those of a stream that ends with this change
 abbrev pub is_touched : Verdict → Verdict → Bool
-is_touched (Routed r) v = touches_stream r v
-is_touched _ v = false
+is_touched (Routed r) (Stream row) = touches r row.interface
+is_touched _ _ = false
 
 abbrev pub packets_end : ℕ → List Filling → Submission → Option End
 packets_end ep fillings s = if waits_at ep s then option_map ByPackets (given_to fillings s.request.number) else None
@@ -86,7 +83,7 @@ ends e s = if leaves e then Some ByClient else (if is_loss e then Some ByLoss el
 -- the first item from the submit on that ends it
 abbrev pub end_of : List Mark → Submission → Option End
 end_of [] s = None
-end_of (m ∷ ms) s = or_else (end_of ms s) (if nat_le s.place (length ms) then ends m.what s else None)
+end_of (m ∷ ms) s = option_or (end_of ms s) (if nat_le s.place (length ms) then ends m.what s else None)
 
 abbrev pub is_live : List Mark → Submission → Bool
 is_live ms s = is_none (end_of ms s)
@@ -108,7 +105,7 @@ asks _ s = None
 -- the number of the first unlink that asks for it, after it and before its end
 abbrev pub unlinker : List Mark → Submission → Option ℕ
 unlinker [] s = None
-unlinker (m ∷ ms) s = or_else (unlinker ms s) (if nat_le s.place (length ms) && is_live ms s then asks m.what s else None)
+unlinker (m ∷ ms) s = option_or (unlinker ms s) (if nat_le s.place (length ms) && is_live ms s then asks m.what s else None)
 
 -- a live submit with its unlinker
 pub record Pending : Type 0 where
@@ -117,9 +114,6 @@ pub record Pending : Type 0 where
 
 abbrev pub pending : List Mark → Submission → Pending
 pending ms s = record { submit = s; unlinker = unlinker ms s }
-
-abbrev pub pendings : List Mark → List Pending
-pendings ms = map (pending ms) (live ms)
 
 -- ---- what a client leaves behind
 

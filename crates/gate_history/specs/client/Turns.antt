@@ -1,9 +1,9 @@
 -- How the submits of a number and their ends follow each other, and which packets to a client answer which submit.
+use Rattle.stream_buffers.specs.Fillings.{is_failed}
 use Rattle.std.specs.Prelude.{ℕ, ◌&&◌, not, Bool, true, false, if◌then◌else◌, List, [], ◌∷◌, ◌++◌, map, filter, Option, Some, None}
 use Rattle.usbip_urb.specs.declared.packet.UrbPacket.TheVariants as urb
 use Rattle.usbip_urb.specs.declared.client.ClientPacket.{ClientPacket}
 use Rattle.usbip_urb.specs.declared.client.ClientPacket.TheVariants.{Urb}
-use Rattle.gate_history.specs.write.Errno.{is_zero}
 use Rattle.gate_history.specs.client.Verdict.{is_wire}
 use Rattle.gate_history.specs.step.Marks.{Submission, Effect, Mark}
 use Rattle.gate_history.specs.client.Submits.{End, ByLoss, ByAnswer, ByUnlink, opened, end_of, ended, unlinker}
@@ -47,7 +47,7 @@ pub data Answer : Type 0 where
 -- the word to an unlink that came too late answers no submit
 abbrev pub answers_in : ClientPacket → List Answer
 answers_in (Urb (urb.RetSubmit r)) = Completed r.head.seqnum ∷ []
-answers_in (Urb (urb.RetUnlink r)) = if is_zero r.status then [] else Unlinked r.head.seqnum ∷ []
+answers_in (Urb (urb.RetUnlink r)) = if is_failed r.status then Unlinked r.head.seqnum ∷ [] else []
 answers_in _ = []
 
 -- the ends that aren't a client's leaving

@@ -1,6 +1,7 @@
 -- What is made of a submit: the first of these rules that applies. It takes what it needs to know as plain arguments,
 -- and is read without the rest of the gate.
-use Rattle.std.specs.Prelude.{ℕ, ◌==◌, ◌&&◌, nat_lt, nat_le, not, Bool, true, false, if◌then◌else◌, List, [], ◌∷◌, Option, Some, None, ℤ, pos}
+use Rattle.std.specs.Bool.{beq}
+use Rattle.std.specs.Prelude.{ℕ, ◌==◌, ◌&&◌, nat_lt, nat_le, not, Bool, true, false, if◌then◌else◌, List, [], ◌∷◌, Option, Some, None, pos}
 use Rattle.usb_base.specs.declared.setup.Setup.{Setup}
 use Rattle.usb_base.specs.declared.endpoint.EpKind.{EpKind}
 use Rattle.usb_base.specs.declared.endpoint.EpKind.TheVariants as kind
@@ -13,26 +14,13 @@ use Rattle.control_route.specs.declared.route.Route.{Route}
 use Rattle.control_route.specs.declared.route.Route.TheVariants as route
 use Rattle.control_route.specs.Routes.{route_of}
 use Rattle.control_route.specs.Changes.{is_change}
-use Rattle.gate_history.specs.write.Errno.{enoent, ebusy, einval, emsgsize, eshutdown}
-use Rattle.gate_history.specs.client.Requests.{Request, is_in_setup}
-
--- the kinds of transfers of which each is one packet to the host and one back
-pub data Pipe : Type 0 where
-  Control : Pipe
-  Bulk : Pipe
-  InterruptOut : Pipe
-
-pub data Verdict : Type 0 where
-  -- it is answered at once with this status
-  Now : (status : ℤ) → Verdict
-  -- it goes to the host as a packet of its own kind
-  Wire : Pipe → Verdict
-  -- it goes to the host by the packets of its route
-  Routed : Route → Verdict
-  -- it goes to the host as isochronous packets by the stream of an endpoint that has this row, and is answered at once
-  IsoOut : EpRow → Verdict
-  -- it waits for the packets of its endpoint's stream, which keeps this row
-  Stream : EpRow → Verdict
+use Rattle.gate_history.specs.declared.verdict.Pipe.{Pipe}
+use Rattle.gate_history.specs.declared.verdict.Pipe.TheVariants.{Control, Bulk, InterruptOut}
+use Rattle.gate_history.specs.declared.verdict.Verdict.{Verdict}
+use Rattle.gate_history.specs.declared.verdict.Verdict.TheVariants.{Now, Wire, Routed, IsoOut, Stream}
+use Rattle.gate_history.specs.declared.request.Request.{Request}
+use Rattle.gate_history.specs.declared.errno.TheConstants.{ENOENT, EBUSY, EINVAL, EMSGSIZE, ESHUTDOWN}
+use Rattle.gate_history.specs.client.Requests.{is_in_setup}
 
 -- the longest transfer where a packet has 16 bits for its length
 abbrev pub max_narrow : ℕ
@@ -46,32 +34,25 @@ none_of (x ∷ xs) = false
 
 abbrev pub by_route : Route → Verdict
 by_route route.Local = Now (pos 0)
-by_route (route.SetConfig configuration) = Routed (route.SetConfig configuration)
-by_route route.GetConfig = Routed route.GetConfig
-by_route (route.SetAlt interface alt) = Routed (route.SetAlt interface alt)
-by_route (route.GetAlt interface) = Routed (route.GetAlt interface)
-by_route route.Reset = Routed route.Reset
 by_route route.Plain = Wire Control
-by_route route.Bad = Now einval
-
-abbrev pub bool_eq : Bool → Bool → Bool
-bool_eq a b = if a then b else not b
+by_route route.Bad = Now EINVAL
+by_route r = Routed r
 
 abbrev pub by_setup : Request → Setup → Verdict
 by_setup r s =
-    if not (none_of r.descs) then Now einval
-    else if not (s.length == 0) && not (bool_eq (is_in_setup s) r.is_in) then Now einval
-    else if not (s.length == r.transfer.wanted) then Now einval
+    if not (none_of r.descs) then Now EINVAL
+    else if not (s.length == 0) && not (beq (is_in_setup s) r.is_in) then Now EINVAL
+    else if not (s.length == r.transfer.wanted) then Now EINVAL
     else by_route (route_of s)
 
 -- ---- the other endpoints
 
 abbrev pub by_kind : Request → EpRow → EpKind → Verdict
-by_kind r row kind.Control = Now einval
+by_kind r row kind.Control = Now EINVAL
 by_kind r row kind.Iso = if r.is_in then Stream row else IsoOut row
 by_kind r row kind.Bulk = Wire Bulk
 by_kind r row kind.Interrupt = if r.is_in then Stream row else Wire InterruptOut
-by_kind r row kind.Invalid = Now enoent
+by_kind r row kind.Invalid = Now ENOENT
 
 abbrev pub is_control : EpKind → Bool
 is_control kind.Control = true
@@ -93,25 +74,25 @@ is_narrow wide is_in _ = false
 
 abbrev pub by_endpoint : Bool → Request → EpRow → Verdict
 by_endpoint wide r row =
-    if is_invalid row.kind then Now enoent
-    else if is_control row.kind then Now einval
-    else if bool_eq (is_iso row.kind) (none_of r.descs) then Now einval
-    else if not (laid r.descs r.transfer.wanted) then Now einval
-    else if is_narrow wide r.is_in row.kind && nat_lt max_narrow r.transfer.wanted then Now emsgsize
+    if is_invalid row.kind then Now ENOENT
+    else if is_control row.kind then Now EINVAL
+    else if beq (is_iso row.kind) (none_of r.descs) then Now EINVAL
+    else if not (laid r.descs r.transfer.wanted) then Now EINVAL
+    else if is_narrow wide r.is_in row.kind && nat_lt max_narrow r.transfer.wanted then Now EMSGSIZE
     else by_kind r row row.kind
 
 -- ---- both
 
 abbrev pub by_transfer : Bool → EpTable → Bool → Request → Option Setup → Verdict
 by_transfer changing table wide r (Some setup) = by_setup r setup
-by_transfer changing table wide r None = if changing then Now enoent else by_endpoint wide r (row_of table r.transfer.ep)
+by_transfer changing table wide r None = if changing then Now ENOENT else by_endpoint wide r (row_of table r.transfer.ep)
 
 -- the device was lost since the import, so many submits are live, one of them is a change, the endpoints are these,
 -- and bulk packets have 32 bits for their lengths
 abbrev pub verdict : Bool → ℕ → Bool → EpTable → Bool → Request → Verdict
 verdict lost live changing table wide r =
-    if lost then Now eshutdown
-    else if nat_le MAX_LIVE live then Now ebusy
+    if lost then Now ESHUTDOWN
+    else if nat_le MAX_LIVE live then Now EBUSY
     else by_transfer changing table wide r r.transfer.setup
 
 -- ---- what a verdict says of a submit

@@ -8,7 +8,7 @@ use Rattle.stream_buffers.specs.declared.iso.IsoOutcome.{IsoOutcome}
 use Rattle.stream_buffers.specs.Cuts.{Cut}
 use Rattle.stream_buffers.specs.Interrupt.{interrupt_cut}
 use Rattle.stream_buffers.specs.Iso.{iso_cut}
-use Rattle.gate_history.specs.client.Requests.{Request}
+use Rattle.gate_history.specs.declared.request.Request.{Request}
 use Rattle.gate_history.specs.client.Verdict.{none_of}
 
 -- what packets give to a request: an interrupt transfer, or an isochronous one
@@ -42,13 +42,10 @@ cut_of max_packet r packets =
 abbrev pub none_filled : List StreamPacket → Fill
 none_filled packets = record { fillings = []; left = packets }
 
-abbrev pub with_filling : ℕ → Given → Fill → Fill
-with_filling number given fill = record { fillings = record { number = number; given = given } ∷ fill.fillings; left = fill.left }
-
 -- where a request isn't filled, none behind it is
 abbrev pub filled_by : ℕ → List StreamPacket → Option (Cut Given) → (List StreamPacket → Fill) → Fill
 filled_by number packets None rest = none_filled packets
-filled_by number packets (Some cut) rest = with_filling number cut.gives (rest cut.leaves)
+filled_by number packets (Some cut) rest = record (rest cut.leaves) { fillings = record { number = number; given = cut.gives } ∷ (rest cut.leaves).fillings }
 
 abbrev pub fill : ℕ → List Request → List StreamPacket → Fill
 fill max_packet [] packets = none_filled packets

@@ -14,9 +14,11 @@ use Rattle.redir_data.specs.declared.packet.RedirPacket.{RedirPacket}
 use Rattle.redir_data.specs.declared.packet.RedirPacket.TheVariants.{Plain, Carrying}
 use Rattle.control_route.specs.declared.route.Route.{Route}
 use Rattle.control_route.specs.declared.route.Route.TheVariants as route
-use Rattle.gate_history.specs.step.Items.{capped}
-use Rattle.gate_history.specs.client.Requests.{Request}
-use Rattle.gate_history.specs.client.Verdict.{Control, Bulk, InterruptOut, Verdict, Now, Wire, Routed, IsoOut, Stream}
+use Rattle.usb_base.specs.Number.{capped}
+use Rattle.gate_history.specs.declared.request.Request.{Request}
+use Rattle.gate_history.specs.declared.verdict.Pipe.TheVariants.{Control, Bulk, InterruptOut}
+use Rattle.gate_history.specs.declared.verdict.Verdict.{Verdict}
+use Rattle.gate_history.specs.declared.verdict.Verdict.TheVariants.{Wire, Routed}
 use Rattle.gate_history.specs.step.Marks.{Submission}
 
 pub data Response : Type 0 where
@@ -32,11 +34,10 @@ outcome status done body = record { status = status_of status; done = done; body
 abbrev pub response_of : RedirPacket → Option Response
 response_of (Plain (plain.ConfigurationStatus status configuration)) = Some (Status status configuration)
 response_of (Plain (plain.AltStatus status interface alt)) = Some (Status status alt)
-response_of (Plain _) = None
 response_of (Carrying (data_packet.Control endpoint request kind status value index length body)) = Some (Data endpoint 8 (outcome status length body))
 response_of (Carrying (data_packet.Bulk endpoint status length stream body)) = Some (Data endpoint 2 (outcome status length body))
 response_of (Carrying (data_packet.Interrupt endpoint status length body)) = if is_in_endpoint endpoint then None else Some (Data endpoint 2 (outcome status length body))
-response_of (Carrying (data_packet.Iso endpoint status length body)) = None
+response_of _ = None
 
 -- ---- whether it is the answer of the request that has its id
 
@@ -51,9 +52,7 @@ answer_kind (Wire Control) = 100
 answer_kind (Wire Bulk) = 101
 answer_kind (Wire InterruptOut) = 103
 answer_kind (Routed r) = route_answer r
-answer_kind (Now status) = 0
-answer_kind (IsoOut row) = 0
-answer_kind (Stream row) = 0
+answer_kind _ = 0
 
 abbrev pub mismatched : ℕ → ℕ → ℕ → Refusal
 mismatched place expected came = record { side = Host; place = capped place; reason = Mismatch; kept = Some (expected, came) }

@@ -1,12 +1,13 @@
 -- The ids of the packets that start and stop the streams of endpoints: of each endpoint's place in the table its last
 -- start, and the last stop after that.
-use Rattle.std.specs.Prelude.{ℕ, ◌==◌, if◌then◌else◌, List, [], ◌∷◌, ◌++◌, replicate, slice_set, zip, Option, Some, None}
-use Rattle.std.specs.List.{flat_map}
-use Rattle.std.specs.Option.{option_to_list}
+use Rattle.std.specs.Prelude.{ℕ, ◌==◌, if◌then◌else◌, List, [], ◌∷◌, ◌++◌, replicate, slice_set, zip, fold, Option, Some, None}
+use Rattle.std.specs.List.{flat_map, last_or}
+use Rattle.std.specs.Option.{option_to_list, option_and_then}
 use Rattle.usb_base.specs.Endpoint.{endpoint_index}
 use Rattle.redir_wire.specs.declared.packet.RedirControl.TheVariants as plain
 use Rattle.redir_data.specs.declared.packet.RedirPacket.{RedirPacket}
-use Rattle.redir_data.specs.declared.packet.RedirPacket.TheVariants.{Plain, Carrying}
+use Rattle.redir_data.specs.declared.packet.RedirPacket.TheVariants.{Plain}
+use Rattle.gate_history.specs.step.Folds.{rfold}
 use Rattle.gate_history.specs.step.Marks.{Effect, StreamTold, Mark}
 use Rattle.gate_history.specs.state.Sides.{leaves, is_loss}
 use Rattle.gate_history.specs.state.Ups.{Up, streams}
@@ -31,13 +32,11 @@ called_by id (Plain (plain.StartIso endpoint pkts_per_urb no_urbs)) c = started 
 called_by id (Plain (plain.StartInterrupt endpoint)) c = started endpoint id c
 called_by id (Plain (plain.StopIso endpoint)) c = stopped endpoint id c
 called_by id (Plain (plain.StopInterrupt endpoint)) c = stopped endpoint id c
-called_by id (Plain _) c = c
-called_by id (Carrying d) c = c
+called_by id _ c = c
 
 -- by several, the first that was sent first
 abbrev pub called : List (ℕ × RedirPacket) → Calls → Calls
-called [] c = c
-called (p ∷ ps) c = called ps (called_by p.0 p.1 c)
+called ps c = fold (λ before p. called_by p.0 p.1 before) c ps
 
 -- the packets of an item that have ids of their own
 abbrev pub asking : List (Option Up) → Mark → List (ℕ × RedirPacket)
@@ -53,13 +52,8 @@ call_ids c = flat_map option_to_list c.started ++ flat_map option_to_list c.stop
 -- ---- the fence: the last stop that a client's leaving sent, until the host's word on it has come or the device is lost.
 -- What that client's streams still send comes before that word
 
-abbrev pub last_or : Option ℕ → List ℕ → Option ℕ
-last_or before [] = before
-last_or before (id ∷ ids) = last_or (Some id) ids
-
 abbrev pub lifted : ℕ → Option ℕ → Option ℕ
-lifted id None = None
-lifted id (Some fence) = if fence == id then None else Some fence
+lifted id fence = option_and_then (λ f. if f == id then None else Some f) fence
 
 abbrev pub moved_fence : Effect → Option ℕ → Option ℕ
 moved_fence (StreamTold id ep status) fence = lifted id fence
@@ -70,5 +64,4 @@ abbrev pub fence_after : Effect → List ℕ → Option ℕ → Option ℕ
 fence_after e drawn fence = if leaves e then last_or fence drawn else if is_loss e then None else moved_fence e fence
 
 abbrev pub fence : List Mark → Option ℕ
-fence [] = None
-fence (m ∷ ms) = fence_after m.what m.drawn (fence ms)
+fence ms = rfold (λ before m. fence_after m.what m.drawn before) None ms

@@ -1,6 +1,7 @@
 -- What the host has told of its device: of each fact the last, since the device was last lost.
-use Rattle.std.specs.Prelude.{if◌then◌else◌, List, [], ◌∷◌, Option, Some, None}
+use Rattle.std.specs.Prelude.{if◌then◌else◌, List, Option, Some, None}
 use Rattle.usb_base.specs.Endpoint.{no_endpoints}
+use Rattle.gate_history.specs.step.Folds.{rfold}
 use Rattle.gate_history.specs.declared.facts.Facts.{Facts}
 use Rattle.gate_history.specs.step.Marks.{Effect, Fact, Connected, Interfaces, Endpoints, Configuration, Mark}
 use Rattle.gate_history.specs.state.Sides.{is_loss}
@@ -21,5 +22,4 @@ abbrev pub facts_after : Effect → Option Fact → Facts → Facts
 facts_after e told f = if is_loss e then no_facts else tell f told
 
 abbrev pub facts : List Mark → Facts
-facts [] = no_facts
-facts (m ∷ ms) = facts_after m.what m.told (facts ms)
+facts ms = rfold (λ f m. facts_after m.what m.told f) no_facts ms

@@ -1,7 +1,8 @@
 -- The ids in flight, and those that an item draws.
-use Rattle.std.specs.Prelude.{ℕ, ◌-◌, Bool, List, [], ◌∷◌, ◌++◌, map, filter}
+use Rattle.std.specs.Prelude.{ℕ, ◌-◌, Bool, List, ◌++◌, map, filter}
 use Rattle.redir_wire.specs.declared.packet.Caps.{Caps}
 use Rattle.redir_wire.specs.Capability.{has}
+use Rattle.gate_history.specs.step.Folds.{rfold}
 use Rattle.gate_history.specs.state.Ids.{last_of}
 use Rattle.gate_history.specs.client.Verdict.{goes_by_id}
 use Rattle.gate_history.specs.step.Marks.{Submission, Mark}
@@ -24,5 +25,4 @@ in_flight ms = ids_of (live ms) ++ ids_of (abandoned ms) ++ call_ids (calls ms)
 
 -- the last id that was drawn; the first of all is the first id, which stands after `first - 1`
 abbrev pub last_drawn : ℕ → List Mark → ℕ
-last_drawn first [] = first - 1
-last_drawn first (m ∷ ms) = last_of (last_drawn first ms) m.drawn
+last_drawn first ms = rfold (λ last m. last_of last m.drawn) (first - 1) ms

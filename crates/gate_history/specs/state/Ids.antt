@@ -1,5 +1,5 @@
 -- How ids are drawn: in turn from 1 to the greatest, past those that are in flight.
-use Rattle.std.specs.Prelude.{◌≡◌, ℕ, zero, suc, ◌+◌, ◌≤◌, ◌==◌, nat_lt, nat_eq, Bool, true, false, if◌then◌else◌, List, [], ◌∷◌, length}
+use Rattle.std.specs.Prelude.{◌≡◌, ℕ, zero, suc, ◌+◌, ◌≤◌, ◌==◌, nat_lt, nat_eq, Bool, true, false, if◌then◌else◌, List, [], ◌∷◌, length, fold}
 use Rattle.std.specs.List.{list_any, AllByRecursion, IsDistinct}
 
 -- the id after this one; 1 comes after m
@@ -25,8 +25,7 @@ draws m flying last (suc n) = draw m flying last ∷ draws m flying (draw m flyi
 
 -- the last drawn, after these were drawn
 abbrev pub last_of : ℕ → List ℕ → ℕ
-last_of last [] = last
-last_of last (id ∷ ids) = last_of id ids
+last_of last ids = fold (λ before id. id) last ids
 
 -- the greatest id, without 64-bit ids and with them
 abbrev pub greatest : Bool → ℕ

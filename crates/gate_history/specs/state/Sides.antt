@@ -1,12 +1,14 @@
 -- Which sides are refused, over, gone, imported and lost. Only this file says which effects these are.
-use Rattle.std.specs.Prelude.{ℕ, Bool, true, false, not, ◌||◌, if◌then◌else◌, List, [], ◌∷◌, Option, Some, None, unwrap_or}
+use Rattle.std.specs.Option.{option_map_or}
+use Rattle.std.specs.Prelude.{ℕ, Bool, true, false, not, ◌||◌, if◌then◌else◌, List, Option, Some, None, unwrap_or}
 use Rattle.usb_base.specs.declared.side.Side.{Side}
 use Rattle.usb_base.specs.declared.side.Side.TheVariants.{Client, Host}
 use Rattle.usb_base.specs.declared.reason.Reason.{Reason}
 use Rattle.usb_base.specs.declared.refusal.Refusal.{Refusal}
 use Rattle.redir_wire.specs.declared.packet.Caps.{Caps}
 use Rattle.redir_wire.specs.Capability.{no_caps}
-use Rattle.gate_history.specs.step.Items.{capped}
+use Rattle.usb_base.specs.Number.{capped}
+use Rattle.gate_history.specs.step.Folds.{rfold}
 use Rattle.gate_history.specs.step.Marks.{Effect, Imports, Agrees, Disconnects, Ends, Refuses, Mark}
 
 -- ---- of one effect
@@ -23,15 +25,11 @@ abbrev pub is_client : Side → Bool
 is_client Client = true
 is_client Host = false
 
-abbrev pub is_of : Bool → Option Refusal → Bool
-is_of client None = false
-is_of client (Some r) = if client then is_client r.side else not (is_client r.side)
-
 abbrev pub refuses_client : Effect → Bool
-refuses_client e = is_of true (refused_at e)
+refuses_client e = option_map_or (λ r. is_client r.side) (refused_at e) false
 
 abbrev pub refuses_host : Effect → Bool
-refuses_host e = is_of false (refused_at e)
+refuses_host e = option_map_or (λ r. not (is_client r.side)) (refused_at e) false
 
 abbrev pub ends_client : Effect → Bool
 ends_client (Ends side) = is_client side
@@ -61,9 +59,6 @@ closes_host e = ends_host e || refuses_host e
 abbrev pub is_loss : Effect → Bool
 is_loss e = disconnects e || closes_host e
 
-abbrev pub never : Effect → Bool
-never e = false
-
 abbrev pub agrees : Effect → Option Caps
 agrees (Agrees caps) = Some caps
 agrees _ = None
@@ -75,8 +70,7 @@ abbrev pub turned : (Effect → Bool) → (Effect → Bool) → Effect → Bool 
 turned starts stops e before = if starts e then true else (if stops e then false else before)
 
 abbrev pub since : (Effect → Bool) → (Effect → Bool) → List Mark → Bool
-since starts stops [] = false
-since starts stops (m ∷ ms) = turned starts stops m.what (since starts stops ms)
+since starts stops ms = rfold (λ before m. turned starts stops m.what before) false ms
 
 -- the present client's import succeeded, and it isn't gone
 abbrev pub imported : List Mark → Bool
@@ -91,16 +85,8 @@ abbrev pub client_over : List Mark → Bool
 client_over ms = since refuses_client ends_client ms
 
 abbrev pub host_over : List Mark → Bool
-host_over ms = since closes_host never ms
-
-abbrev pub or_else : {A : Type 0} → Option A → Option A → Option A
-or_else (Some a) b = Some a
-or_else None b = b
-
-abbrev pub agreed_after : Effect → Caps → Caps
-agreed_after e caps = unwrap_or (agrees e) caps
+host_over ms = since closes_host (λ e. false) ms
 
 -- the capabilities that are agreed, which are none before the host's hello
 abbrev pub agreed : List Mark → Caps
-agreed [] = no_caps
-agreed (m ∷ ms) = agreed_after m.what (agreed ms)
+agreed ms = rfold (λ caps m. unwrap_or (agrees m.what) caps) no_caps ms

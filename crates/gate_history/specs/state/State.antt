@@ -8,7 +8,7 @@ use Rattle.gate_history.specs.client.Verdict.{changes}
 use Rattle.gate_history.specs.step.Marks.{Submission, Mark}
 use Rattle.gate_history.specs.state.Sides.{imported, lost, client_over, host_over, agreed}
 use Rattle.gate_history.specs.state.Facts.{facts}
-use Rattle.gate_history.specs.client.Submits.{Pending, pendings, abandoned}
+use Rattle.gate_history.specs.client.Submits.{Pending, abandoned, pending, live}
 use Rattle.gate_history.specs.state.Ups.{Up, streams}
 use Rattle.gate_history.specs.state.Calls.{Calls, calls, call_ids, fence}
 use Rattle.gate_history.specs.state.Flight.{wide_ids, ids_of, last_drawn}
@@ -41,7 +41,7 @@ state_of first ms = record {
   lost = lost ms;
   client_over = client_over ms;
   host_over = host_over ms;
-  live = pendings ms;
+  live = map (pending ms) (live ms);
   abandoned = abandoned ms;
   streams = streams ms;
   calls = calls ms;

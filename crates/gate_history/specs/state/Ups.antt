@@ -1,14 +1,16 @@
 -- The streams of a device's endpoints that are up, by the endpoints' places in its table. A stream keeps the row that its
 -- endpoint had when it went up, and holds packets.
-use Rattle.std.specs.Prelude.{ℕ, ◌%◌, nat_lt, Bool, true, if◌then◌else◌, List, [], ◌∷◌, ◌||◌, map, replicate, get_or, slice_set, Option, Some, None}
-use Rattle.std.specs.Option.{option_map}
+use Rattle.std.specs.Prelude.{ℕ, ◌%◌, nat_lt, Bool, true, if◌then◌else◌, List, [], ◌||◌, map, replicate, get_or, slice_set, Option, Some, None, is_some}
+use Rattle.std.specs.Option.{option_map, option_and_then, option_map_or}
 use Rattle.usb_base.specs.declared.endpoint.EpRow.{EpRow}
 use Rattle.usb_base.specs.declared.transfer.StreamPacket.{StreamPacket}
 use Rattle.usb_base.specs.Endpoint.{endpoint_index}
 use Rattle.usb_base.specs.Status.{is_success}
 use Rattle.control_route.specs.declared.route.Route.{Route}
 use Rattle.control_route.specs.Changes.{touches}
-use Rattle.gate_history.specs.client.Verdict.{Verdict, Now, Wire, Routed, IsoOut, Stream}
+use Rattle.gate_history.specs.step.Folds.{rfold}
+use Rattle.gate_history.specs.declared.verdict.Verdict.{Verdict}
+use Rattle.gate_history.specs.declared.verdict.Verdict.TheVariants.{Routed, IsoOut, Stream}
 use Rattle.gate_history.specs.step.Marks.{Effect, Opens, Waits, Arrives, StreamTold, Mark}
 use Rattle.gate_history.specs.state.Sides.{leaves, is_loss}
 
@@ -31,22 +33,16 @@ abbrev pub stream_of : List (Option Up) → ℕ → Option Up
 stream_of ups byte = if nat_lt (byte % 128) 16 then stream_at ups byte else None
 
 abbrev pub held_of : Option Up → List StreamPacket
-held_of None = []
-held_of (Some up) = up.held
+held_of up = option_map_or (λ u. u.held) up []
 
 -- ---- they go up and down
 
-abbrev pub raised : List (Option Up) → Up → Option Up → List (Option Up)
-raised ups up None = slice_set ups (endpoint_index up.ep) (Some up)
-raised ups up (Some before) = ups
-
 -- one that is up stays as it is
 abbrev pub raise : Up → List (Option Up) → List (Option Up)
-raise up ups = raised ups up (stream_at ups up.ep)
+raise up ups = if is_some (stream_at ups up.ep) then ups else slice_set ups (endpoint_index up.ep) (Some up)
 
 abbrev pub unless : (Up → Bool) → Option Up → Option Up
-unless test None = None
-unless test (Some up) = if test up then None else Some up
+unless test up = option_and_then (λ u. if test u then None else Some u) up
 
 -- those that pass the test go down
 abbrev pub lower : (Up → Bool) → List (Option Up) → List (Option Up)
@@ -62,18 +58,16 @@ hold ep packets ups = slice_set ups (endpoint_index ep) (option_map (λ (up : Up
 
 -- one of an interface whose transfers end with the route, which no route is where the client is gone
 abbrev pub is_ended : Option Route → Up → Bool
-is_ended None up = true
-is_ended (Some r) up = touches r up.row.interface
+is_ended route up = option_map_or (λ r. touches r up.row.interface) route true
 
 -- ---- by what an item means
 
 -- a change ends those that it touches, and a transfer by a stream needs one
 abbrev pub opened_streams : Verdict → ℕ → List (Option Up) → List (Option Up)
-opened_streams (Now status) ep ups = ups
-opened_streams (Wire pipe) ep ups = ups
 opened_streams (Routed r) ep ups = lower (is_ended (Some r)) ups
 opened_streams (IsoOut row) ep ups = raise (record { ep = ep; row = row; held = [] }) ups
 opened_streams (Stream row) ep ups = raise (record { ep = ep; row = row; held = [] }) ups
+opened_streams _ ep ups = ups
 
 -- where the client stays and the device isn't lost
 abbrev pub moved_streams : Effect → List (Option Up) → List (Option Up)
@@ -87,5 +81,4 @@ abbrev pub streams_after : Effect → List (Option Up) → List (Option Up)
 streams_after e ups = if leaves e || is_loss e then no_streams else moved_streams e ups
 
 abbrev pub streams : List Mark → List (Option Up)
-streams [] = no_streams
-streams (m ∷ ms) = streams_after m.what (streams ms)
+streams ms = rfold (λ ups m. streams_after m.what ups) no_streams ms

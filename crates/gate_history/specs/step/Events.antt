@@ -21,13 +21,10 @@ abbrev pub client_bytes : List Event → List ℕ
 client_bytes [] = []
 client_bytes (ClientPiece b ∷ past) = client_bytes past ++ b
 client_bytes (ClientEnd ∷ past) = []
-client_bytes (HostPiece b ∷ past) = client_bytes past
-client_bytes (HostEnd ∷ past) = client_bytes past
+client_bytes (_ ∷ past) = client_bytes past
 
 -- all that the host has sent
 abbrev pub host_bytes : List Event → List ℕ
 host_bytes [] = []
 host_bytes (HostPiece b ∷ past) = host_bytes past ++ b
-host_bytes (HostEnd ∷ past) = host_bytes past
-host_bytes (ClientPiece b ∷ past) = host_bytes past
-host_bytes (ClientEnd ∷ past) = host_bytes past
+host_bytes (_ ∷ past) = host_bytes past

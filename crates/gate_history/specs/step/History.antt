@@ -1,5 +1,5 @@
 -- The history of a list of events: the items in the order in which packets become whole, with what each means.
-use Rattle.std.specs.Prelude.{ℕ, ◌+◌, if◌then◌else◌, List, [], ◌∷◌, ◌++◌, length, map, drop, Option, Some, None}
+use Rattle.std.specs.Prelude.{Option, Some, None, ℕ, ◌+◌, if◌then◌else◌, List, [], ◌∷◌, ◌++◌, length, map, drop, fold}
 use Rattle.usb_base.specs.declared.reason.Reason.{Reason}
 use Rattle.packet_stream.specs.Split.{Splitting, split}
 use Rattle.redir_wire.specs.declared.packet.Header.{Header}
@@ -7,7 +7,8 @@ use Rattle.redir_data.specs.declared.packet.RedirPacket.{RedirPacket}
 use Rattle.redir_data.specs.declared.state.RedirState.{RedirState}
 use Rattle.usbip_urb.specs.declared.client.ClientPacket.{ClientPacket}
 use Rattle.gate_history.specs.step.Events.{Event, ClientPiece, ClientEnd, HostPiece, HostEnd, client_bytes, host_bytes}
-use Rattle.gate_history.specs.step.Items.{Item, Asked, ClientWrong, ClientLeft, Told, HostWrong, HostLeft}
+use Rattle.gate_history.specs.declared.item.Item.{Item}
+use Rattle.gate_history.specs.declared.item.Item.TheVariants.{Asked, ClientWrong, ClientLeft, Told, HostWrong, HostLeft}
 use Rattle.gate_history.specs.step.Streams.{client_reader, client_start, host_reader, host_start}
 use Rattle.gate_history.specs.step.Marks.{Mark}
 use Rattle.gate_history.specs.state.Sides.{client_over, host_over}
@@ -21,20 +22,17 @@ client_split bytes = split client_reader client_start bytes
 abbrev pub host_split : List ℕ → Splitting RedirState (Header × RedirPacket) Reason
 host_split bytes = split host_reader host_start bytes
 
-abbrev pub client_wrong : Option (ℕ × Reason) → List Item
-client_wrong None = []
-client_wrong (Some w) = ClientWrong w.0 w.1 ∷ []
-
-abbrev pub host_wrong : Option (ℕ × Reason) → List Item
-host_wrong None = []
-host_wrong (Some w) = HostWrong w.0 w.1 ∷ []
+-- of the wrong place, where there is one
+abbrev pub wrong_items : (ℕ → Reason → Item) → Option (ℕ × Reason) → List Item
+wrong_items wrong None = []
+wrong_items wrong (Some w) = wrong w.0 w.1 ∷ []
 
 -- the items of a client's bytes, and of the host's
 abbrev pub client_items : List ℕ → List Item
-client_items bytes = map (λ p. Asked p.0 p.1) (client_split bytes).packets ++ client_wrong (client_split bytes).wrong
+client_items bytes = map (λ p. Asked p.0 p.1) (client_split bytes).packets ++ wrong_items ClientWrong (client_split bytes).wrong
 
 abbrev pub host_items : List ℕ → List Item
-host_items bytes = map (λ p. Told p.0 p.1.0 p.1.1) (host_split bytes).packets ++ host_wrong (host_split bytes).wrong
+host_items bytes = map (λ p. Told p.0 p.1.0 p.1.1) (host_split bytes).packets ++ wrong_items HostWrong (host_split bytes).wrong
 
 -- ---- the items of events
 
@@ -50,8 +48,7 @@ brought events HostEnd = HostLeft ∷ []
 
 -- items that came one after another, put on those before them
 abbrev pub onto : List Item → List Item → List Item
-onto [] before = before
-onto (x ∷ xs) before = onto xs (x ∷ before)
+onto xs before = fold (λ above x. x ∷ above) before xs
 
 -- all that came, the latest first
 abbrev pub arrivals : List Event → List Item

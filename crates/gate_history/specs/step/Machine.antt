@@ -1,12 +1,13 @@
 -- The same as a machine: a state that steps with each item, and keeps no past. First what the item means, by the whole
 -- state; then each part steps by itself.
-use Rattle.std.specs.Prelude.{◌≡◌, ℕ, suc, ◌-◌, false, if◌then◌else◌, List, [], ◌∷◌, ◌++◌, map, filter, is_none, None}
+use Rattle.std.specs.Option.{option_or}
+use Rattle.std.specs.Prelude.{◌≡◌, ℕ, suc, ◌-◌, false, if◌then◌else◌, List, [], ◌∷◌, ◌++◌, map, filter, is_none, None, unwrap_or}
 use Rattle.redir_wire.specs.Capability.{no_caps}
 use Rattle.gate_history.specs.declared.note.Counts.{Counts}
 use Rattle.gate_history.specs.step.Events.{Event}
-use Rattle.gate_history.specs.step.Items.{Item}
+use Rattle.gate_history.specs.declared.item.Item.{Item}
 use Rattle.gate_history.specs.step.Marks.{Effect, Mark}
-use Rattle.gate_history.specs.state.Sides.{turned, imports, leaves, is_loss, refuses_client, ends_client, closes_host, never, or_else, agreed_after}
+use Rattle.gate_history.specs.state.Sides.{turned, imports, leaves, is_loss, refuses_client, ends_client, closes_host, agrees}
 use Rattle.gate_history.specs.state.Facts.{no_facts, facts_after}
 use Rattle.gate_history.specs.client.Submits.{Pending, ends, asks, abandoned_after}
 use Rattle.gate_history.specs.state.Ids.{last_of}
@@ -39,7 +40,7 @@ start first = record {
 }
 
 abbrev pub ask : Effect → Pending → Pending
-ask e p = record p { unlinker = or_else p.unlinker (asks e p.submit) }
+ask e p = record p { unlinker = option_or p.unlinker (asks e p.submit) }
 
 -- those that it ends go, and those that it asks back are marked
 abbrev pub live_after : State → Effect → List Pending
@@ -49,11 +50,11 @@ abbrev pub after : State → Mark → State
 after st m = record {
   items = suc st.items;
   facts = facts_after m.what m.told st.facts;
-  agreed = agreed_after m.what st.agreed;
+  agreed = unwrap_or (agrees m.what) st.agreed;
   imported = turned imports leaves m.what st.imported;
   lost = turned is_loss imports m.what st.lost;
   client_over = turned refuses_client ends_client m.what st.client_over;
-  host_over = turned closes_host never m.what st.host_over;
+  host_over = turned closes_host (λ e. false) m.what st.host_over;
   live = live_after st m.what;
   abandoned = abandoned_after m.what (submits st) st.abandoned;
   streams = streams_after m.what st.streams;

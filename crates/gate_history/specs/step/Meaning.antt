@@ -1,6 +1,8 @@
 -- What an item means, by what the past says: its effect, the fact that it tells, and the ids of its packets.
+use Rattle.std.specs.Bool.{beq}
 use Rattle.std.specs.Prelude.{ℕ, ◌+◌, ◌==◌, ◌&&◌, not, Bool, true, false, if◌then◌else◌, List, [], ◌∷◌, ◌++◌, length, map, filter, Option, Some, None, is_none}
 use Rattle.std.specs.List.{find}
+use Rattle.std.specs.Option.{option_map_or}
 use Rattle.usb_base.specs.declared.side.Side.{Side}
 use Rattle.usb_base.specs.declared.side.Side.TheVariants.{Client, Host}
 use Rattle.usb_base.specs.declared.reason.Reason.{Reason}
@@ -11,24 +13,25 @@ use Rattle.usb_base.specs.declared.transfer.StreamPacket.{StreamPacket}
 use Rattle.usb_base.specs.Endpoint.{is_in_endpoint}
 use Rattle.stream_buffers.specs.Held.{is_full}
 use Rattle.usb_base.specs.Status.{status_of}
-use Rattle.usbip_op.specs.declared.packet.OpPacket.{OpPacket}
 use Rattle.usbip_op.specs.declared.packet.OpPacket.TheVariants as op
-use Rattle.usbip_urb.specs.declared.packet.UrbPacket.{UrbPacket}
 use Rattle.usbip_urb.specs.declared.packet.UrbPacket.TheVariants as urb
 use Rattle.redir_wire.specs.declared.packet.Connect.{Connect}
 use Rattle.redir_wire.specs.declared.packet.Header.{Header}
 use Rattle.redir_wire.specs.declared.packet.RedirControl.TheVariants as plain
 use Rattle.redir_wire.specs.Capability.{announced, caps_of, agreed}
 use Rattle.redir_wire.specs.Header.{head_size}
-use Rattle.redir_data.specs.declared.packet.RedirData.{RedirData}
 use Rattle.redir_data.specs.declared.packet.RedirData.TheVariants as data_packet
 use Rattle.redir_data.specs.declared.packet.RedirPacket.{RedirPacket}
 use Rattle.redir_data.specs.declared.packet.RedirPacket.TheVariants.{Plain, Carrying}
 use Rattle.usbip_urb.specs.declared.client.ClientPacket.{ClientPacket}
 use Rattle.usbip_urb.specs.declared.client.ClientPacket.TheVariants.{Op, Urb}
-use Rattle.gate_history.specs.step.Items.{Item, Asked, ClientWrong, ClientLeft, Told, HostWrong, HostLeft}
-use Rattle.gate_history.specs.client.Requests.{Request, request_of}
-use Rattle.gate_history.specs.client.Verdict.{Verdict, Stream, verdict, none_of, bool_eq, is_iso, goes_by_id}
+use Rattle.gate_history.specs.declared.item.Item.{Item}
+use Rattle.gate_history.specs.declared.item.Item.TheVariants.{Asked, ClientWrong, ClientLeft, Told, HostWrong, HostLeft}
+use Rattle.gate_history.specs.declared.request.Request.{Request}
+use Rattle.gate_history.specs.client.Requests.{request_of}
+use Rattle.gate_history.specs.declared.verdict.Verdict.{Verdict}
+use Rattle.gate_history.specs.declared.verdict.Verdict.TheVariants.{Stream}
+use Rattle.gate_history.specs.client.Verdict.{verdict, none_of, is_iso, goes_by_id}
 use Rattle.gate_history.specs.step.Marks.{Submission, Fact, Connected, Interfaces, Endpoints, Configuration, Effect, Idle, Replies, Imports, Opens, Waits, Arrives, Unlinks, Agrees, Answers, StreamTold, Disconnects, Ends, Refuses, Mark}
 use Rattle.gate_history.specs.state.Sides.{refusal}
 use Rattle.gate_history.specs.state.Ids.{last_of}
@@ -45,31 +48,17 @@ use Rattle.redir_wire.specs.EpTable.{table_of}
 abbrev pub refused : Side → ℕ → Reason → Effect
 refused side place reason = Refuses (refusal side place reason)
 
--- ---- list and import requests
+-- ---- imports
 
--- an import waits until the host has answered all that an earlier client left, and the last stop of its streams
-abbrev pub may_import : State → List ℕ → Bool
-may_import st busid = is_exported busid && none_of st.abandoned && is_none st.fence
+-- the device that an import of this bus id gets. An import waits until the host has answered all that an earlier client
+-- left, and the last stop of its streams
+abbrev pub importable : State → List ℕ → Option Connect
+importable st busid = if is_exported busid && none_of st.abandoned && is_none st.fence then st.facts.connect else None
 
 abbrev pub imported_as : State → Option Connect → Effect
-imported_as st None = Replies failed_import
-imported_as st (Some c) = Imports (import_reply st.facts c)
+imported_as st connect = option_map_or (λ c. Imports (import_reply st.facts c)) connect (Replies failed_import)
 
--- the device that an import of this bus id would get
-abbrev pub importable : State → List ℕ → Option Connect
-importable st busid = if may_import st busid then st.facts.connect else None
-
-abbrev pub import_meaning : State → List ℕ → Effect
-import_meaning st busid = imported_as st (importable st busid)
-
-abbrev pub op_meaning : State → ℕ → OpPacket → Effect
-op_meaning st place (op.ReqDevlist status) = if st.imported then refused Client place AlreadyImported else Replies (list_reply st.facts)
-op_meaning st place (op.ReqImport status busid) =
-    if st.imported then refused Client place AlreadyImported else import_meaning st busid
-op_meaning st place (op.RepDevlist status devices) = Idle
-op_meaning st place (op.RepImport status device) = Idle
-
--- ---- submits and unlinks
+-- ---- submits
 
 abbrev pub verdict_of : State → Request → Verdict
 verdict_of st r = verdict st.lost (length st.live) (change_waits st) st.facts.table (wide_bulk st.agreed) r
@@ -102,63 +91,54 @@ accepts st r v =
     let kept = by_stream (stream_at st.streams r.transfer.ep) v in
     accepted_as st (submission st r kept (drawn_for st r kept)) kept
 
-abbrev pub urb_meaning : State → ℕ → UrbPacket → Effect
-urb_meaning st place (urb.Submit s) =
+-- ---- the client's packets
+
+abbrev pub asked_meaning : State → ℕ → ClientPacket → Effect
+asked_meaning st place (Op (op.ReqDevlist status)) = if st.imported then refused Client place AlreadyImported else Replies (list_reply st.facts)
+asked_meaning st place (Op (op.ReqImport status busid)) =
+    if st.imported then refused Client place AlreadyImported else imported_as st (importable st busid)
+asked_meaning st place (Urb (urb.Submit s)) =
     if not st.imported then refused Client place NotImported
     else if has_number st s.head.seqnum then refused Client (place + 4) DuplicateSeq
     else accepts st (request_of s) (verdict_of st (request_of s))
-urb_meaning st place (urb.Unlink u) =
-    if not st.imported then refused Client place NotImported
-    else Unlinks u.head.seqnum u.target
-urb_meaning st place (urb.RetSubmit r) = Idle
-urb_meaning st place (urb.RetUnlink r) = Idle
-
-abbrev pub asked_meaning : State → ℕ → ClientPacket → Effect
-asked_meaning st place (Op p) = op_meaning st place p
-asked_meaning st place (Urb p) = urb_meaning st place p
+asked_meaning st place (Urb (urb.Unlink u)) = if not st.imported then refused Client place NotImported else Unlinks u.head.seqnum u.target
+asked_meaning st place _ = Idle
 
 -- ---- the host's packets
 
 abbrev pub answered_as : ℕ → Outcome → Option Refusal → Effect
-answered_as id o None = Answers id o
-answered_as id o (Some r) = Refuses r
+answered_as id o wrong = option_map_or Refuses wrong (Answers id o)
 
 -- an answer to nobody means nothing
 abbrev pub answer_to : State → ℕ → Header → Response → Option Submission → Effect
-answer_to st place h response None = Idle
-answer_to st place h response (Some s) = answered_as h.id (seen s.request s.verdict response) (mismatch place (head_size (wide_ids st.agreed)) s h.kind response)
+answer_to st place h response asked =
+    option_map_or (λ s. answered_as h.id (seen s.request s.verdict response) (mismatch place (head_size (wide_ids st.agreed)) s h.kind response)) asked Idle
 
 abbrev pub by_response : State → ℕ → Header → Option Response → Effect
-by_response st place h None = Idle
-by_response st place h (Some response) = answer_to st place h response (find (has_id h.id) (submits st ++ st.abandoned))
+by_response st place h response = option_map_or (λ r. answer_to st place h r (find (has_id h.id) (submits st ++ st.abandoned))) response Idle
 
 -- a packet of a stream is held where the stream is of its type and has room; any other is lost
 abbrev pub is_held : Bool → Up → Bool
-is_held iso up = bool_eq iso (is_iso up.row.kind) && not (is_full up.held)
+is_held iso up = beq iso (is_iso up.row.kind) && not (is_full up.held)
 
 abbrev pub arrives : State → ℕ → Bool → StreamPacket → Option Up → Effect
-arrives st ep iso packet None = Idle
-arrives st ep iso packet (Some up) =
-    Arrives ep (if is_held iso up then fill up.row.max_packet (waiting st ep) (up.held ++ packet ∷ []) else none_filled up.held)
+arrives st ep iso packet stream =
+    option_map_or (λ up. Arrives ep (if is_held iso up then fill up.row.max_packet (waiting st ep) (up.held ++ packet ∷ []) else none_filled up.held)) stream Idle
 
 abbrev pub by_arrival : State → ℕ → Bool → ℕ → List ℕ → Effect
 by_arrival st ep iso status body = arrives st ep iso (record { status = status_of status; body = body }) (stream_of st.streams ep)
 
 -- those of an IN endpoint's stream go by no id
-abbrev pub data_meaning : State → ℕ → Header → RedirData → Effect
-data_meaning st place h (data_packet.Interrupt endpoint status length body) =
-    if is_in_endpoint endpoint then by_arrival st endpoint false status body
-    else by_response st place h (response_of (Carrying (data_packet.Interrupt endpoint status length body)))
-data_meaning st place h (data_packet.Iso endpoint status length body) = if is_in_endpoint endpoint then by_arrival st endpoint true status body else Idle
-data_meaning st place h d = by_response st place h (response_of (Carrying d))
-
 abbrev pub told_meaning : State → ℕ → Header → RedirPacket → Effect
 told_meaning st place h (Plain (plain.Hello hello)) = Agrees (agreed (caps_of hello) announced)
 told_meaning st place h (Plain plain.Disconnect) = Disconnects h.id
 told_meaning st place h (Plain (plain.IsoStatus status endpoint)) = StreamTold h.id endpoint (status_of status)
 told_meaning st place h (Plain (plain.InterruptStatus status endpoint)) = StreamTold h.id endpoint (status_of status)
-told_meaning st place h (Plain p) = by_response st place h (response_of (Plain p))
-told_meaning st place h (Carrying d) = data_meaning st place h d
+told_meaning st place h (Carrying (data_packet.Interrupt endpoint status length body)) =
+    if is_in_endpoint endpoint then by_arrival st endpoint false status body
+    else by_response st place h (response_of (Carrying (data_packet.Interrupt endpoint status length body)))
+told_meaning st place h (Carrying (data_packet.Iso endpoint status length body)) = if is_in_endpoint endpoint then by_arrival st endpoint true status body else Idle
+told_meaning st place h p = by_response st place h (response_of p)
 
 abbrev pub meaning : State → Item → Effect
 meaning st (Asked place packet) = asked_meaning st place packet

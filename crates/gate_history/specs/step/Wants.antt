@@ -4,7 +4,8 @@ use Rattle.std.specs.Prelude.{◌≡◌, ◌⊎◌, ◌<◌, ◌+◌, ℕ, Bool,
 use Rattle.usbip_urb.specs.ClientPackets.{takes_memory as asked_takes_memory}
 use Rattle.redir_data.specs.Packets.{takes_memory as told_takes_memory}
 use Rattle.gate_history.specs.step.Events.{Event, ClientPiece, ClientEnd, HostPiece, HostEnd}
-use Rattle.gate_history.specs.step.Items.{Item, Asked, Told}
+use Rattle.gate_history.specs.declared.item.Item.{Item}
+use Rattle.gate_history.specs.declared.item.Item.TheVariants.{Asked, Told}
 use Rattle.gate_history.specs.step.Marks.{Mark}
 use Rattle.gate_history.specs.state.Sides.{client_over, host_over}
 use Rattle.gate_history.specs.state.State.{State, state_of}

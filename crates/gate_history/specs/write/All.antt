@@ -1,11 +1,11 @@
 -- All that a past has sent, told and counted: what each item gave after those before it, the earliest first.
-use Rattle.std.specs.Prelude.{ℕ, not, Bool, true, false, List, [], ◌∷◌, ◌++◌, length, filter}
+use Rattle.stream_buffers.specs.Fillings.{is_failed}
+use Rattle.std.specs.Prelude.{ℕ, Bool, true, false, List, [], ◌∷◌, ◌++◌, length, filter}
 use Rattle.usbip_urb.specs.declared.packet.UrbPacket.TheVariants as urb
 use Rattle.usbip_urb.specs.declared.client.ClientPacket.{ClientPacket}
 use Rattle.usbip_urb.specs.declared.client.ClientPacket.TheVariants.{Urb}
 use Rattle.gate_history.specs.declared.note.Counts.{Counts}
-use Rattle.gate_history.specs.step.Items.{capped}
-use Rattle.gate_history.specs.write.Errno.{is_zero}
+use Rattle.usb_base.specs.Number.{capped}
 use Rattle.gate_history.specs.step.Marks.{Submission, Mark}
 use Rattle.gate_history.specs.client.Submits.{Pending}
 use Rattle.gate_history.specs.state.State.{State, state_of}
@@ -24,7 +24,7 @@ is_ret_submit _ = false
 
 -- an unlink that won: one that came too late is told 0
 abbrev pub is_won_unlink : ClientPacket → Bool
-is_won_unlink (Urb (urb.RetUnlink r)) = not (is_zero r.status)
+is_won_unlink (Urb (urb.RetUnlink r)) = is_failed r.status
 is_won_unlink _ = false
 
 -- by all that went to clients, the submits that are live, and those that ended with their client

@@ -1,5 +1,7 @@
 -- The answers of submits ("usbip_protocol", USBIP_RET_SUBMIT and USBIP_RET_UNLINK), and which of them an end gives.
+use Rattle.stream_buffers.specs.Fillings.{is_failed}
 use Rattle.std.specs.Prelude.{ℕ, ◌%◌, ◌==◌, ◌&&◌, nat_lt, not, Bool, true, false, if◌then◌else◌, List, [], ◌∷◌, length, map, filter, replicate, Option, Some, None, ℤ, pos}
+use Rattle.std.specs.Option.{option_map_or}
 use Rattle.usb_base.specs.declared.status.UsbStatus.{UsbStatus}
 use Rattle.usb_base.specs.declared.status.UsbStatus.TheVariants as status
 use Rattle.usb_base.specs.declared.transfer.Outcome.{Outcome}
@@ -9,8 +11,8 @@ use Rattle.usbip_urb.specs.declared.packet.IsoDesc.{IsoDesc}
 use Rattle.usbip_urb.specs.declared.packet.UrbPacket.{UrbPacket}
 use Rattle.usbip_urb.specs.declared.packet.UrbPacket.TheVariants as urb
 use Rattle.usbip_urb.specs.Buffers.{total}
-use Rattle.gate_history.specs.write.Errno.{econnreset, eshutdown, eremoteio, is_zero}
-use Rattle.gate_history.specs.client.Requests.{Request}
+use Rattle.gate_history.specs.declared.errno.TheConstants.{ECONNRESET, ESHUTDOWN, EREMOTEIO}
+use Rattle.gate_history.specs.declared.request.Request.{Request}
 use Rattle.gate_history.specs.client.Verdict.{none_of, is_wire}
 use Rattle.gate_history.specs.host.Fillings.{Given, Transferred, Isochronous}
 use Rattle.gate_history.specs.step.Marks.{Submission}
@@ -23,11 +25,9 @@ abbrev pub answer_head : ℕ → Head
 answer_head number = record { seqnum = number; devid = 0; direction = 0; ep = 0 }
 
 -- flag 0x0001, URB_SHORT_NOT_OK: a read that gives fewer bytes than were asked for has failed
-abbrev pub is_short : Request → ℤ → ℕ → Bool
-is_short r status actual = r.is_in && none_of r.descs && is_zero status && nat_lt actual r.transfer.wanted && (r.flags % 2 == 1)
-
 abbrev pub told_status : Request → ℤ → ℕ → ℤ
-told_status r status actual = if is_short r status actual then eremoteio else status
+told_status r status actual =
+    if r.is_in && none_of r.descs && not (is_failed status) && nat_lt actual r.transfer.wanted && (r.flags % 2 == 1) then EREMOTEIO else status
 
 abbrev pub ret_submit : Request → ℤ → ℕ → List ℕ → List IsoDesc → UrbPacket
 ret_submit r status actual body descs = urb.RetSubmit (record {
@@ -36,7 +36,7 @@ ret_submit r status actual body descs = urb.RetSubmit (record {
   actual = actual;
   start_frame = 0;
   packets = r.packets;
-  errors = length (filter (λ d. not (is_zero d.status)) descs);
+  errors = length (filter (λ d. is_failed d.status) descs);
   tail = replicate 8 0;
   body = body;
   descs = descs;
@@ -78,12 +78,11 @@ is_cancelled _ = false
 abbrev pub answers_by : Submission → Outcome → Option ℕ → List UrbPacket
 answers_by s o None = with_outcome s.request o ∷ []
 answers_by s o (Some by) =
-    if is_wire s.verdict && is_cancelled o.status then ret_unlink by econnreset ∷ []
+    if is_wire s.verdict && is_cancelled o.status then ret_unlink by ECONNRESET ∷ []
     else with_outcome s.request o ∷ ret_unlink by (pos 0) ∷ []
 
 abbrev pub lost_answer : Submission → Option ℕ → UrbPacket
-lost_answer s None = without_packets s.request eshutdown
-lost_answer s (Some by) = ret_unlink by econnreset
+lost_answer s unlinker = option_map_or (λ by. ret_unlink by ECONNRESET) unlinker (without_packets s.request ESHUTDOWN)
 
 -- nothing goes to a client that is gone
 abbrev pub answers : Submission → Option ℕ → End → List UrbPacket
@@ -92,11 +91,10 @@ answers s by Sent = all_sent s.request ∷ []
 answers s by ByClient = []
 answers s by ByLoss = lost_answer s by ∷ []
 answers s by (ByAnswer outcome) = answers_by s outcome by
-answers s by (ByUnlink other) = ret_unlink other econnreset ∷ []
-answers s by ByChange = without_packets s.request eshutdown ∷ []
+answers s by (ByUnlink other) = ret_unlink other ECONNRESET ∷ []
+answers s by ByChange = without_packets s.request ESHUTDOWN ∷ []
 answers s by (ByStatus status) = without_packets s.request (errno_of status) ∷ []
 answers s by (ByPackets given) = with_given s.request given ∷ []
 
 abbrev pub answers_at : Submission → Option ℕ → Option End → List UrbPacket
-answers_at s by None = []
-answers_at s by (Some e) = answers s by e
+answers_at s by end = option_map_or (answers s by) end []

@@ -6,7 +6,7 @@ use Rattle.usbip_urb.specs.declared.packet.IsoDesc.{IsoDesc}
 use Rattle.usbip_urb.specs.Sizes.{body_size, count_of}
 use Rattle.usbip_urb.specs.Ranges.{is_packet_count}
 use Rattle.gate_history.specs.declared.request.AnsweredSubmit.{AnsweredSubmit}
-use Rattle.gate_history.specs.client.Requests.{Request}
+use Rattle.gate_history.specs.declared.request.Request.{Request}
 
 -- an answer has nothing of a submit's endpoint, setup and body
 abbrev pub asked_view : AnsweredSubmit → Request

@@ -1,11 +1,12 @@
 -- What an item tells, and what is counted of it, by what the past says.
-use Rattle.std.specs.Prelude.{◌&&◌, not, Bool, true, false, if◌then◌else◌, List, [], ◌∷◌, ◌++◌, map, filter, Option, Some, None}
+use Rattle.std.specs.Prelude.{◌&&◌, not, Bool, true, false, if◌then◌else◌, List, [], ◌∷◌, ◌++◌, map, filter, Option, Some}
+use Rattle.std.specs.Option.{option_to_list}
 use Rattle.usb_base.specs.declared.refusal.Refusal.{Refusal}
 use Rattle.gate_history.specs.declared.note.Note.{Note}
 use Rattle.gate_history.specs.declared.note.Note.TheVariants as note
 use Rattle.gate_history.specs.step.Marks.{Submission, Effect, Imports, Unlinks, Arrives, Mark}
 use Rattle.gate_history.specs.state.Sides.{refused_at, leaves, is_loss}
-use Rattle.gate_history.specs.client.Submits.{End, AtOnce, Sent, ByClient, ByLoss, ByAnswer, ByUnlink, ByChange, ByStatus, ByPackets, opened, ends}
+use Rattle.gate_history.specs.client.Submits.{End, ByClient, ByAnswer, ByPackets, opened, ends}
 use Rattle.gate_history.specs.state.State.{State}
 use Rattle.gate_history.specs.write.Output.{present}
 
@@ -31,23 +32,15 @@ arrival_notes _ = []
 
 -- by its answer, or by packets of its stream
 abbrev pub is_by_answer : Option End → Bool
-is_by_answer None = false
-is_by_answer (Some (AtOnce status)) = false
-is_by_answer (Some Sent) = false
-is_by_answer (Some ByClient) = false
-is_by_answer (Some ByLoss) = false
 is_by_answer (Some (ByAnswer outcome)) = true
-is_by_answer (Some (ByUnlink by)) = false
-is_by_answer (Some ByChange) = false
-is_by_answer (Some (ByStatus status)) = false
 is_by_answer (Some (ByPackets given)) = true
+is_by_answer _ = false
 
 abbrev pub answer_notes : State → Effect → List Note
 answer_notes st e = map (λ p. note.Answered p.submit.request.number) (filter (λ p. is_by_answer (ends e p.submit)) (present st e))
 
 abbrev pub refusal_notes : Option Refusal → List Note
-refusal_notes None = []
-refusal_notes (Some r) = note.Refused r ∷ []
+refusal_notes refusal = map note.Refused (option_to_list refusal)
 
 -- an import stands until the device is lost; a client that was refused is gone before its end
 abbrev pub notes_of : State → Mark → List Note
@@ -60,16 +53,8 @@ notes_of st m =
 -- ---- counted
 
 abbrev pub is_by_client : Option End → Bool
-is_by_client None = false
-is_by_client (Some (AtOnce status)) = false
-is_by_client (Some Sent) = false
 is_by_client (Some ByClient) = true
-is_by_client (Some ByLoss) = false
-is_by_client (Some (ByAnswer outcome)) = false
-is_by_client (Some (ByUnlink by)) = false
-is_by_client (Some ByChange) = false
-is_by_client (Some (ByStatus status)) = false
-is_by_client (Some (ByPackets given)) = false
+is_by_client _ = false
 
 -- the submits that end with their client
 abbrev pub dropped : State → Mark → List Submission

@@ -9,7 +9,7 @@ use Rattle.stream_buffers.specs.Cuts.{Cut}
 use Rattle.stream_buffers.specs.Interrupt.{interrupt_cut}
 use Rattle.stream_buffers.specs.Iso.{iso_cut}
 use Rattle.unlink_race.specs.declared.live.Live.{Live}
-use Rattle.gate_history.specs.client.Requests.{Request}
+use Rattle.gate_history.specs.declared.request.Request.{Request}
 use Rattle.gate_history.specs.host.Fillings.{Given, Transferred, Isochronous, cut_as}
 use Rattle.gate_history.specs.write.Answers.{told_status}
 

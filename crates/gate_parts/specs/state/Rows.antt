@@ -3,7 +3,9 @@ use Rattle.std.specs.Prelude.{ℕ, Option, None, ◌≡◌, ◌⊎◌, ◌&&◌,
 use Rattle.unlink_race.specs.declared.live.Live.{Live}
 use Rattle.unlink_race.specs.declared.live.LiveKind.{LiveKind}
 use Rattle.unlink_race.specs.declared.live.LiveKind.TheVariants as live_kind
-use Rattle.gate_history.specs.client.Verdict.{Verdict, Now, Wire, Routed, IsoOut, Stream, pipe_kind, is_wire}
+use Rattle.gate_history.specs.declared.verdict.Verdict.{Verdict}
+use Rattle.gate_history.specs.declared.verdict.Verdict.TheVariants.{Wire, Routed, Stream}
+use Rattle.gate_history.specs.client.Verdict.{pipe_kind, is_wire}
 use Rattle.gate_history.specs.step.Marks.{Submission}
 use Rattle.gate_history.specs.client.Submits.{Pending}
 use Rattle.usb_base.specs.Endpoint.{is_in_endpoint}
@@ -16,8 +18,8 @@ use Rattle.redir_wire.specs.Header.{IdFits}
 use Rattle.redir_data.specs.declared.packet.RedirPacket.TheVariants.{Plain}
 use Rattle.usbip_urb.specs.Buffers.{laid}
 use Rattle.unlink_race.specs.Searches.{is_stream, ended_by}
-use Rattle.gate_history.specs.write.Errno.{econnreset, eshutdown}
-use Rattle.gate_history.specs.client.Requests.{Request}
+use Rattle.gate_history.specs.declared.errno.TheConstants.{ECONNRESET, ESHUTDOWN}
+use Rattle.gate_history.specs.declared.request.Request.{Request}
 use Rattle.gate_history.specs.state.Flight.{wide_ids}
 use Rattle.gate_history.specs.host.Responses.{route_gets}
 use Rattle.gate_history.specs.write.Answers.{without_packets, ret_unlink}
@@ -30,8 +32,7 @@ abbrev pub kind_of : Verdict → ℕ → LiveKind
 kind_of (Wire pipe) ep = live_kind.Wire ep (pipe_kind pipe)
 kind_of (Routed r) ep = live_kind.Routed r
 kind_of (Stream row) ep = live_kind.Stream ep row.interface
-kind_of (Now status) ep = live_kind.Stream ep 0
-kind_of (IsoOut row) ep = live_kind.Stream ep 0
+kind_of _ ep = live_kind.Stream ep 0
 
 abbrev pub row_of : Submission → Option ℕ → Live
 row_of s by = record {
@@ -102,8 +103,8 @@ row_request l = record {
 
 -- where the device is lost
 abbrev pub lost_packet : Live → Option ℕ → UrbPacket
-lost_packet l None = without_packets (row_request l) eshutdown
-lost_packet l (Some by) = ret_unlink by econnreset
+lost_packet l None = without_packets (row_request l) ESHUTDOWN
+lost_packet l (Some by) = ret_unlink by ECONNRESET
 
 abbrev pub lost_bytes : Live → List ℕ
 lost_bytes l = spelling (lost_packet l l.unlinker)

@@ -4,12 +4,11 @@ ghost use Rattle.std.specs.Prelude.{◌≡◌, ◌⊎◌, ◌<◌, true, IsTrue}
 ghost use Rattle.usbip_urb.specs.Buffers.{laid};
 ghost use Rattle.gate_history.specs.client.Verdict.{verdict, goes_by_id, by_setup, by_endpoint, by_route, by_kind, is_narrow};
 ghost use Rattle.gate_history.specs.client.Submits.{is_waiting};
-ghost use Rattle.gate_history.specs.client.Views.{request_view, verdict_view};
 ghost use Rattle.gate_parts.specs.state.Rows.{kind_of, IsRead};
 ghost use Rattle.gate_history.specs.client.Carried.{IsRequest, IsCarried};
 
-use crate::write::errno::{EBUSY, EINVAL, EMSGSIZE, ENOENT, ESHUTDOWN};
 use control_route::{Route, route_of};
+use gate_history::errno::{EBUSY, EINVAL, EMSGSIZE, ENOENT, ESHUTDOWN};
 use gate_history::{Pipe, Request, Verdict, is_in_setup};
 use usb_base::{EpKind, EpRow, EpTable, Setup};
 use usbip_urb::{MAX_LIVE, laid};
@@ -28,13 +27,13 @@ pub fn decide(
     wide: bool,
     request: &Request,
 ) -> Verdict
-    ensures value { verdict_view result ≡ verdict lost live changing table.now wide (request_view request.now) }
-    ensures carried { IsRequest (request_view request.now) → IsCarried wide (verdict_view result) (request_view request.now) }
-    ensures reads { IsRequest (request_view request.now) → goes_by_id (verdict_view result) ≡ true
-        → (request.now.transfer.wanted ≡ 0) ⊎ IsRead request.now.is_in (kind_of (verdict_view result) request.now.transfer.ep) }
-    ensures room { goes_by_id (verdict_view result) ≡ true → live < MAX_LIVE }
-    ensures waits { is_waiting (verdict_view result) ≡ true → live < MAX_LIVE }
-    ensures lies { is_waiting (verdict_view result) ≡ true → IsTrue (laid request.now.descs request.now.transfer.wanted) }
+    ensures value { result ≡ verdict lost live changing table.now wide request.now }
+    ensures carried { IsRequest request.now → IsCarried wide result request.now }
+    ensures reads { IsRequest request.now → goes_by_id result ≡ true
+        → (request.now.transfer.wanted ≡ 0) ⊎ IsRead request.now.is_in (kind_of result request.now.transfer.ep) }
+    ensures room { goes_by_id result ≡ true → live < MAX_LIVE }
+    ensures waits { is_waiting result ≡ true → live < MAX_LIVE }
+    ensures lies { is_waiting result ≡ true → IsTrue (laid request.now.descs request.now.transfer.wanted) }
 {
     if lost {
         return Verdict::Now(ESHUTDOWN);
@@ -51,7 +50,7 @@ pub fn decide(
 
 /// A transfer of endpoint 0, whose setup tells its direction and its length once more.
 pub fn by_setup(request: &Request, setup: &Setup) -> Verdict
-    ensures { verdict_view result ≡ by_setup (request_view request.now) setup.now }
+    ensures { result ≡ by_setup request.now setup.now }
 {
     if !request.descs.is_empty() {
         return Verdict::Now(EINVAL);
@@ -67,7 +66,7 @@ pub fn by_setup(request: &Request, setup: &Setup) -> Verdict
 
 /// A transfer of endpoint 0 that is well asked for, by its route.
 pub fn by_route(route: Route) -> Verdict
-    ensures { verdict_view result ≡ by_route route }
+    ensures { result ≡ by_route route }
 {
     match route {
         Route::Local => Verdict::Now(0),
@@ -79,7 +78,7 @@ pub fn by_route(route: Route) -> Verdict
 
 /// A transfer of another endpoint, by what was told of it.
 pub fn by_endpoint(wide: bool, request: &Request, row: EpRow) -> Verdict
-    ensures { verdict_view result ≡ by_endpoint wide (request_view request.now) row }
+    ensures { result ≡ by_endpoint wide request.now row }
 {
     if row.kind == EpKind::Invalid {
         return Verdict::Now(ENOENT);
@@ -112,7 +111,7 @@ pub fn is_narrow(wide: bool, is_in: bool, kind: EpKind) -> bool
 
 /// A transfer of an endpoint that can carry it, by what its endpoint's transfers are.
 pub fn by_kind(request: &Request, row: EpRow) -> Verdict
-    ensures { verdict_view result ≡ by_kind (request_view request.now) row row.kind }
+    ensures { result ≡ by_kind request.now row row.kind }
 {
     match row.kind {
         EpKind::Bulk => Verdict::Wire(Pipe::Bulk),

@@ -3,8 +3,8 @@
 
 ghost use Rattle.std.specs.Prelude.{◌≡◌, ◌<◌, ◌+◌, true, option_map, IfSome, IfOk, OnErr, Some, None, false};
 ghost use Rattle.usb_base.specs.declared.side.Side.TheVariants.{Host};
-ghost use Rattle.gate_history.specs.client.Requests.{Request};
-ghost use Rattle.gate_history.specs.client.Verdict.{Verdict};
+ghost use Rattle.gate_history.specs.declared.request.Request.{Request};
+ghost use Rattle.gate_history.specs.declared.verdict.Verdict.{Verdict};
 ghost use Rattle.redir_data.specs.declared.packet.RedirPacket.TheVariants.{Plain, Carrying};
 ghost use Rattle.gate_history.specs.host.Responses.{Data, outcome, response_of, route_answer, mismatched, route_gets, gets as gets_value, seen};
 ghost use Rattle.gate_parts.specs.host.Responses.{response_view, status_outcome, wire_answer, row_answer, row_ep, row_gets, row_mismatch, stream_in, packet_in};

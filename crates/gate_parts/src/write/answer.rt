@@ -1,16 +1,16 @@
 //! The answers of submits and unlinks ("usbip_protocol", USBIP_RET_SUBMIT and USBIP_RET_UNLINK).
 
+ghost use Rattle.stream_buffers.specs.Fillings.{is_failed};
 ghost use Rattle.usbip_urb.specs.declared.code.TheConstants.{MAX_LENGTH, MAX_PACKETS};
 ghost use Rattle.usbip_urb.specs.Buffers.{laid};
 ghost use Rattle.std.specs.Prelude.{◌≡◌, ◌==◌, ◌%◌, false, IsTrue, ◌++◌, ◌≤◌, ◌<◌, filter, length, not, OnOk, OnErr, IfOk};
 ghost use Rattle.usbip_urb.specs.Spelling.{spelling};
 ghost use Rattle.usbip_urb.specs.declared.packet.UrbPacket.TheVariants.{RetSubmit as RetSubmitPacket};
-ghost use Rattle.gate_history.specs.write.Errno.{is_zero};
 ghost use Rattle.gate_history.specs.write.Answers.{answer_head, told_status, ret_submit, ret_unlink, echoed, without_packets, sent_whole, all_sent, with_outcome};
 ghost use Rattle.gate_history.specs.write.Asked.{asked_view, HasItsPackets, IsMoved};
 
-use crate::write::errno::EREMOTEIO;
 use gate_history::AnsweredSubmit;
+use gate_history::errno::EREMOTEIO;
 use std::alloc::Global;
 use usb_base::{Bytes, Memory, Outcome};
 use usbip_urb::{
@@ -141,7 +141,7 @@ fn fails_if_short(flags: u32) -> bool
 // How many isochronous packets have a status other than 0.
 fn errors(descs: &[IsoDesc]) -> u32
     requires { length descs.now ≤ MAX_PACKETS }
-    ensures { result ≡ length (filter (λ d. not (is_zero d.status)) descs.now) }
+    ensures { result ≡ length (filter (λ d. is_failed d.status) descs.now) }
 {
     descs.iter().filter(|desc| desc.status != 0).count() as u32
 }

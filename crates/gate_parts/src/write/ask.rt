@@ -11,7 +11,6 @@ ghost use Rattle.redir_data.specs.declared.packet.RedirData.TheVariants as data_
 ghost use Rattle.gate_history.specs.write.Packets.{wire_packet, route_packets, start_packet, stop_packet};
 ghost use Rattle.gate_history.specs.write.Bytes.{host_packet_bytes, gateway_hello};
 ghost use Rattle.gate_history.specs.state.Flight.{wide_ids};
-ghost use Rattle.gate_history.specs.client.Views.{pipe_view};
 ghost use Rattle.gate_history.specs.client.Carried.{HasItsSetup, LengthFits};
 ghost use Rattle.gate_parts.specs.state.Rows.{cancel_bytes, is_cancelled_row};
 ghost use Rattle.gate_history.specs.step.Marks.{Disconnects};
@@ -29,9 +28,9 @@ use usb_base::{Bytes, EpAddr, EpKind, EpRow, Memory, Transfer};
 
 /// The packet that carries a transfer to the host, into which the transfer's body is moved.
 pub fn wire_packet(pipe: Pipe, transfer: Transfer) -> RedirData
-    requires setup { HasItsSetup (pipe_view pipe) transfer.setup transfer.wanted }
-    requires length_fits { LengthFits true (pipe_view pipe) transfer.wanted }
-    ensures { Carrying result ≡ wire_packet (pipe_view pipe) transfer }
+    requires setup { HasItsSetup pipe transfer.setup transfer.wanted }
+    requires length_fits { LengthFits true pipe transfer.wanted }
+    ensures { Carrying result ≡ wire_packet pipe transfer }
 {
     let Transfer {
         ep,

@@ -13,11 +13,10 @@ ghost use Rattle.gate_history.specs.host.Responses.{seen};
 ghost use Rattle.gate_parts.specs.host.Responses.{response_view, IsAnswer, IsCounted, has_won};
 ghost use Rattle.gate_parts.specs.write.Extends.{Extends};
 ghost use Rattle.unlink_race.specs.Searches.{ended_by};
-ghost use Rattle.gate_history.specs.client.Views.{request_view};
 
 use crate::host::response::{Response, gets, seen};
 use crate::write::answer::{write_outcome, write_ret_unlink, write_without_packets};
-use crate::write::errno::{ECONNRESET, ESHUTDOWN};
+use gate_history::errno::{ECONNRESET, ESHUTDOWN};
 use gate_history::{AnsweredSubmit, Note, Notes, Request};
 use std::alloc::Global;
 use unlink_race::{Ending, Live, LiveKind, StreamEnd, ending_of};
@@ -154,7 +153,7 @@ pub fn write_end_of(
 
 /// The row of a request that goes as one of this kind, under this id.
 pub fn row_of(request: Request, kind: LiveKind, id: u64) -> Live
-    ensures { result ≡ row_for (request_view request) kind id }
+    ensures { result ≡ row_for request kind id }
 {
     Live {
         seqnum: request.number,

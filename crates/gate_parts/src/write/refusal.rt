@@ -2,7 +2,7 @@
 
 ghost use Rattle.std.specs.Prelude.{◌≡◌, ℕ, None};
 ghost use Rattle.usb_base.specs.declared.side.Side.TheVariants.{Client, Host};
-ghost use Rattle.gate_history.specs.step.Items.{capped};
+ghost use Rattle.usb_base.specs.Number.{capped};
 ghost use Rattle.gate_history.specs.state.Sides.{refusal};
 
 use usb_base::{Reason, Refusal, Side};

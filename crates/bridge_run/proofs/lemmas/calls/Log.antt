@@ -1,11 +1,11 @@
 -- A session's log, as an event is taken.
+use Rattle.std.specs.Option.{option_or}
 use Rattle.std.proofs.Common.{◌≡◌, ℕ, ◌-◌, ◌<◌, ◌≤◌, ◌&&◌, ◌||◌, not, Bool, true, false, cond, inl, List, [], ◌∷◌, ◌++◌, Option, Some, is_some, Result, Ok, Err, refl, sym, ap, ◌∙◌, subst, arith, append-nil, append_assoc}
 use Rattle.std.specs.Result.{IsErrAnd}
 use Rattle.usb_base.specs.declared.side.Side.{Side}
 use Rattle.usb_base.specs.declared.side.Side.TheVariants.{Client, Host}
 use Rattle.usb_base.specs.declared.refusal.Refusal.{Refusal}
 use Rattle.gate_outside.specs.Calls.{Call, Close, Called, went}
-use Rattle.gate_history.specs.state.Sides.{or_else}
 use Rattle.bridge_run.specs.Events.{LinkEvent, ClientComes, ClientPiece, ClientQuiet, ClientEnd, HostPiece, HostEnd}
 use Rattle.bridge_run.specs.declared.rounds.Rounds.{Rounds}
 use Rattle.bridge_run.specs.declared.sent.Sent.{Sent}
@@ -242,7 +242,7 @@ dropped-down k k' sent dropped kept is down = ap (λ (q : Rounds). q.client_up) 
 refused-kept : (p : Prescribed) (e : LinkEvent) (events : List LinkEvent) (k k' : Rounds) (sent : Sent) (lines : List ℕ) → Prepared p events e sent lines → k' ≡ refusing sent.refusals sent.lets_go k
     → k.refused ≡ first_of (p.refusals events) → k'.refused ≡ first_of (p.refusals (e ∷ events))
 refused-kept p e events k k' sent lines prepared kept is =
-    ap (λ (q : Rounds). q.refused) kept ∙ ap (λ (r : Option Refusal). or_else r (first_of sent.refusals)) is ∙ ap (λ (rs : List Refusal). or_else (first_of (p.refusals events)) (first_of rs)) prepared.refusals
+    ap (λ (q : Rounds). q.refused) kept ∙ ap (λ (r : Option Refusal). option_or r (first_of sent.refusals)) is ∙ ap (λ (rs : List Refusal). option_or (first_of (p.refusals events)) (first_of rs)) prepared.refusals
     ∙ sym (first_of-append (p.refusals events) (gained p.refusals events e)) ∙ ap first_of (sym prepared.grows)
 
 -- all is sent, each side that is refused is closed, and a client that is let go

@@ -1,4 +1,5 @@
 -- What one event makes of the links and of what they tell.
+use Rattle.std.specs.Option.{option_or}
 use Rattle.std.proofs.Common.{◌≡◌, ℕ, ◌&&◌, ◌||◌, not, Bool, true, false, cond, List, [], ◌∷◌, ◌++◌, Option, Some, None, IfSome, Result, Ok, Err, refl, sym, ap, ◌∙◌, subst, inl, inr, append-nil, append_assoc}
 use Rattle.std.proofs.lemmas.Bool.{false≢true}
 use Rattle.std.specs.Io.KnownBytes.{append_known, Appends}
@@ -12,7 +13,6 @@ use Rattle.gate_outside.specs.Link.{Link, Door}
 use Rattle.gate_outside.specs.Doors.{closes}
 use Rattle.gate_outside.specs.Front.{AppendsFront}
 use Rattle.bridge_run.specs.Events.{LinkEvent}
-use Rattle.gate_history.specs.state.Sides.{or_else}
 use Rattle.bridge_run.specs.declared.rounds.Rounds.{Rounds}
 use Rattle.bridge_run.specs.declared.sent.Sent.{Sent}
 use Rattle.bridge_run.specs.declared.serve_end.ServeEnd.{ServeEnd}
@@ -100,7 +100,7 @@ put-host p c e sent lines old new up prepared s u is =
 
 -- ---- what is kept
 
-pub first_of-append : (xs ys : List Refusal) → first_of (xs ++ ys) ≡ or_else (first_of xs) (first_of ys)
+pub first_of-append : (xs ys : List Refusal) → first_of (xs ++ ys) ≡ option_or (first_of xs) (first_of ys)
 first_of-append [] ys = refl
 first_of-append (x ∷ xs) ys = refl
 
@@ -240,8 +240,8 @@ put-follows stands p k k' w w' out out' c e sent lines due old-stands f prepared
       waits = ap (λ (k : Rounds). k.waits) kept ∙ f.waits;
       left = ap (λ (k : Rounds). k.left) kept ∙ f.left;
       refused = ap (λ (k : Rounds). k.refused) kept
-          ∙ ap (λ (r : Option Refusal). or_else r (first_of sent.refusals)) f.refused
-          ∙ ap (λ (rs : List Refusal). or_else (first_of (p.refusals c.events)) (first_of rs)) refusals
+          ∙ ap (λ (r : Option Refusal). option_or r (first_of sent.refusals)) f.refused
+          ∙ ap (λ (rs : List Refusal). option_or (first_of (p.refusals c.events)) (first_of rs)) refusals
           ∙ sym (first_of-append (p.refusals c.events) (gained p.refusals c.events e))
           ∙ ap first_of (sym prepared.grows);
     }
@@ -362,15 +362,15 @@ and-not_false : (b : Bool) → (b && not false) ≡ b
 and-not_false true = refl
 and-not_false false = refl
 
-or_else-none : (o : Option Refusal) → or_else o None ≡ o
+or_else-none : (o : Option Refusal) → option_or o None ≡ o
 or_else-none None = refl
 or_else-none (Some r) = refl
 
 pub refusing-none : (refusals : List Refusal) (go : Bool) (k k' : Rounds) → refusals ≡ [] → go ≡ false → k' ≡ refusing refusals go k → k' ≡ k
 refusing-none refusals go k k' none stays is =
     is ∙ ap (λ (rs : List Refusal). refusing rs go k) none ∙ ap (λ (b : Bool). refusing [] b k) stays
-    ∙ ap (λ (u : Bool). record k { client_up = u; host_up = k.host_up && not false; refused = or_else k.refused None }) (and-not_false k.client_up)
-    ∙ ap (λ (u : Bool). record k { host_up = u; refused = or_else k.refused None }) (and-not_false k.host_up)
+    ∙ ap (λ (u : Bool). record k { client_up = u; host_up = k.host_up && not false; refused = option_or k.refused None }) (and-not_false k.client_up)
+    ∙ ap (λ (u : Bool). record k { host_up = u; refused = option_or k.refused None }) (and-not_false k.host_up)
     ∙ ap (λ (r : Option Refusal). record k { refused = r }) (or_else-none k.refused)
 
 -- an error that a `?` hands on

@@ -12,15 +12,17 @@ use Rattle.control_route.specs.declared.route.Route.{Route}
 use Rattle.control_route.specs.Changes.{is_change}
 use Rattle.model_device.specs.Meaning.{Meaning}
 use Rattle.redir_host.specs.state.Sound.{Each}
-use Rattle.gate_history.specs.client.Requests.{Request, request_of}
-use Rattle.gate_history.specs.step.Items.{Asked}
-use Rattle.gate_history.specs.client.Verdict.{Routed, verdict, changes}
-use Rattle.gate_history.specs.write.Errno.{eshutdown}
+use Rattle.gate_history.specs.declared.request.Request.{Request}
+use Rattle.gate_history.specs.client.Requests.{request_of}
+use Rattle.gate_history.specs.declared.item.Item.TheVariants.{Asked}
+use Rattle.gate_history.specs.declared.verdict.Verdict.TheVariants.{Routed}
+use Rattle.gate_history.specs.client.Verdict.{verdict, changes}
+use Rattle.gate_history.specs.declared.errno.TheConstants.{ESHUTDOWN}
 use Rattle.gate_history.specs.state.Flight.{wide_bulk, ids_of}
 use Rattle.gate_history.specs.state.Calls.{call_ids}
 use Rattle.gate_history.specs.state.Ids.{last_of}
 use Rattle.gate_history.specs.step.Marks.{Submission}
-use Rattle.gate_history.specs.client.Submits.{Pending, touches_stream}
+use Rattle.gate_history.specs.client.Submits.{Pending, is_touched}
 use Rattle.gate_history.specs.write.Output.{fresh}
 use Rattle.gate_history.specs.state.State.{submits, has_number, is_number as has_seq, change_waits}
 use Rattle.gate_history.specs.step.Meaning.{mark_as, by_stream, verdict_of}
@@ -80,7 +82,7 @@ module _ {S : Type 0} (m : Meaning S) (w : World S) (j : Shared) (place : ℕ) (
   later = record j { coming = j.coming ++ entry_of (last_of 0 (change_ids w.gate x)) (request_of s) x ∷ []; debts = j.debts ++ record { id = last_of 0 (change_ids w.gate x); load = record { request = request_of s; verdict = Routed x } } ∷ [] }
 
   there : w.gate.lost ≡ false
-  there = (past w.gate.lost eshutdown _ x v).0
+  there = (past w.gate.lost ESHUTDOWN _ x v).0
 
   connect : is_some w.gate.facts.connect ≡ true
   connect = rel.meets.no_session imported there
@@ -167,14 +169,14 @@ module _ {S : Type 0} (m : Meaning S) (w : World S) (j : Shared) (place : ℕ) (
   new-live : list_any (λ (l : Live). is_number r.number l.load) d.live ≡ false
   new-live = list_any-map (λ (l : Live). is_number r.number l.load) live_of w.gate.live ∙ sym (list_any-map (has_seq r.number) (λ (p : Pending). p.submit) w.gate.live) ∙ new
 
-  outs-same : map (λ (y : Live). without_packets y.load.request eshutdown) (filter (λ (l : Live). touches_stream x l.load.verdict) d.live) ≡ ending x w.gate.live
-  outs-same = ap (map (λ (y : Live). without_packets y.load.request eshutdown)) (filter-map (λ (l : Live). touches_stream x l.load.verdict) live_of w.gate.live) ∙ map-map (λ (y : Live). without_packets y.load.request eshutdown) live_of (filter (touched x) w.gate.live)
+  outs-same : map (λ (y : Live). without_packets y.load.request ESHUTDOWN) (filter (λ (l : Live). is_touched (Routed x) l.load.verdict) d.live) ≡ ending x w.gate.live
+  outs-same = ap (map (λ (y : Live). without_packets y.load.request ESHUTDOWN)) (filter-map (λ (l : Live). is_touched (Routed x) l.load.verdict) live_of w.gate.live) ∙ map-map (λ (y : Live). without_packets y.load.request ESHUTDOWN) live_of (filter (touched x) w.gate.live)
 
   does : Does m d (Submit r ∷ []) (view (change_world w r x) later) (map Urb (ending x w.gate.live))
   does = subst (Does m d (Submit r ∷ []) (view (change_world w r x) later)) (ap (map Urb) outs-same)
-      (subst (λ (y : Direct S). Does m d (Submit r ∷ []) y (map Urb (map (λ (z : Live). without_packets z.load.request eshutdown) (filter (λ (l : Live). touches_stream x l.load.verdict) d.live))))
+      (subst (λ (y : Direct S). Does m d (Submit r ∷ []) y (map Urb (map (λ (z : Live). without_packets z.load.request ESHUTDOWN) (filter (λ (l : Live). is_touched (Routed x) l.load.verdict) d.live))))
       (λ i. record (changed d r x) {
-        live = (ap (λ (l : List Live). l ++ record { load = record { request = r; verdict = Routed x }; unlinker = None } ∷ []) (filter-map (λ (l : Live). not (touches_stream x l.load.verdict)) live_of w.gate.live) ∙ sym (map-append live_of (staying x w.gate.live) (fresh (changer w.gate r x) ∷ []))) i;
+        live = (ap (λ (l : List Live). l ++ record { load = record { request = r; verdict = Routed x }; unlinker = None } ∷ []) (filter-map (λ (l : Live). not (is_touched (Routed x) l.load.verdict)) live_of w.gate.live) ∙ sym (map-append live_of (staying x w.gate.live) (fresh (changer w.gate r x) ∷ []))) i;
         queue = (sym (map-append at_device (j.held ++ j.coming) (entry ∷ [])) ∙ ap (map at_device) joined) i;
         way = λ e. way-lower (is_ended (Some x)) w.gate.streams e j.back i;
       })

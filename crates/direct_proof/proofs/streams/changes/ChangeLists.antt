@@ -10,12 +10,14 @@ use Rattle.control_route.specs.declared.route.Route.TheVariants as route
 use Rattle.control_route.specs.Changes.{is_change}
 use Rattle.model_device.specs.Transfer.{is_control}
 use Rattle.redir_host.specs.state.Sound.{Each}
-use Rattle.gate_history.specs.client.Requests.{Request}
-use Rattle.gate_history.specs.client.Verdict.{Verdict, Now, Wire, Routed, verdict, by_transfer, goes_by_id}
-use Rattle.gate_history.specs.write.Errno.{eshutdown, ebusy}
+use Rattle.gate_history.specs.declared.request.Request.{Request}
+use Rattle.gate_history.specs.declared.verdict.Verdict.{Verdict}
+use Rattle.gate_history.specs.declared.verdict.Verdict.TheVariants.{Now, Wire, Routed}
+use Rattle.gate_history.specs.client.Verdict.{verdict, by_transfer, goes_by_id}
+use Rattle.gate_history.specs.declared.errno.TheConstants.{EBUSY, ESHUTDOWN}
 use Rattle.gate_history.specs.state.Ids.{holds}
 use Rattle.gate_history.specs.step.Marks.{Submission}
-use Rattle.gate_history.specs.client.Submits.{Pending, touches_stream}
+use Rattle.gate_history.specs.client.Submits.{Pending, is_touched}
 use Rattle.gate_history.specs.write.Output.{fresh}
 use Rattle.gate_history.specs.state.State.{State, is_number as has_seq}
 use Rattle.gate_history.specs.step.Meaning.{by_stream}
@@ -40,8 +42,8 @@ past false status v x h = (refl, h)
 -- of a control transfer no table is read
 pub setup-alone : (lost : Bool) (live : ℕ) (changing : Bool) (t u : EpTable) (wide : Bool) (r : Request) (s : Setup) → r.transfer.setup ≡ Some s → verdict lost live changing t wide r ≡ verdict lost live changing u wide r
 setup-alone lost live changing t u wide r s h =
-    (λ i. cond lost (Now eshutdown) (cond (nat_le MAX_LIVE live) (Now ebusy) (by_transfer changing t wide r (h i))))
-    ∙ (λ i. cond lost (Now eshutdown) (cond (nat_le MAX_LIVE live) (Now ebusy) (by_transfer changing u wide r (sym h i))))
+    (λ i. cond lost (Now ESHUTDOWN) (cond (nat_le MAX_LIVE live) (Now EBUSY) (by_transfer changing t wide r (h i))))
+    ∙ (λ i. cond lost (Now ESHUTDOWN) (cond (nat_le MAX_LIVE live) (Now EBUSY) (by_transfer changing u wide r (sym h i))))
 
 pub by-routed : (up : Option Up) (x : Route) → by_stream up (Routed x) ≡ Routed x
 by-routed None x = refl
@@ -55,7 +57,7 @@ debt_in s = record { id = s.id; load = load_of s }
 abbrev pub by_id : Submission → Bool
 by_id s = goes_by_id s.verdict
 
-touched-waits : (x : Route) (v : Verdict) → touches_stream x v ≡ true → goes_by_id v ≡ false
+touched-waits : (x : Route) (v : Verdict) → is_touched (Routed x) v ≡ true → goes_by_id v ≡ false
 touched-waits x (Wire pipe) h = absurd (not-both (sym h))
 touched-waits x (Routed y) h = absurd (not-both (sym h))
 touched-waits x _ h = refl

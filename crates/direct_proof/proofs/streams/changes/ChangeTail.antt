@@ -9,8 +9,8 @@ use Rattle.control_route.specs.Changes.{is_change}
 use Rattle.redir_host.specs.state.Sound.{Each}
 use Rattle.gate_history.specs.state.Ids.{draws, last_of}
 use Rattle.gate_history.specs.write.Packets.{route_packets}
-use Rattle.gate_history.specs.client.Requests.{Request}
-use Rattle.gate_history.specs.client.Verdict.{Routed}
+use Rattle.gate_history.specs.declared.request.Request.{Request}
+use Rattle.gate_history.specs.declared.verdict.Verdict.TheVariants.{Routed}
 use Rattle.direct_proof.specs.Requests.{Entry, at_host}
 use Rattle.direct_proof.specs.Shared.{lines}
 use Rattle.direct_proof.specs.Stale.{asks}

@@ -8,7 +8,7 @@ use Rattle.control_route.specs.Changes.{is_change}
 use Rattle.redir_host.specs.guest.Line.{Waiting as InLine}
 use Rattle.redir_host.specs.state.Sound.{Each}
 use Rattle.model_device.specs.Meaning.{Meaning}
-use Rattle.gate_history.specs.client.Requests.{Request}
+use Rattle.gate_history.specs.declared.request.Request.{Request}
 use Rattle.gate_history.specs.state.Flight.{wide_ids}
 use Rattle.gate_history.specs.state.Ids.{AreFresh, greatest, draws, last_of}
 use Rattle.gate_history.specs.write.Packets.{stops, route_packets}

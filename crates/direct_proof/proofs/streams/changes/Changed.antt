@@ -7,7 +7,7 @@ use Rattle.control_route.specs.declared.route.Route.{Route}
 use Rattle.control_route.specs.Changes.{is_change}
 use Rattle.redir_host.specs.state.Sound.{Each}
 use Rattle.model_device.specs.Meaning.{Meaning}
-use Rattle.gate_history.specs.client.Requests.{Request}
+use Rattle.gate_history.specs.declared.request.Request.{Request}
 use Rattle.gate_history.specs.state.Calls.{Calls, call_ids, called}
 use Rattle.gate_history.specs.state.Flight.{ids_of}
 use Rattle.gate_history.specs.state.Ids.{Fits, times, holds, last_of}

@@ -12,12 +12,14 @@ use Rattle.usbip_urb.specs.declared.client.ClientPacket.TheVariants.{Urb}
 use Rattle.redir_data.specs.declared.packet.RedirPacket.{RedirPacket}
 use Rattle.control_route.specs.declared.route.Route.{Route}
 use Rattle.model_device.specs.Meaning.{Meaning}
-use Rattle.gate_history.specs.client.Requests.{Request, request_of}
-use Rattle.gate_history.specs.step.Items.{Asked}
-use Rattle.gate_history.specs.client.Verdict.{Verdict, Routed}
-use Rattle.gate_history.specs.write.Errno.{eshutdown}
+use Rattle.gate_history.specs.declared.request.Request.{Request}
+use Rattle.gate_history.specs.client.Requests.{request_of}
+use Rattle.gate_history.specs.declared.item.Item.TheVariants.{Asked}
+use Rattle.gate_history.specs.declared.verdict.Verdict.{Verdict}
+use Rattle.gate_history.specs.declared.verdict.Verdict.TheVariants.{Routed}
+use Rattle.gate_history.specs.declared.errno.TheConstants.{ESHUTDOWN}
 use Rattle.gate_history.specs.step.Marks.{Submission, Effect, Opens}
-use Rattle.gate_history.specs.client.Submits.{Pending, End, ByChange, ends, at_once, touches_stream}
+use Rattle.gate_history.specs.client.Submits.{Pending, End, ByChange, ends, at_once, is_touched}
 use Rattle.gate_history.specs.state.Ids.{last_of}
 use Rattle.gate_history.specs.state.State.{State, has_number, next_ids}
 use Rattle.gate_history.specs.write.Packets.{stops, route_packets}
@@ -49,7 +51,7 @@ abbrev pub changer : State → Request → Route → Submission
 changer st r x = record { place = st.items; request = r; verdict = Routed x; id = last_of 0 (change_ids st x) }
 
 abbrev pub touched : Route → Pending → Bool
-touched x p = touches_stream x p.submit.verdict
+touched x p = is_touched (Routed x) p.submit.verdict
 
 -- ---- what it means
 
@@ -72,7 +74,7 @@ abbrev pub staying : Route → List Pending → List Pending
 staying x ps = filter (λ p. not (touched x p)) ps
 
 abbrev pub ending : Route → List Pending → List UrbPacket
-ending x ps = map (λ (p : Pending). without_packets p.submit.request eshutdown) (filter (touched x) ps)
+ending x ps = map (λ (p : Pending). without_packets p.submit.request ESHUTDOWN) (filter (touched x) ps)
 
 abbrev pub change_world : {S : Type 0} → World S → Request → Route → World S
 change_world w r x = record w {
@@ -123,7 +125,7 @@ module _ (st : State) (r : Request) (x : Route) where
       let rest = gives ps h.1 in
       (λ i. answers_at p.submit p.unlinker (end-is p h.0 i) ++ rest i) ∙ by (touched x p)
     where
-      by : (b : Bool) → answers_at p.submit p.unlinker (cond b (Some ByChange) None) ++ ending x ps ≡ map (λ (q : Pending). without_packets q.submit.request eshutdown) (cond b (p ∷ filter (touched x) ps) (filter (touched x) ps))
+      by : (b : Bool) → answers_at p.submit p.unlinker (cond b (Some ByChange) None) ++ ending x ps ≡ map (λ (q : Pending). without_packets q.submit.request ESHUTDOWN) (cond b (p ∷ filter (touched x) ps) (filter (touched x) ps))
       by true = refl
       by false = refl
 
@@ -151,17 +153,17 @@ abbrev pub changed : {S : Type 0} → Direct S → Request → Route → Direct 
 changed d r x =
     let ups : List (Option Up) = lower (is_ended (Some x)) d.streams in
     record d {
-      live = filter (λ (l : Live). not (touches_stream x l.load.verdict)) d.live ++ record { load = record { request = r; verdict = Routed x }; unlinker = None } ∷ [];
+      live = filter (λ (l : Live). not (is_touched (Routed x) l.load.verdict)) d.live ++ record { load = record { request = r; verdict = Routed x }; unlinker = None } ∷ [];
       queue = d.queue ++ record { load = record { request = r; verdict = Routed x }; asked = false } ∷ [];
       streams = ups;
       way = way_by ups d.way;
     }
 
 pub device-changes : {S : Type 0} (m : Meaning S) (d : Direct S) (r : Request) (x : Route) → made_of m d r ≡ Routed x → d.imported ≡ true → list_any (λ (l : Live). is_number r.number l.load) d.live ≡ false →
-    Does m d (Submit r ∷ []) (changed d r x) (map Urb (map (λ (y : Live). without_packets y.load.request eshutdown) (filter (λ (l : Live). touches_stream x l.load.verdict) d.live)))
+    Does m d (Submit r ∷ []) (changed d r x) (map Urb (map (λ (y : Live). without_packets y.load.request ESHUTDOWN) (filter (λ (l : Live). is_touched (Routed x) l.load.verdict) d.live)))
 device-changes {S = S} m d r x made imported new = record {
   same = ap (λ (v : Verdict). submitted d (record { request = r; verdict = v })) made;
   legal = ((imported, new), tt);
   outs-are = ap (map Urb) (sym (append-nil (answers m d (Submit r)) ∙ ap (λ (v : Verdict). submit_answers d (record { request = r; verdict = v })) made
-      ∙ append-nil (map (λ (y : Live). without_packets y.load.request eshutdown) (filter (λ (l : Live). touches_stream x l.load.verdict) d.live))));
+      ∙ append-nil (map (λ (y : Live). without_packets y.load.request ESHUTDOWN) (filter (λ (l : Live). is_touched (Routed x) l.load.verdict) d.live))));
 }

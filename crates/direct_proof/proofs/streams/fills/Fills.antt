@@ -5,7 +5,7 @@ use Rattle.std.specs.Option.{option_map}
 use Rattle.usbip_urb.specs.declared.packet.UrbPacket.{UrbPacket}
 use Rattle.usb_base.specs.declared.transfer.StreamPacket.{StreamPacket}
 use Rattle.stream_buffers.specs.Cuts.{Cut}
-use Rattle.gate_history.specs.client.Requests.{Request}
+use Rattle.gate_history.specs.declared.request.Request.{Request}
 use Rattle.gate_history.specs.host.Fillings.{Given, Fill, Filling, fill, filled_by, cut_of, given_to}
 use Rattle.gate_history.specs.client.Submits.{Pending, End, ByPackets, waits_at, packets_end}
 use Rattle.gate_history.specs.write.Answers.{answers_at, with_given}

@@ -2,7 +2,7 @@
 use Rattle.std.proofs.Common.{◌≡◌, true, false, cond, List, [], ◌∷◌, length, refl, sym, subst}
 use Rattle.control_route.specs.declared.route.Route.{Route}
 use Rattle.gate_history.specs.state.Calls.{no_calls}
-use Rattle.gate_history.specs.step.Items.{Item}
+use Rattle.gate_history.specs.declared.item.Item.{Item}
 use Rattle.gate_history.specs.step.Machine.{after, run as gate_run}
 use Rattle.gate_history.specs.step.Meaning.{mark_of, meaning, told_by}
 use Rattle.gate_history.specs.step.Past.{is_left_out}

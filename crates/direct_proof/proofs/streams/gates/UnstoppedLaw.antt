@@ -10,14 +10,15 @@ use Rattle.usb_base.specs.declared.side.Side.TheVariants.{Client, Host}
 use Rattle.usb_base.specs.declared.transfer.StreamPacket.{StreamPacket}
 use Rattle.usb_base.specs.Status.{is_success}
 use Rattle.redir_data.specs.declared.packet.RedirPacket.{RedirPacket}
-use Rattle.gate_history.specs.client.Requests.{Request}
-use Rattle.gate_history.specs.client.Verdict.{Verdict, Now, Wire, Routed, IsoOut, Stream}
+use Rattle.gate_history.specs.declared.request.Request.{Request}
+use Rattle.gate_history.specs.declared.verdict.Verdict.{Verdict}
+use Rattle.gate_history.specs.declared.verdict.Verdict.TheVariants.{Now, Wire, Routed, IsoOut, Stream}
 use Rattle.gate_history.specs.step.Marks.{Fact, Effect, Idle, Replies, Imports, Opens, Waits, Arrives, Unlinks, Agrees, Answers, StreamTold, Disconnects, Ends, Refuses}
 use Rattle.gate_history.specs.state.Ids.{draws, draw, last_of, greatest}
 use Rattle.gate_history.specs.state.Flight.{wide_ids}
 use Rattle.gate_history.specs.state.Calls.{Calls, called, started}
 use Rattle.gate_history.specs.write.Packets.{stops, route_packets, starts, iso_packets, packets_of}
-use Rattle.gate_history.specs.state.Ups.{Up, stream_at, raise, raised, lower, hold, is_ended, no_streams, opened_streams}
+use Rattle.gate_history.specs.state.Ups.{Up, stream_at, raise, lower, hold, is_ended, no_streams, opened_streams}
 use Rattle.gate_history.specs.state.State.{State, flying}
 use Rattle.gate_history.specs.step.Meaning.{mark_as}
 use Rattle.gate_history.specs.step.Machine.{after}
@@ -87,7 +88,7 @@ module _ (most : ℕ) (fly : List ℕ) (last : ℕ) (ups : List (Option Up)) (c 
   starting : (ep : ℕ) (row : EpRow) (others : List RedirPacket) → ((ids : List ℕ) (d : Calls) → called (zip ids others) d ≡ d) → Unstopped (raise (record { ep = ep; row = row; held = [] }) ups) (called (numbered (starts (stream_at ups ep) ep row ++ others)) c)
   starting ep row others silent = go (stream_at ups ep)
     where
-      go : (o : Option Up) → Unstopped (raised ups (record { ep = ep; row = row; held = [] }) o) (called (numbered (starts o ep row ++ others)) c)
+      go : (o : Option Up) → Unstopped (cond (is_some o) ups (slice_set ups (endpoint_index ep) (Some (record { ep = ep; row = row; held = [] })))) (called (numbered (starts o ep row ++ others)) c)
       go (Some up) = subst (Unstopped ups) (sym (silent (draws most fly last (length others)) c)) h
       go None = subst (Unstopped (slice_set ups (endpoint_index ep) (Some (record { ep = ep; row = row; held = [] }))))
           (sym (ap (called (zip (draws most fly (draw most fly last) (length others)) others)) (start-calls (draw most fly last) ep row c) ∙ silent (draws most fly (draw most fly last) (length others)) (started ep (draw most fly last) c)))

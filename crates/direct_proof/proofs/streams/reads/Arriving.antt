@@ -11,8 +11,8 @@ use Rattle.usbip_urb.specs.declared.packet.UrbPacket.{UrbPacket}
 use Rattle.redir_data.specs.declared.packet.RedirPacket.{RedirPacket}
 use Rattle.redir_host.specs.declared.running.StreamKind.{StreamKind}
 use Rattle.redir_host.specs.declared.running.StreamKind.TheVariants.{Iso, Interrupt}
-use Rattle.gate_history.specs.client.Requests.{Request}
-use Rattle.gate_history.specs.step.Items.{Told}
+use Rattle.gate_history.specs.declared.request.Request.{Request}
+use Rattle.gate_history.specs.declared.item.Item.TheVariants.{Told}
 use Rattle.gate_history.specs.host.Fillings.{Fill, Filling, fill, none_filled, given_to}
 use Rattle.gate_history.specs.step.Marks.{Submission, Effect, Arrives, Mark}
 use Rattle.gate_history.specs.client.Submits.{Pending, End, ByPackets, is_waiting, waits_at, packets_end}
@@ -23,7 +23,9 @@ use Rattle.gate_history.specs.write.Answers.{answers_at}
 use Rattle.gate_history.specs.write.Notes.{is_by_answer, notes_of}
 use Rattle.gate_history.specs.declared.note.Note.{Note}
 use Rattle.gate_history.specs.declared.note.Note.TheVariants as note
-use Rattle.gate_history.specs.client.Verdict.{Verdict, Now, is_iso, goes_by_id}
+use Rattle.gate_history.specs.declared.verdict.Verdict.{Verdict}
+use Rattle.gate_history.specs.declared.verdict.Verdict.TheVariants.{Now}
+use Rattle.gate_history.specs.client.Verdict.{is_iso, goes_by_id}
 use Rattle.gate_history.specs.state.Ups.{Up, stream_of, hold}
 use Rattle.gate_history.proofs.lemmas.Lists.{filter-all, filter-map, map-map}
 use Rattle.gate_history.proofs.lemmas.step.NoCancel.{asks-none, none-cancelled, stays-uncancelled}

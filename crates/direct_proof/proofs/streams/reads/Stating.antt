@@ -7,7 +7,7 @@ use Rattle.redir_host.specs.declared.running.StreamKind.TheVariants.{Iso, Interr
 use Rattle.redir_host.specs.state.Sound.{Each}
 use Rattle.model_device.specs.Meaning.{Meaning}
 use Rattle.gate_history.specs.state.Ids.{times}
-use Rattle.gate_history.specs.step.Items.{Told}
+use Rattle.gate_history.specs.declared.item.Item.TheVariants.{Told}
 use Rattle.gate_history.specs.step.Marks.{StreamTold}
 use Rattle.gate_history.specs.state.Calls.{lifted}
 use Rattle.gate_history.specs.state.State.{State}

@@ -2,7 +2,7 @@
 use Rattle.direct_proof.proofs.streams.submits.Drawn.{any-back}
 use Rattle.std.proofs.Common.{◌≡◌, ℕ, ◌≤◌, ◌==◌, Bool, true, false, List, [], ◌∷◌, ◌++◌, map, refl, ap, subst, arith}
 use Rattle.usb_base.specs.declared.endpoint.EpRow.{EpRow}
-use Rattle.gate_history.specs.client.Requests.{Request}
+use Rattle.gate_history.specs.declared.request.Request.{Request}
 use Rattle.gate_history.specs.state.Flight.{wide_ids, ids_of}
 use Rattle.gate_history.specs.state.Ids.{AreFresh, holds, greatest}
 use Rattle.gate_history.specs.state.Calls.{call_ids}

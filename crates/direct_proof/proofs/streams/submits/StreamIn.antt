@@ -13,11 +13,11 @@ use Rattle.usbip_urb.specs.declared.client.ClientPacket.TheVariants.{Urb}
 use Rattle.usbip_urb.specs.Sizes.{is_out}
 use Rattle.model_device.specs.Meaning.{Meaning}
 use Rattle.gate_history.specs.state.Flight.{wide_bulk}
-use Rattle.gate_history.specs.step.Items.{Asked}
+use Rattle.gate_history.specs.declared.item.Item.TheVariants.{Asked}
 use Rattle.gate_history.specs.client.Requests.{request_of, address, is_in_setup}
 use Rattle.gate_history.specs.state.State.{has_number, change_waits}
 use Rattle.gate_history.specs.step.Meaning.{verdict_of}
-use Rattle.gate_history.specs.client.Verdict.{Stream}
+use Rattle.gate_history.specs.declared.verdict.Verdict.TheVariants.{Stream}
 use Rattle.direct_run.specs.Moves.{World, ByClient}
 use Rattle.direct_proof.specs.Moves.{move}
 use Rattle.direct_proof.specs.Shared.{Shared}

@@ -12,10 +12,12 @@ use Rattle.usbip_urb.specs.declared.packet.UrbPacket.TheVariants as urb
 use Rattle.usbip_urb.specs.declared.client.ClientPacket.TheVariants.{Urb}
 use Rattle.redir_data.specs.declared.packet.RedirPacket.{RedirPacket}
 use Rattle.model_device.specs.Meaning.{Meaning}
-use Rattle.gate_history.specs.client.Requests.{Request, request_of}
-use Rattle.gate_history.specs.step.Items.{Asked}
-use Rattle.gate_history.specs.client.Verdict.{Verdict, Stream}
-use Rattle.gate_history.specs.write.Errno.{eshutdown}
+use Rattle.gate_history.specs.declared.request.Request.{Request}
+use Rattle.gate_history.specs.client.Requests.{request_of}
+use Rattle.gate_history.specs.declared.item.Item.TheVariants.{Asked}
+use Rattle.gate_history.specs.declared.verdict.Verdict.{Verdict}
+use Rattle.gate_history.specs.declared.verdict.Verdict.TheVariants.{Stream}
+use Rattle.gate_history.specs.declared.errno.TheConstants.{ESHUTDOWN}
 use Rattle.gate_history.specs.host.Fillings.{Fill, fill}
 use Rattle.gate_history.specs.step.Marks.{Submission, Waits}
 use Rattle.gate_history.specs.client.Submits.{Pending, waits_at}
@@ -145,5 +147,5 @@ device-waits {S = S} m d r row made imported new = record {
   legal = ((imported, new), tt);
   outs-are = ap (map Urb) (sym (append-nil (answers m d (Submit r))
       ∙ ap (λ (v : Verdict). submit_answers d (record { request = r; verdict = v })) made
-      ∙ ap (λ (l : List Live). map (λ (y : Live). without_packets y.load.request eshutdown) l ++ []) (filter-none d.live)));
+      ∙ ap (λ (l : List Live). map (λ (y : Live). without_packets y.load.request ESHUTDOWN) l ++ []) (filter-none d.live)));
 }

@@ -1,6 +1,6 @@
 -- A submit that waits for a stream keeps what is shared: it starts a stream that is down, or is filled from what is held.
 use Rattle.std.proofs.Common.{◌≡◌, ℕ, inl, true, false, cond, List, [], ◌∷◌, ◌++◌, length, map, Option, Some, None, refl, sym, ap, ◌∙◌, subst, append-nil}
-use Rattle.std.specs.Prelude.{slice_set, zip}
+use Rattle.std.specs.Prelude.{slice_set, zip, is_some}
 use Rattle.std.specs.List.{list_any}
 use Rattle.std.proofs.lemmas.List.{length-map}
 use Rattle.usb_base.specs.Endpoint.{endpoint_index, row_of}
@@ -11,9 +11,11 @@ use Rattle.usbip_urb.specs.declared.packet.UrbPacket.TheVariants as urb
 use Rattle.usbip_urb.specs.declared.client.ClientPacket.TheVariants.{Urb}
 use Rattle.redir_data.specs.declared.packet.RedirPacket.{RedirPacket}
 use Rattle.model_device.specs.Meaning.{Meaning}
-use Rattle.gate_history.specs.client.Requests.{Request, request_of}
-use Rattle.gate_history.specs.step.Items.{Asked}
-use Rattle.gate_history.specs.client.Verdict.{Stream, verdict, changes}
+use Rattle.gate_history.specs.declared.request.Request.{Request}
+use Rattle.gate_history.specs.client.Requests.{request_of}
+use Rattle.gate_history.specs.declared.item.Item.TheVariants.{Asked}
+use Rattle.gate_history.specs.declared.verdict.Verdict.TheVariants.{Stream}
+use Rattle.gate_history.specs.client.Verdict.{verdict, changes}
 use Rattle.gate_history.specs.host.Fillings.{Fill}
 use Rattle.gate_history.specs.state.Flight.{wide_bulk}
 use Rattle.gate_history.specs.state.Calls.{Calls, called, started}
@@ -23,7 +25,7 @@ use Rattle.gate_history.specs.write.Output.{fresh}
 use Rattle.gate_history.specs.state.State.{next_ids, has_number, is_number as has_seq, change_waits}
 use Rattle.gate_history.specs.write.Packets.{starts, start_packet}
 use Rattle.gate_history.specs.step.Meaning.{mark_as, by_stream, verdict_of}
-use Rattle.gate_history.specs.state.Ups.{Up, stream_at, stream_of, hold, raise, raised, held_of}
+use Rattle.gate_history.specs.state.Ups.{Up, stream_at, stream_of, hold, raise, held_of}
 use Rattle.gate_history.proofs.lemmas.Lists.{list_any-map}
 use Rattle.gate_history.proofs.lemmas.state.Calls.{start-calls}
 use Rattle.direct_proof.proofs.shared.New.{next_id}
@@ -134,7 +136,7 @@ module _ {S : Type 0} (m : Meaning S) (w : World S) (j : Shared) (place : ℕ) (
 
   -- a stream that is up
   keep-up : (up : Up) → stream_at w.gate.streams ep ≡ Some up → Keeps m w j (move m w (ByClient (Asked place (Urb (urb.Submit s)))))
-  keep-up up here = keeps up.row (ap (λ (o : Option Up). by_stream o (Stream first)) here) w.gate.streams (ap (raised w.gate.streams (record { ep = ep; row = up.row; held = [] })) here) after
+  keep-up up here = keeps up.row (ap (λ (o : Option Up). by_stream o (Stream first)) here) w.gate.streams (ap (λ (o : Option Up). cond (is_some o) w.gate.streams (slice_set w.gate.streams (endpoint_index ep) (Some (record { ep = ep; row = up.row; held = [] })))) here) after
       (subst (Holds w.gate.streams ep up.row.max_packet) (sym (ap held_of here)) (holds-at w.gate.streams ep up at rel.ups.count_is (by-address w.gate.streams ep at ∙ here)))
       (λ e. again (stream_of w.gate.streams e) e)
     where
@@ -157,7 +159,7 @@ module _ {S : Type 0} (m : Meaning S) (w : World S) (j : Shared) (place : ℕ) (
   ups1 = slice_set w.gate.streams (endpoint_index ep) (Some (record { ep = ep; row = first; held = [] }))
 
   keep-down : stream_at w.gate.streams ep ≡ None → Keeps m w j (move m w (ByClient (Asked place (Urb (urb.Submit s)))))
-  keep-down here = keeps first (ap (λ (o : Option Up). by_stream o (Stream first)) here) ups1 (ap (raised w.gate.streams up1) here) after
+  keep-down here = keeps first (ap (λ (o : Option Up). by_stream o (Stream first)) here) ups1 (ap (λ (o : Option Up). cond (is_some o) w.gate.streams (slice_set w.gate.streams (endpoint_index up1.ep) (Some up1))) here) after
       (subst (Holds ups1 ep first.max_packet) (sym (ap held_of here)) (holds-at ups1 ep up1 at raised-fits.fits.count_is (up-here m w j ep (next_id w.gate) first rel still at facts.kind_is row-is down gate.long (id-free w.gate gate))))
       (way-raised m w j ep (next_id w.gate) first rel still at facts.kind_is row-is down gate.long (id-free w.gate gate))
     where

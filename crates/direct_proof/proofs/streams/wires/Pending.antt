@@ -6,8 +6,11 @@ use Rattle.control_route.specs.declared.route.Route.{Route}
 use Rattle.control_route.specs.declared.route.Route.TheVariants as route
 use Rattle.redir_host.specs.guest.Line.{Waiting as InLine, Reset}
 use Rattle.gate_history.specs.state.Ids.{times}
-use Rattle.gate_history.specs.client.Requests.{Request}
-use Rattle.gate_history.specs.client.Verdict.{Verdict, Control, Bulk, InterruptOut, Now, Wire, Routed, IsoOut, Stream, changes}
+use Rattle.gate_history.specs.declared.request.Request.{Request}
+use Rattle.gate_history.specs.declared.verdict.Pipe.TheVariants.{Control, Bulk, InterruptOut}
+use Rattle.gate_history.specs.declared.verdict.Verdict.{Verdict}
+use Rattle.gate_history.specs.declared.verdict.Verdict.TheVariants.{Now, Wire, Routed, IsoOut, Stream}
+use Rattle.gate_history.specs.client.Verdict.{changes}
 use Rattle.direct_proof.specs.Requests.{Entry, at_host, form_by, resets}
 use Rattle.direct_proof.specs.Tagged.{Tagged}
 use Rattle.direct_proof.specs.Shared.{lines, in_line, half_line, at_hosts}

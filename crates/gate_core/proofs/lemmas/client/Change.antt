@@ -16,12 +16,12 @@ use Rattle.gate_history.specs.declared.note.Note.{Note}
 use Rattle.gate_history.specs.declared.note.Note.TheVariants as note
 use Rattle.gate_core.specs.declared.write.outputs.Outputs.{Outputs}
 use Rattle.gate_core.specs.declared.state.kept.Kept.{Kept}
-use Rattle.gate_history.specs.step.Items.{capped}
-use Rattle.gate_history.specs.write.Errno.{eshutdown}
-use Rattle.gate_history.specs.client.Requests.{Request}
-use Rattle.gate_history.specs.client.Verdict.{Routed}
+use Rattle.usb_base.specs.Number.{capped}
+use Rattle.gate_history.specs.declared.errno.TheConstants.{ESHUTDOWN}
+use Rattle.gate_history.specs.declared.request.Request.{Request}
+use Rattle.gate_history.specs.declared.verdict.Verdict.TheVariants.{Routed}
 use Rattle.gate_history.specs.step.Marks.{Submission, Effect, Opens}
-use Rattle.gate_history.specs.client.Submits.{Pending, ByChange, at_once, touches_stream, ends}
+use Rattle.gate_history.specs.client.Submits.{Pending, ByChange, at_once, ends, is_touched}
 use Rattle.gate_history.specs.state.Ids.{last_of}
 use Rattle.gate_history.specs.state.Ups.{lower, is_ended}
 use Rattle.gate_history.specs.state.Calls.{called}
@@ -61,17 +61,17 @@ module _ (st : State) (sound : IsSound st) (q : Request) (r : Route) where
   e = Opens change
 
   abbrev packet : Live → UrbPacket
-  packet l = without_packets (row_request l) eshutdown
+  packet l = without_packets (row_request l) ESHUTDOWN
 
   abbrev So : Pending → Type 0
   So p = EndsSo e (touched_by r) packet p
 
-  other-end : (p : Pending) → p.submit.place < st.items → ends e p.submit ≡ cond (touches_stream r p.submit.verdict) (Some ByChange) None
+  other-end : (p : Pending) → p.submit.place < st.items → ends e p.submit ≡ cond (is_touched (Routed r) p.submit.verdict) (Some ByChange) None
   other-end p placed =
-      ap (λ (b : Bool). cond b (at_once p.submit.verdict) (cond (touches_stream r p.submit.verdict) (Some ByChange) None)) (other-place st.items p.submit.place placed)
+      ap (λ (b : Bool). cond b (at_once p.submit.verdict) (cond (is_touched (Routed r) p.submit.verdict) (Some ByChange) None)) (other-place st.items p.submit.place placed)
 
   other-so : (p : Pending) → p.submit.place < st.items → IsGoing p → So p
-  other-so p placed going = ends-so e (touched_by r) packet p (touches_stream r p.submit.verdict) ByChange (other-end p placed) (touched-row r p going) refl refl refl
+  other-so p placed going = ends-so e (touched_by r) packet p (is_touched (Routed r) p.submit.verdict) ByChange (other-end p placed) (touched-row r p going) refl refl refl
 
   all-so : Each (EndsSo e (touched_by r) packet) st.live
   all-so =
@@ -79,10 +79,10 @@ module _ (st : State) (sound : IsSound st) (q : Request) (r : Route) where
       (each-mapped (λ (s : Submission). s.place < st.items) (λ (p : Pending). p.submit) st.live sound.places) (all-going st sound)
 
   own : ends e change ≡ None
-  own = ap (λ (b : Bool). cond b None (cond (touches_stream r (Routed r)) (Some ByChange) None)) (own-place st.items)
+  own = ap (λ (b : Bool). cond b None (cond (is_touched (Routed r) (Routed r)) (Some ByChange) None)) (own-place st.items)
 
   abbrev touched : Pending → Bool
-  touched p = touches_stream r p.submit.verdict
+  touched p = is_touched (Routed r) p.submit.verdict
 
   others : Each (λ p. ends e p.submit ≡ cond (touched p) (Some ByChange) None) st.live
   others =
@@ -113,7 +113,7 @@ module _ (st : State) (sound : IsSound st) (q : Request) (r : Route) where
         last = last_of old.last (drawn_for st q (Routed r));
         answered = capped (old.answered + length (filter (touched_by r) old.lives.live));
       } →
-      out_new.to_client ≡ out_old.to_client ++ flat_map (ended_bytes (Change r) eshutdown) old.lives.live →
+      out_new.to_client ≡ out_old.to_client ++ flat_map (ended_bytes (Change r) ESHUTDOWN) old.lives.live →
       out_new.to_host ≡ out_old.to_host ++ flat_map (host_packet_bytes old.caps) (zip (drawn_for st q (Routed r)) (packets_of st.streams (Routed r) q)) →
       out_new.notes ≡ out_old.notes ++ note.Submitted q.number change.id ∷ [] →
       Does st (mark_as st (Opens change) None) old new out_old out_new
@@ -129,7 +129,7 @@ module _ (st : State) (sound : IsSound st) (q : Request) (r : Route) where
       (sym won ∙ ap (λ (ps : List UrbPacket). length (filter is_won_unlink (map Urb ps))) (sym change-sent))
       (change-dropped st change touched ByChange others own refl)
       (client ∙ ap (λ (bs : List ℕ). out_old.to_client ++ bs)
-      (ap (flat_map (ended_bytes (Change r) eshutdown)) h.live ∙ sym (ended-bytes e (touched_by r) packet st.live all-so)
+      (ap (flat_map (ended_bytes (Change r) ESHUTDOWN)) h.live ∙ sym (ended-bytes e (touched_by r) packet st.live all-so)
       ∙ ap (λ (ps : List UrbPacket). flat_map client_spelling (map Urb ps)) (sym change-sent)))
       (host ∙ (λ i. out_old.to_host ++ flat_map (host_packet_bytes (h.caps i)) (sym (none-cancelled e stays-uncancelled st.live) i ++ zip (drawn_for st q (Routed r)) (packets_of st.streams (Routed r) q))))
       (notes ∙ ap (λ (ns : List Note). out_old.notes ++ note.Submitted q.number change.id ∷ ns) (sym (change-noted st change touched ByChange others own refl)))

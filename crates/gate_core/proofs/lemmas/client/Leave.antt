@@ -1,7 +1,7 @@
 -- What a client's leaving makes of what is kept, and what it sends and tells.
 use Rattle.std.proofs.Common.{◌≡◌, ℕ, ◌+◌, ◌^◌, ◌-◌, ◌≤◌, ◌&&◌, ◌||◌, Bool, true, false, cond, not, List, [], ◌++◌, length, map, None, refl, sym, ap, ◌∙◌}
 use Rattle.std.specs.Prelude.{is_none, filter, zip}
-use Rattle.std.specs.List.{flat_map}
+use Rattle.std.specs.List.{flat_map, last_or}
 use Rattle.std.proofs.lemmas.Bool.{false≢true, or_parts}
 use Rattle.std.proofs.lemmas.List.{append-nil, map-append, length-map}
 use Rattle.usbip_urb.specs.declared.client.ClientPacket.{ClientPacket}
@@ -13,7 +13,7 @@ use Rattle.gate_history.specs.declared.note.Note.{Note}
 use Rattle.gate_history.specs.declared.note.Note.TheVariants as note
 use Rattle.gate_core.specs.declared.write.outputs.Outputs.{Outputs}
 use Rattle.gate_core.specs.declared.state.kept.Kept.{Kept}
-use Rattle.gate_history.specs.step.Items.{capped}
+use Rattle.usb_base.specs.Number.{capped}
 use Rattle.gate_history.specs.step.Marks.{Submission, Effect, Disconnects}
 use Rattle.gate_history.specs.state.Facts.{no_facts}
 use Rattle.gate_history.specs.state.Sides.{refused_at, leaves, is_loss, disconnects, closes_host, refuses_client, ends_client, turned}
@@ -23,7 +23,7 @@ use Rattle.redir_data.specs.declared.packet.RedirPacket.{RedirPacket}
 use Rattle.gate_parts.specs.declared.state.calls.Called.{Called}
 use Rattle.gate_history.specs.state.Ups.{no_streams, is_ended, moved_streams}
 use Rattle.gate_history.specs.write.Packets.{stops, asked_packets}
-use Rattle.gate_history.specs.state.Calls.{called, last_or, moved_fence}
+use Rattle.gate_history.specs.state.Calls.{called, moved_fence}
 use Rattle.gate_history.specs.state.Ids.{last_of}
 use Rattle.gate_core.specs.inner.Calls.{HasParted}
 use Rattle.gate_history.specs.state.State.{State, submits}

@@ -11,8 +11,8 @@ use Rattle.gate_history.specs.declared.note.Note.{Note}
 use Rattle.gate_history.specs.declared.note.Note.TheVariants as note
 use Rattle.gate_core.specs.declared.write.outputs.Outputs.{Outputs}
 use Rattle.gate_core.specs.declared.state.kept.Kept.{Kept}
-use Rattle.gate_history.specs.step.Items.{capped}
-use Rattle.gate_history.specs.client.Verdict.{Verdict}
+use Rattle.usb_base.specs.Number.{capped}
+use Rattle.gate_history.specs.declared.verdict.Verdict.{Verdict}
 use Rattle.gate_history.specs.step.Marks.{Submission, Opens}
 use Rattle.gate_history.specs.client.Submits.{Pending, ByChange, at_once, is_touched, ends}
 use Rattle.gate_history.specs.state.Ids.{last_of}

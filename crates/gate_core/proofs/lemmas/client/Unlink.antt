@@ -1,4 +1,5 @@
 -- What an unlink makes of what is kept, and what it sends and tells.
+use Rattle.std.specs.Option.{option_or}
 use Rattle.std.proofs.Common.{◌≡◌, ℕ, ◌+◌, ◌-◌, ◌^◌, ◌≤◌, ◌==◌, ◌&&◌, ◌||◌, Bool, true, false, cond, not, List, [], ◌∷◌, ◌++◌, length, map, Some, None, pos, refl, sym, ap, ◌∙◌, arith}
 use Rattle.std.specs.Prelude.{filter, is_none}
 use Rattle.std.specs.List.{list_any, flat_map}
@@ -16,9 +17,8 @@ use Rattle.gate_history.specs.declared.note.Note.TheVariants as note
 use Rattle.gate_core.specs.declared.write.outputs.Outputs.{Outputs}
 use Rattle.gate_core.specs.declared.state.kept.Kept.{Kept}
 use Rattle.gate_core.specs.declared.client.unlink.UnlinkAnswer.{UnlinkAnswer}
-use Rattle.gate_history.specs.state.Sides.{or_else}
-use Rattle.gate_history.specs.step.Items.{capped}
-use Rattle.gate_history.specs.write.Errno.{econnreset}
+use Rattle.usb_base.specs.Number.{capped}
+use Rattle.gate_history.specs.declared.errno.TheConstants.{ECONNRESET}
 use Rattle.gate_history.specs.step.Marks.{Effect, Unlinks}
 use Rattle.gate_history.specs.client.Submits.{Pending, ByUnlink, is_waiting, ends}
 use Rattle.usbip_urb.specs.declared.packet.UrbPacket.{UrbPacket}
@@ -57,7 +57,7 @@ module _ (by target : ℕ) where
   asks = Unlinks by target
 
   abbrev back : Live → UrbPacket
-  back l = ret_unlink by econnreset
+  back l = ret_unlink by ECONNRESET
 
   taken-so : (p : Pending) → IsGoing p → EndsSo asks (is_taken_row target) back p
   taken-so p going =
@@ -72,7 +72,7 @@ module _ (by target : ℕ) where
 asked-rows : (by target : ℕ) (ps : List Pending) → map (asked_row target by) (map row ps) ≡ map row (map (ask (Unlinks by target)) ps)
 asked-rows by target [] = refl
 asked-rows by target (p ∷ ps) =
-    λ i. row_of p.submit (or_else p.unlinker (cond (by_id-row p.submit p.unlinker i && (p.submit.request.number == target)) (Some by) None)) ∷ asked-rows by target ps i
+    λ i. row_of p.submit (option_or p.unlinker (cond (by_id-row p.submit p.unlinker i && (p.submit.request.number == target)) (Some by) None)) ∷ asked-rows by target ps i
 
 found-rows : (caps : Caps) (by target : ℕ) (ps : List Pending) → Each IsGoing ps → list_any (is_found_row caps target by) (map row ps) ≡ list_any (λ p. is_target target p || is_taken target p) ps
 found-rows caps by target [] h = refl

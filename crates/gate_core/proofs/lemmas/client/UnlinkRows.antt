@@ -1,4 +1,5 @@
 -- What an unlink makes of the rows, where a number is that of one at most.
+use Rattle.std.specs.Option.{option_or}
 use Rattle.std.proofs.Common.{◌≡◌, ℕ, suc, ◌≤◌, ◌==◌, ◌&&◌, ◌||◌, Bool, true, false, cond, not, List, [], ◌∷◌, ◌++◌, length, map, Option, Some, None, refl, sym, ap, subst, ◌∙◌, inl, inr, arith}
 use Rattle.std.specs.Prelude.{filter, is_none}
 use Rattle.std.specs.List.{find, list_any, flat_map}
@@ -15,13 +16,12 @@ use Rattle.unlink_race.specs.Firsts.{without_first, change_first}
 use Rattle.unlink_race.specs.Unlinking.{unlinked_by}
 use Rattle.gate_core.specs.declared.client.unlink.UnlinkAnswer.{UnlinkAnswer}
 use Rattle.gate_core.specs.declared.client.unlink.UnlinkAnswer.TheVariants.{Late, Cancel, Waits, Taken}
-use Rattle.gate_history.specs.state.Sides.{or_else}
 use Rattle.gate_history.specs.write.Bytes.{host_packet_bytes}
 use Rattle.gate_parts.specs.state.Rows.{is_wire_row}
 use Rattle.gate_history.proofs.lemmas.Lists.{Each}
 use Rattle.gate_history.proofs.lemmas.step.NoCancel.{or_else-none}
 use Rattle.usbip_urb.specs.Spelling.{spelling}
-use Rattle.gate_history.specs.write.Errno.{econnreset}
+use Rattle.gate_history.specs.declared.errno.TheConstants.{ECONNRESET}
 use Rattle.gate_history.specs.write.Answers.{ret_unlink}
 use Rattle.gate_core.specs.inner.Unlink.{asked_kind, asked_of, asked_row, is_target_row, is_taken_row, cancel_row, asked_rows, left_told, is_late, taken_count, taken_bytes, told_bytes}
 
@@ -31,7 +31,7 @@ module _ (caps : Caps) (target by : ℕ) where
   is_found_row l = is_target_row target l || is_taken_row target l
 
   abbrev pub taken_row_bytes : Live → List ℕ
-  taken_row_bytes l = cond (is_taken_row target l) (spelling (ret_unlink by econnreset)) []
+  taken_row_bytes l = cond (is_taken_row target l) (spelling (ret_unlink by ECONNRESET)) []
 
   pub record Told (ls : List Live) (told : UnlinkAnswer) : Type 0 where
     pub rows : left_told told target by ls ≡ asked_rows target by ls
@@ -56,7 +56,7 @@ module _ (caps : Caps) (target by : ℕ) where
       let no : (goes_by_id l && (l.seqnum == target)) ≡ false = ap (λ (b : Bool). goes_by_id l && b) e ∙ and-false (goes_by_id l) in
       let none : is_target_row target l ≡ false = ap (λ (b : Bool). b && is_none l.unlinker) no in
       record {
-        same = λ i. record l { unlinker = (ap (λ (b : Bool). or_else l.unlinker (cond b (Some by) None)) no ∙ or_else-none l.unlinker) i };
+        same = λ i. record l { unlinker = (ap (λ (b : Bool). option_or l.unlinker (cond b (Some by) None)) no ∙ or_else-none l.unlinker) i };
         no_target = none;
         not_taken = ap (λ (b : Bool). is_stream l.kind && b) e ∙ and-false (is_stream l.kind);
         silent = ap (λ (b : Bool). cond b (host_packet_bytes caps (l.id, Plain plain.Cancel)) []) (ap (λ (b : Bool). is_wire_row l.kind && b) none ∙ and-false (is_wire_row l.kind));
@@ -70,7 +70,7 @@ module _ (caps : Caps) (target by : ℕ) where
         rows = row told rest.rows ∙ ap (λ (b : Bool). map (asked_row target by) (cond (not b) (l ∷ filter (λ x. not (is_taken_row target x)) ls) (filter (λ x. not (is_taken_row target x)) ls))) (sym o.not_taken);
         late = (λ i. (o.no_target i || o.not_taken i) || rest.late i);
         count = rest.count ∙ ap (λ (b : Bool). length (cond b (l ∷ filter (is_taken_row target) ls) (filter (is_taken_row target) ls))) (sym o.not_taken);
-        back = rest.back ∙ ap (λ (b : Bool). cond b (spelling (ret_unlink by econnreset)) [] ++ flat_map taken_row_bytes ls) (sym o.not_taken);
+        back = rest.back ∙ ap (λ (b : Bool). cond b (spelling (ret_unlink by ECONNRESET)) [] ++ flat_map taken_row_bytes ls) (sym o.not_taken);
         bytes = rest.bytes ∙ (λ i. sym o.silent i ++ flat_map (cancel_row caps target) ls);
       }
     where
@@ -130,7 +130,7 @@ module _ (caps : Caps) (target by : ℕ) where
                 ∙ ap (λ (b : Bool). map (asked_row target by) (cond (not b) (x ∷ filter (λ y. not (is_taken_row target y)) ls) (filter (λ y. not (is_taken_row target y)) ls))) (sym e);
             late = ap (λ (b : Bool). b || list_any is_found_row ls) e;
             count = ap (λ (n : ℕ). suc n) rest.count ∙ ap (λ (b : Bool). length (cond b (x ∷ filter (is_taken_row target) ls) (filter (is_taken_row target) ls))) (sym e);
-            back = sym (append-nil (spelling (ret_unlink by econnreset))) ∙ (λ i. cond (sym e i) (spelling (ret_unlink by econnreset)) [] ++ rest.back i);
+            back = sym (append-nil (spelling (ret_unlink by ECONNRESET))) ∙ (λ i. cond (sym e i) (spelling (ret_unlink by ECONNRESET)) [] ++ rest.back i);
             bytes = rest.bytes;
           }
 

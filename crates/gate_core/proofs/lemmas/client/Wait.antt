@@ -1,6 +1,6 @@
 -- What a request that waits for a stream's packets makes of what is kept, whether its stream is up or is started for it.
 use Rattle.std.proofs.Common.{◌≡◌, ◌+◌, ◌==◌, ℕ, zero, suc, Bool, true, false, cond, List, [], ◌∷◌, ◌++◌, length, map, get_or, set, Option, Some, None, refl, sym, ap, ◌∙◌, subst, arith}
-use Rattle.std.specs.Prelude.{slice_set, zip, ◌||◌}
+use Rattle.std.specs.Prelude.{slice_set, zip, ◌||◌, is_some}
 use Rattle.std.specs.List.{flat_map, list_any}
 use Rattle.std.specs.Option.{option_map}
 use Rattle.std.proofs.lemmas.List.{append-nil, map-append}
@@ -16,13 +16,14 @@ use Rattle.gate_history.specs.declared.note.Note.{Note}
 use Rattle.gate_history.specs.declared.note.Note.TheVariants as note
 use Rattle.gate_core.specs.declared.write.outputs.Outputs.{Outputs}
 use Rattle.gate_core.specs.declared.state.kept.Kept.{Kept}
-use Rattle.gate_history.specs.step.Items.{capped}
-use Rattle.gate_history.specs.client.Requests.{Request}
-use Rattle.gate_history.specs.client.Verdict.{Verdict, Stream}
+use Rattle.usb_base.specs.Number.{capped}
+use Rattle.gate_history.specs.declared.request.Request.{Request}
+use Rattle.gate_history.specs.declared.verdict.Verdict.{Verdict}
+use Rattle.gate_history.specs.declared.verdict.Verdict.TheVariants.{Stream}
 use Rattle.gate_history.specs.host.Fillings.{Fill, none_filled, filled_by, fill}
 use Rattle.gate_history.specs.step.Marks.{Submission, Effect, Waits}
 use Rattle.gate_history.specs.client.Submits.{Pending, waits_at, packets_end, own_end}
-use Rattle.gate_history.specs.state.Ups.{Up, stream_at, held_of, hold, raise, raised}
+use Rattle.gate_history.specs.state.Ups.{Up, stream_at, held_of, hold, raise}
 use Rattle.gate_history.specs.write.Packets.{starts}
 use Rattle.gate_history.specs.state.Calls.{Calls, called}
 use Rattle.gate_history.specs.state.Ids.{last_of}
@@ -123,7 +124,7 @@ does-join st sound r told up up_new old emptied mid new out client_new notes_new
     up up_new old (with_row (joining_row up r) emptied) mid new out (record out { to_client = client_new; notes = notes_new }) (f st sound r up.row up.held) h k.unlinked_fits k.dropped_fits at refl
     (filled st sound r up.row up.held)
     (ap (λ (o : Option Up). next_ids st (length (starts o r.transfer.ep up.row))) there)
-    (ap (λ (o : Option Up). hold r.transfer.ep (f st sound r up.row up.held).left (raised old.streams (record { ep = r.transfer.ep; row = up.row; held = [] }) o)) at)
+    (ap (λ (o : Option Up). hold r.transfer.ep (f st sound r up.row up.held).left (cond (is_some o) old.streams (slice_set old.streams (endpoint_index r.transfer.ep) (Some (record { ep = r.transfer.ep; row = up.row; held = [] }))))) at)
     (ap (λ (ls : List Live). ls ++ joining_row up r ∷ []) same ∙ rows-are st sound r up.row up.held old.lives.live h.live)
     (ap (λ (t : Kept). with_row (joining_row up r) t) emptied-is ∙ ap (λ (ls : List Live). record old { lives = record { live = ls ++ joining_row up r ∷ []; abandoned = old.lives.abandoned }; streams = slice_set old.streams (endpoint_index r.transfer.ep) None }) (sym same)
     ∙ ap (λ (ls : List Live). record old { lives = record { live = emptied.lives.live ++ joining_row up r ∷ []; abandoned = ls }; streams = slice_set old.streams (endpoint_index r.transfer.ep) None }) (sym (ap (λ (t : Kept). t.lives.abandoned) emptied-is)))
@@ -148,7 +149,7 @@ get-set P (x ∷ xs) (suc i) a d p q = get-set P xs i a d p q
 raised-empty : (ups : List (Option Up)) (up : Up) → up.held ≡ [] → stream_at ups up.ep ≡ None → hold up.ep [] (raise up ups) ≡ raise up ups
 raised-empty ups up none at =
     let i = endpoint_index up.ep in
-    let is-set : raise up ups ≡ slice_set ups i (Some up) = ap (raised ups up) at in
+    let is-set : raise up ups ≡ slice_set ups i (Some up) = ap (λ (o : Option Up). cond (is_some o) ups (slice_set ups (endpoint_index up.ep) (Some up))) at in
     ap (hold up.ep []) is-set
     ∙ ap (slice_set (slice_set ups i (Some up)) i)
     (get-set (λ (o : Option Up). option_map (λ (u : Up). record u { held = [] }) o ≡ o) ups i (Some up) None (ap (λ (ps : List StreamPacket). Some (record up { held = ps })) (sym none)) refl)

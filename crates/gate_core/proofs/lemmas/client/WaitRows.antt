@@ -3,9 +3,10 @@ use Rattle.std.proofs.Common.{◌≡◌, ℕ, ◌==◌, ◌&&◌, List, [], ◌�
 use Rattle.std.specs.Prelude.{filter}
 use Rattle.control_route.specs.declared.route.Route.{Route}
 use Rattle.unlink_race.specs.Searches.{is_stream, waits_at as kind_waits_at, is_touched_by, waits_for, touched_by}
-use Rattle.gate_history.specs.client.Verdict.{Verdict, Now, Wire, Routed, IsoOut, Stream}
+use Rattle.gate_history.specs.declared.verdict.Verdict.{Verdict}
+use Rattle.gate_history.specs.declared.verdict.Verdict.TheVariants.{Now, Wire, Routed, IsoOut, Stream}
 use Rattle.gate_history.specs.step.Marks.{Submission}
-use Rattle.gate_history.specs.client.Submits.{Pending, at_once, is_waiting, waits_at, touches_stream}
+use Rattle.gate_history.specs.client.Submits.{Pending, at_once, is_waiting, waits_at, is_touched}
 use Rattle.gate_history.specs.state.State.{State}
 use Rattle.gate_history.specs.state.Sound.{IsSound}
 use Rattle.gate_parts.specs.state.Rows.{kind_of, row}
@@ -38,7 +39,7 @@ waits-kind (Routed r) e ep h = refl
 waits-kind (IsoOut row) e ep h = absurd (cc)
 waits-kind (Stream row) e ep h = refl
 
-pub touched-kind : (v : Verdict) (e : ℕ) (r : Route) → at_once v ≡ None → is_touched_by r (kind_of v e) ≡ touches_stream r v
+pub touched-kind : (v : Verdict) (e : ℕ) (r : Route) → at_once v ≡ None → is_touched_by r (kind_of v e) ≡ is_touched (Routed r) v
 touched-kind (Now status) e r h = absurd (cc)
 touched-kind (Wire pipe) e r h = refl
 touched-kind (Routed other) e r h = refl
@@ -53,7 +54,7 @@ stream-row p h = stream-kind p.submit.verdict p.submit.request.transfer.ep h
 pub waits-row : (ep : ℕ) (p : Pending) → IsGoing p → waits_for ep (row p) ≡ waits_at ep p.submit
 waits-row ep p h = waits-kind p.submit.verdict p.submit.request.transfer.ep ep h
 
-pub touched-row : (r : Route) (p : Pending) → IsGoing p → touched_by r (row p) ≡ touches_stream r p.submit.verdict
+pub touched-row : (r : Route) (p : Pending) → IsGoing p → touched_by r (row p) ≡ is_touched (Routed r) p.submit.verdict
 touched-row r p h = touched-kind p.submit.verdict p.submit.request.transfer.ep r h
 
 -- ---- of all rows

@@ -30,11 +30,11 @@ use Rattle.gate_history.specs.declared.note.Note.{Note}
 use Rattle.gate_history.specs.declared.note.Note.TheVariants as note
 use Rattle.gate_core.specs.declared.write.outputs.Outputs.{Outputs}
 use Rattle.gate_core.specs.declared.state.kept.Kept.{Kept}
-use Rattle.gate_history.specs.step.Items.{capped}
+use Rattle.usb_base.specs.Number.{capped}
 use Rattle.gate_history.specs.declared.facts.Facts.{Facts}
 use Rattle.gate_history.specs.step.Marks.{Submission, Fact, Effect, Idle, Agrees, Answers, Refuses}
 use Rattle.gate_history.specs.state.Facts.{no_facts, tell}
-use Rattle.gate_history.specs.state.Sides.{is_of, is_loss, closes_host, never, turned}
+use Rattle.gate_history.specs.state.Sides.{is_loss, closes_host, turned, is_client}
 use Rattle.gate_history.specs.state.Flight.{wide_ids}
 use Rattle.gate_history.specs.client.Submits.{Pending, has_id}
 use Rattle.gate_history.specs.state.State.{State, submits}
@@ -391,18 +391,18 @@ nobody old st id h is =
 -- ---- a fact that is told with it
 
 -- a host that is refused for its answer has lost its device
-closing : (r : Refusal) → cond (is_of false (Some r)) true false ≡ is_of false (Some r)
-closing r = elim (is_of false (Some r)) as (λ b. cond b true false ≡ b) [ true ↦ refl | false ↦ refl ]
+closing : (r : Refusal) → cond (not (is_client r.side)) true false ≡ not (is_client r.side)
+closing r = elim (not (is_client r.side)) as (λ b. cond b true false ≡ b) [ true ↦ refl | false ↦ refl ]
 
-answer-closes : (st : State) (at : ℕ) (h : Header) (response : Response) (o : Option Submission) → turned closes_host never (answer_to st at h response o) false ≡ is_loss (answer_to st at h response o)
+answer-closes : (st : State) (at : ℕ) (h : Header) (response : Response) (o : Option Submission) → turned closes_host (λ e. false) (answer_to st at h response o) false ≡ is_loss (answer_to st at h response o)
 answer-closes st at h response None = refl
 answer-closes st at h response (Some s) = of (mismatch at (head_size (wide_ids st.agreed)) s h.kind response)
   where
-    of : (r : Option Refusal) → turned closes_host never (answered_as h.id (seen s.request s.verdict response) r) false ≡ is_loss (answered_as h.id (seen s.request s.verdict response) r)
+    of : (r : Option Refusal) → turned closes_host (λ e. false) (answered_as h.id (seen s.request s.verdict response) r) false ≡ is_loss (answered_as h.id (seen s.request s.verdict response) r)
     of None = refl
     of (Some r) = closing r
 
-response-closes : (st : State) (at : ℕ) (h : Header) (response : Option Response) → turned closes_host never (by_response st at h response) false ≡ is_loss (by_response st at h response)
+response-closes : (st : State) (at : ℕ) (h : Header) (response : Option Response) → turned closes_host (λ e. false) (by_response st at h response) false ≡ is_loss (by_response st at h response)
 response-closes st at h None = refl
 response-closes st at h (Some response) = answer-closes st at h response (find (has_id h.id) (submits st ++ st.abandoned))
 
@@ -434,7 +434,7 @@ does-tell st at header response fact old mid out_old out_new going d =
     }
   where
     over : mid.host_over ≡ is_loss (by_response st at header response)
-    over = d.holds.host_over ∙ ap (turned closes_host never (by_response st at header response)) going ∙ response-closes st at header response
+    over = d.holds.host_over ∙ ap (turned closes_host (λ e. false) (by_response st at header response)) going ∙ response-closes st at header response
 
     of : (b : Bool) (f : Facts) → f ≡ cond b no_facts st.facts → cond b f (tell f fact) ≡ cond b no_facts (tell st.facts fact)
     of true f h = h

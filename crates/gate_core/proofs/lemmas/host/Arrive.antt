@@ -10,7 +10,7 @@ use Rattle.gate_history.specs.declared.note.Note.{Note}
 use Rattle.gate_history.specs.declared.note.Note.TheVariants as note
 use Rattle.gate_core.specs.declared.write.outputs.Outputs.{Outputs}
 use Rattle.gate_core.specs.declared.state.kept.Kept.{Kept}
-use Rattle.gate_history.specs.client.Requests.{Request}
+use Rattle.gate_history.specs.declared.request.Request.{Request}
 use Rattle.gate_history.specs.host.Fillings.{Fill, none_filled, fill}
 use Rattle.gate_history.specs.step.Marks.{Submission, Effect, Arrives}
 use Rattle.gate_history.specs.client.Submits.{Pending, ByPackets, waits_at, packets_end, own_end}

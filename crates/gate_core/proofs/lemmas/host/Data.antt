@@ -9,7 +9,7 @@ use Rattle.gate_history.specs.state.Ups.{stream_of}
 use Rattle.gate_history.specs.step.Marks.{Effect, Idle}
 use Rattle.gate_history.specs.state.State.{State}
 use Rattle.gate_history.specs.host.Responses.{response_of}
-use Rattle.gate_history.specs.step.Meaning.{arrives, by_arrival, by_response, data_meaning}
+use Rattle.gate_history.specs.step.Meaning.{arrives, by_arrival, by_response, told_meaning}
 use Rattle.gate_parts.specs.declared.host.response.StreamIn.{StreamIn}
 use Rattle.gate_parts.specs.host.Responses.{stream_in, packet_in}
 
@@ -18,7 +18,7 @@ abbrev sorted : State → ℕ → Header → RedirData → Option StreamIn → E
 sorted st at h d None = by_response st at h (response_of (Carrying d))
 sorted st at h d (Some x) = arrives st x.endpoint x.is_iso (packet_in d) (stream_of st.streams x.endpoint)
 
-pub is-sorted : (st : State) (at : ℕ) (h : Header) (d : RedirData) → sorted st at h d (stream_in d) ≡ data_meaning st at h d
+pub is-sorted : (st : State) (at : ℕ) (h : Header) (d : RedirData) → sorted st at h d (stream_in d) ≡ told_meaning st at h (Carrying d)
 is-sorted st at h (data_packet.Control endpoint request kind status value index length body) = refl
 is-sorted st at h (data_packet.Bulk endpoint status length stream body) = refl
 is-sorted st at h (data_packet.Interrupt endpoint status length body) = go (is_in_endpoint endpoint)
@@ -32,8 +32,8 @@ is-sorted st at h (data_packet.Iso endpoint status length body) = go (is_in_endp
     go true = refl
     go false = refl
 
-pub arrives-so : (st : State) (at : ℕ) (h : Header) (d : RedirData) (x : StreamIn) → Some x ≡ stream_in d → arrives st x.endpoint x.is_iso (packet_in d) (stream_of st.streams x.endpoint) ≡ data_meaning st at h d
+pub arrives-so : (st : State) (at : ℕ) (h : Header) (d : RedirData) (x : StreamIn) → Some x ≡ stream_in d → arrives st x.endpoint x.is_iso (packet_in d) (stream_of st.streams x.endpoint) ≡ told_meaning st at h (Carrying d)
 arrives-so st at h d x e = ap (sorted st at h d) e ∙ is-sorted st at h d
 
-pub responds-so : (st : State) (at : ℕ) (h : Header) (d : RedirData) → None ≡ stream_in d → by_response st at h (response_of (Carrying d)) ≡ data_meaning st at h d
+pub responds-so : (st : State) (at : ℕ) (h : Header) (d : RedirData) → None ≡ stream_in d → by_response st at h (response_of (Carrying d)) ≡ told_meaning st at h (Carrying d)
 responds-so st at h d e = ap (sorted st at h d) e ∙ is-sorted st at h d

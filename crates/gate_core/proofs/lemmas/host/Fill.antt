@@ -13,7 +13,7 @@ use Rattle.unlink_race.specs.Firsts.{without_first}
 use Rattle.unlink_race.specs.Searches.{waits_for}
 use Rattle.gate_history.specs.declared.note.Note.{Note}
 use Rattle.gate_history.specs.declared.note.Note.TheVariants as note
-use Rattle.gate_history.specs.client.Requests.{Request}
+use Rattle.gate_history.specs.declared.request.Request.{Request}
 use Rattle.gate_history.specs.host.Fillings.{Given, Transferred, Isochronous, Filling, Fill, cut_of, filled_by, fill, given_to}
 use Rattle.gate_history.specs.client.Submits.{Pending, End, ByPackets, waits_at, packets_end}
 use Rattle.gate_history.specs.write.Answers.{answers_at, with_given}

@@ -1,7 +1,7 @@
 -- Items by which the packets of a stream may fill requests: what they make of what is kept, and what they send and
 -- tell.
 use Rattle.std.proofs.Common.{◌≡◌, ℕ, ◌+◌, ◌^◌, ◌-◌, ◌≤◌, Bool, true, false, cond, List, [], ◌++◌, length, map, Option, Some, None, sym, refl, ap, ◌∙◌}
-use Rattle.std.specs.Prelude.{filter, zip, slice_set}
+use Rattle.std.specs.Prelude.{filter, zip, slice_set, unwrap_or}
 use Rattle.std.specs.Option.{option_map}
 use Rattle.usb_base.specs.Endpoint.{endpoint_index}
 use Rattle.std.specs.List.{flat_map}
@@ -18,10 +18,10 @@ use Rattle.unlink_race.specs.Searches.{waits_for}
 use Rattle.gate_history.specs.declared.note.Note.{Note}
 use Rattle.gate_core.specs.declared.write.outputs.Outputs.{Outputs}
 use Rattle.gate_core.specs.declared.state.kept.Kept.{Kept}
-use Rattle.gate_history.specs.step.Items.{capped}
+use Rattle.usb_base.specs.Number.{capped}
 use Rattle.gate_history.specs.host.Fillings.{Filling, Fill, fill}
 use Rattle.gate_history.specs.step.Marks.{Submission, Effect, Waits, Arrives}
-use Rattle.gate_history.specs.state.Sides.{leaves, is_loss, imports, agreed_after, turned}
+use Rattle.gate_history.specs.state.Sides.{leaves, is_loss, imports, turned, agrees}
 use Rattle.gate_history.specs.client.Submits.{Pending, ByClient, ByLoss, own_end, ends, asks, packets_end, is_answered}
 use Rattle.gate_history.specs.state.Ids.{last_of}
 use Rattle.gate_history.specs.state.Ups.{Up, stream_at, hold, moved_streams}
@@ -54,7 +54,7 @@ record MayFill (st : State) (e : Effect) : Type 0 where
   quiet : is_quiet e ≡ true
   stays : leaves e ≡ false
   keeps : is_loss e ≡ false
-  no_caps : (caps : Caps) → agreed_after e caps ≡ caps
+  no_caps : (caps : Caps) → unwrap_or (agrees e) caps ≡ caps
   imported_same : (was : Bool) → turned imports leaves e was ≡ was
   lost_same : (was : Bool) → turned is_loss imports e was ≡ was
   answers_none : (s : Submission) → is_answered e s ≡ false

@@ -1,7 +1,7 @@
 -- What the loss of the device makes of what is kept, and what it sends and tells.
 use Rattle.std.proofs.Common.{◌≡◌, ℕ, suc, ◌+◌, ◌-◌, ◌^◌, ◌≤◌, ◌&&◌, ◌||◌, Bool, true, false, cond, not, List, [], ◌∷◌, ◌++◌, length, map, Option, Some, None, refl, sym, ap, ◌∙◌, arith}
 use Rattle.std.specs.Prelude.{is_none, filter, zip}
-use Rattle.std.specs.List.{flat_map}
+use Rattle.std.specs.List.{flat_map, last_or}
 use Rattle.std.proofs.lemmas.Bool.{or_parts}
 use Rattle.std.proofs.lemmas.List.{append-nil}
 use Rattle.usbip_urb.specs.declared.client.ClientPacket.TheVariants.{Urb}
@@ -13,15 +13,15 @@ use Rattle.gate_history.specs.declared.note.Note.{Note}
 use Rattle.gate_history.specs.declared.note.Note.TheVariants as note
 use Rattle.gate_core.specs.declared.write.outputs.Outputs.{Outputs}
 use Rattle.gate_core.specs.declared.state.kept.Kept.{Kept}
-use Rattle.gate_history.specs.step.Items.{capped}
+use Rattle.usb_base.specs.Number.{capped}
 use Rattle.gate_history.specs.step.Marks.{Submission, Fact, Effect}
 use Rattle.gate_history.specs.state.Facts.{no_facts, tell}
-use Rattle.gate_history.specs.state.Sides.{refused_at, leaves, is_loss, closes_host, imports, refuses_client, ends_client, never, turned}
+use Rattle.gate_history.specs.state.Sides.{refused_at, leaves, is_loss, closes_host, imports, refuses_client, ends_client, turned}
 use Rattle.gate_history.specs.client.Submits.{Pending, ByLoss, ends, is_answered}
 use Rattle.gate_history.specs.state.Ids.{last_of}
 use Rattle.gate_history.specs.state.Ups.{no_streams, is_ended, moved_streams}
 use Rattle.gate_history.specs.write.Packets.{stops, asked_packets}
-use Rattle.gate_history.specs.state.Calls.{called, last_or, moved_fence}
+use Rattle.gate_history.specs.state.Calls.{called, moved_fence}
 use Rattle.gate_history.specs.state.State.{State, submits, next_ids}
 use Rattle.gate_history.specs.client.Verdict.{is_wire, goes_by_id}
 use Rattle.gate_history.specs.step.Meaning.{mark_as, drawn_by}
@@ -106,7 +106,7 @@ module _ (st : State) (e : Effect) (told : Option Fact) (over : is_quiet e ≡ f
 
   -- what is kept, sent and told
   pub does-loss : (old new : Kept) (out_old out_new : Outputs) → Holds old st → old.dropped ≤ 2 ^ 64 - 1 →
-      new ≡ record (lost_by (backs old) old) { host_over = turned closes_host never e old.host_over } →
+      new ≡ record (lost_by (backs old) old) { host_over = turned closes_host (λ e. false) e old.host_over } →
       out_new.to_client ≡ out_old.to_client ++ flat_map lost_bytes old.lives.live →
       out_new.to_host ≡ out_old.to_host ++ flat_map (host_packet_bytes old.caps) (acknowledgements old.caps e) →
       out_new.notes ≡ out_old.notes ++ (when (old.imported && not old.lost) note.DeviceGone ++ refusal_notes (refused_at e)) →
@@ -128,7 +128,7 @@ module _ (st : State) (e : Effect) (told : Option Fact) (over : is_quiet e ≡ f
         imported = cond (sym o.no_import i) true (cond (sym stays i) false old.imported);
         lost = cond (sym loss i) true (cond (imports e) false old.lost);
         client_over = cond (sym sides.1 i) true (cond (sym sides.0 i) false old.client_over);
-        host_over = turned closes_host never e old.host_over;
+        host_over = turned closes_host (λ e. false) e old.host_over;
         streams = cond (sym stays i || sym loss i) no_streams (moved_streams e old.streams);
         calls = called (zip (sym no-ids i) (sym no-packets i)) old.calls;
         fence = cond (sym stays i) (last_or old.fence (drawn_by st e)) (cond (sym loss i) None (moved_fence e old.fence));

@@ -10,7 +10,7 @@ use Rattle.usbip_urb.specs.declared.client.ClientPacket.TheVariants.{Urb}
 use Rattle.unlink_race.specs.declared.live.Live.{Live}
 use Rattle.gate_core.specs.declared.write.outputs.Outputs.{Outputs}
 use Rattle.gate_core.specs.declared.state.kept.Kept.{Kept}
-use Rattle.gate_history.specs.step.Items.{capped}
+use Rattle.usb_base.specs.Number.{capped}
 use Rattle.gate_history.specs.step.Marks.{Effect, StreamTold}
 use Rattle.gate_history.specs.client.Submits.{Pending, ByStatus, ends, waits_at}
 use Rattle.gate_history.specs.state.Ups.{lower_at}

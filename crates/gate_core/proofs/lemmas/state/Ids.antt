@@ -2,21 +2,23 @@
 use Rattle.std.proofs.Common.{◌≡◌, ℕ, ◌-◌, ◌≤◌, take, get_or, length, ◌==◌, ◌||◌, Bool, true, false, cond, List, [], ◌∷◌, ◌++◌, map, Option, None, refl, sym, ap, ◌∙◌, append_assoc, arith}
 use Rattle.std.specs.Prelude.{filter, zip}
 use Rattle.unlink_race.specs.declared.live.Live.{Live}
-use Rattle.std.specs.List.{list_any, flat_map}
+use Rattle.std.specs.List.{list_any, flat_map, last_or}
 use Rattle.unlink_race.specs.Searches.{goes_by_id as is_answered_by_id, is_change, changes as changes_row, has_number as has_number_row}
 use Rattle.control_route.specs.declared.route.Route.{Route}
 use Rattle.control_route.specs.declared.route.Route.TheVariants as route
 use Rattle.gate_history.specs.state.Ids.{draw, draws, greatest, last_of}
 use Rattle.gate_history.specs.write.Packets.{stops, route_packets, asked_packets}
 use Rattle.gate_core.specs.declared.state.kept.Kept.{Kept}
-use Rattle.gate_history.specs.client.Verdict.{Verdict, Now, Wire, Routed, IsoOut, Stream, goes_by_id, changes}
+use Rattle.gate_history.specs.declared.verdict.Verdict.{Verdict}
+use Rattle.gate_history.specs.declared.verdict.Verdict.TheVariants.{Now, Wire, Routed, IsoOut, Stream}
+use Rattle.gate_history.specs.client.Verdict.{goes_by_id, changes}
 use Rattle.gate_history.specs.step.Marks.{Submission, Effect}
 use Rattle.gate_history.specs.client.Submits.{Pending}
 use Rattle.gate_history.specs.state.Flight.{wide_ids, ids_of}
 use Rattle.redir_data.specs.declared.packet.RedirPacket.{RedirPacket}
 use Rattle.gate_parts.specs.declared.state.calls.Called.{Called}
 use Rattle.gate_history.specs.state.Ups.{is_ended}
-use Rattle.gate_history.specs.state.Calls.{called, call_ids, last_or}
+use Rattle.gate_history.specs.state.Calls.{called, call_ids}
 use Rattle.gate_history.specs.step.Meaning.{drawn_by}
 use Rattle.gate_history.specs.state.State.{State, flying, next_ids, is_number}
 use Rattle.gate_parts.specs.state.Ids.{row_ids}

@@ -14,7 +14,7 @@ use Rattle.gate_history.specs.declared.item.Item.TheVariants as raw
 use Rattle.gate_core.specs.declared.write.outputs.Outputs.{Outputs}
 use Rattle.gate_core.specs.declared.step.inner.Inner.{Inner}
 use Rattle.gate_core.specs.declared.state.kept.Kept.{Kept as Translator}
-use Rattle.gate_history.specs.step.Items.{ClientLeft, HostLeft}
+use Rattle.gate_history.specs.declared.item.Item.TheVariants.{ClientLeft, HostLeft}
 use Rattle.gate_history.specs.step.Events.{Event, ClientEnd, HostEnd, client_bytes, host_bytes}
 use Rattle.gate_history.specs.state.Sides.{client_over, host_over}
 use Rattle.gate_history.specs.step.Streams.{client_format, client_next, client_reader, client_start, host_format, host_reader, host_start}

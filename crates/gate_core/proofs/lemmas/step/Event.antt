@@ -15,7 +15,7 @@ use Rattle.gate_core.specs.declared.write.outputs.Outputs.{Outputs}
 use Rattle.gate_core.specs.declared.step.inner.Inner.{Inner}
 use Rattle.gate_core.specs.declared.state.kept.Kept.{Kept as Translator}
 use Rattle.gate_history.specs.step.Events.{Event, ClientPiece, HostPiece, client_bytes, host_bytes}
-use Rattle.gate_history.specs.step.Items.{Item}
+use Rattle.gate_history.specs.declared.item.Item.{Item}
 use Rattle.gate_history.specs.state.Sides.{client_over, host_over}
 use Rattle.gate_history.specs.step.Streams.{client_reader, client_start, host_reader, host_start}
 use Rattle.gate_history.specs.step.History.{brought, onto, arrivals, history}

@@ -13,10 +13,9 @@ use Rattle.packet_stream.specs.Split.{Splitting, split}
 use Rattle.packet_stream.specs.Streams.{StreamView, passed, after_piece, Follows, Nexts, Puts, Changes}
 use Rattle.packet_stream.specs.Items.{packets, wrongs, items, added}
 use Rattle.packet_stream.proofs.Loops.{changed_to}
-use Rattle.gate_history.specs.declared.item.Item.{Item as RawItem}
+use Rattle.gate_history.specs.declared.item.Item.{Item as RawItem, Item}
 use Rattle.gate_core.specs.declared.write.outputs.Outputs.{Outputs}
 use Rattle.gate_core.specs.declared.state.kept.Kept.{Kept as Translator}
-use Rattle.gate_history.specs.step.Items.{Item}
 use Rattle.gate_history.specs.state.State.{State, state_of}
 use Rattle.gate_history.specs.state.Sound.{IsSound}
 use Rattle.gate_history.specs.step.Meaning.{mark_of}

@@ -1,8 +1,8 @@
 -- What an effect makes of what is kept, and what it sends and tells, where each part has stepped as the machine's does;
 -- above all one with which neither side is gone, lost or refused.
 use Rattle.std.proofs.Common.{◌≡◌, ℕ, ◌+◌, ◌^◌, ◌-◌, ◌≤◌, ◌&&◌, ◌||◌, Bool, true, false, cond, not, List, [], ◌++◌, length, map, None, Result, OnOk, refl, sym, ap, subst, ◌∙◌, arith}
-use Rattle.std.specs.Prelude.{is_none, filter, zip}
-use Rattle.std.specs.List.{flat_map}
+use Rattle.std.specs.Prelude.{is_none, filter, zip, unwrap_or}
+use Rattle.std.specs.List.{flat_map, last_or}
 use Rattle.std.proofs.lemmas.Bool.{false≢true}
 use Rattle.std.proofs.lemmas.List.{append-nil}
 use Rattle.std.proofs.lemmas.List.Elements.{filter-append}
@@ -14,15 +14,15 @@ use Rattle.gate_history.specs.declared.note.Note.{Note}
 use Rattle.gate_history.specs.declared.note.Note.TheVariants as note
 use Rattle.gate_core.specs.declared.write.outputs.Outputs.{Outputs}
 use Rattle.gate_core.specs.declared.state.kept.Kept.{Kept}
-use Rattle.gate_history.specs.step.Items.{capped}
+use Rattle.usb_base.specs.Number.{capped}
 use Rattle.gate_history.specs.step.Marks.{Submission, Effect, Idle, Replies, Imports, Agrees, Arrives, StreamTold, Disconnects, Ends, Refuses, Mark}
 use Rattle.gate_history.specs.state.Facts.{no_facts, facts_after}
-use Rattle.gate_history.specs.state.Sides.{refused_at, leaves, is_loss, closes_host, never, imports, refuses_client, ends_client, agreed_after, turned}
+use Rattle.gate_history.specs.state.Sides.{refused_at, leaves, is_loss, closes_host, imports, refuses_client, ends_client, turned, agrees}
 use Rattle.gate_history.specs.client.Submits.{Pending, opened, is_answered, abandoned_after}
 use Rattle.gate_history.specs.state.Ids.{last_of}
 use Rattle.gate_history.specs.state.Ups.{no_streams, is_ended, moved_streams, streams_after}
 use Rattle.gate_history.specs.write.Packets.{stops, asked_packets}
-use Rattle.gate_history.specs.state.Calls.{called, asking, last_or, moved_fence, fence_after}
+use Rattle.gate_history.specs.state.Calls.{called, asking, moved_fence, fence_after}
 use Rattle.gate_history.specs.state.State.{State, submits, next_ids}
 use Rattle.gate_history.specs.client.Verdict.{is_wire, goes_by_id}
 use Rattle.gate_history.specs.step.Meaning.{mark_as, drawn_by}
@@ -45,11 +45,11 @@ abbrev pub stepped : State → Mark → List Live → List Live → Kept → Kep
 stepped st m rows left old = record old {
   lives = record { live = rows; abandoned = left };
   facts = facts_after m.what m.told old.facts;
-  caps = agreed_after m.what old.caps;
+  caps = unwrap_or (agrees m.what) old.caps;
   imported = turned imports leaves m.what old.imported;
   lost = turned is_loss imports m.what old.lost;
   client_over = turned refuses_client ends_client m.what old.client_over;
-  host_over = turned closes_host never m.what old.host_over;
+  host_over = turned closes_host (λ e. false) m.what old.host_over;
   streams = streams_after m.what old.streams;
   calls = called (asking st.streams m) old.calls;
   fence = fence_after m.what m.drawn old.fence;
@@ -70,11 +70,11 @@ pub does-step : (st : State) (m : Mark) (old new : Kept) (rows left : List Live)
 does-step st m old new rows left out_old out_new h is rows-are left-are client host notes = record {
   holds = record {
     facts = ap (λ (k : Kept). k.facts) is ∙ ap (facts_after m.what m.told) h.facts;
-    caps = ap (λ (k : Kept). k.caps) is ∙ ap (agreed_after m.what) h.caps;
+    caps = ap (λ (k : Kept). k.caps) is ∙ ap (unwrap_or (agrees m.what)) h.caps;
     imported = ap (λ (k : Kept). k.imported) is ∙ ap (turned imports leaves m.what) h.imported;
     lost = ap (λ (k : Kept). k.lost) is ∙ ap (turned is_loss imports m.what) h.lost;
     client_over = ap (λ (k : Kept). k.client_over) is ∙ ap (turned refuses_client ends_client m.what) h.client_over;
-    host_over = ap (λ (k : Kept). k.host_over) is ∙ ap (turned closes_host never m.what) h.host_over;
+    host_over = ap (λ (k : Kept). k.host_over) is ∙ ap (turned closes_host (λ e. false) m.what) h.host_over;
     streams = ap (λ (k : Kept). k.streams) is ∙ ap (streams_after m.what) h.streams;
     calls = ap (λ (k : Kept). k.calls) is ∙ ap (called (asking st.streams m)) h.calls;
     fence = ap (λ (k : Kept). k.fence) is ∙ ap (fence_after m.what m.drawn) h.fence;
@@ -122,7 +122,7 @@ quiet-is e h = record { stays = refl; keeps = refl; open_host = refl; no_refusal
 abbrev pub moved : State → Effect → List Live → List Live → ℕ → ℕ → Kept → Kept
 moved st e rows left done won old = record old {
   lives = record { live = rows; abandoned = left };
-  caps = agreed_after e old.caps;
+  caps = unwrap_or (agrees e) old.caps;
   imported = turned imports leaves e old.imported;
   lost = turned is_loss imports e old.lost;
   streams = moved_streams e old.streams;
@@ -208,7 +208,7 @@ silent-is st e h = absurd (false≢true h)
 abbrev pub moved_alone : Effect → List Live → ℕ → ℕ → Kept → Kept
 moved_alone e rows done won old = record old {
   lives = record { live = rows; abandoned = old.lives.abandoned };
-  caps = agreed_after e old.caps;
+  caps = unwrap_or (agrees e) old.caps;
   imported = turned imports leaves e old.imported;
   lost = turned is_loss imports e old.lost;
   streams = moved_streams e old.streams;
@@ -257,7 +257,7 @@ module _ (st : State) (e : Effect) (quiet : is_quiet e ≡ true) (s : IsSilent s
 
 -- what holds of it whichever side that is
 pub record IsOver (st : State) (e : Effect) : Type 0 where
-  pub no_caps : (caps : Caps) → agreed_after e caps ≡ caps
+  pub no_caps : (caps : Caps) → unwrap_or (agrees e) caps ≡ caps
   pub no_import : imports e ≡ false
   pub opens : opened e ≡ []
   pub silent : replies st e ≡ []

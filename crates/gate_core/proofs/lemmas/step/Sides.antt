@@ -9,10 +9,10 @@ use Rattle.redir_data.specs.sound.Joined.{stream_sound}
 use Rattle.usbip_urb.specs.ClientPackets.{takes_memory as asked_takes_memory}
 use Rattle.redir_data.specs.Packets.{takes_memory as told_takes_memory}
 use Rattle.usbip_urb.specs.Sound.ClientPackets.{client_packets_sound}
-use Rattle.gate_history.specs.declared.item.Item.{Item as RawItem}
+use Rattle.gate_history.specs.declared.item.Item.{Item as RawItem, Item}
 use Rattle.gate_history.specs.declared.item.Item.TheVariants as raw
 use Rattle.gate_core.specs.declared.state.kept.Kept.{Kept as Translator}
-use Rattle.gate_history.specs.step.Items.{Item, ClientWrong}
+use Rattle.gate_history.specs.declared.item.Item.TheVariants.{ClientWrong}
 use Rattle.gate_history.specs.step.Marks.{Mark}
 use Rattle.gate_history.specs.state.Sides.{client_over, host_over}
 use Rattle.gate_history.specs.state.State.{state_of}

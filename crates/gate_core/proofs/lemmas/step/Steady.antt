@@ -41,17 +41,17 @@ module _ (st : State) (e : Effect) (quiet : is_quiet e ≡ true) (s : IsSilent s
       (every (λ p. answers_at p.submit p.unlinker (ends e p.submit) ≡ []) (λ p. ap (answers_at p.submit p.unlinker) (ends-none p.submit)) st.live)
       ∙ flat_map-none st.live)
 
-  pub does-steady : (old new : Kept) (rows : List Live) (out_old out_new : Outputs) → Holds old st →
+  pub does-steady : (old new : Kept) (lives : List Live) (out_old out_new : Outputs) → Holds old st →
       old.answered ≤ 2 ^ 64 - 1 → old.unlinked ≤ 2 ^ 64 - 1 → old.dropped ≤ 2 ^ 64 - 1 →
-      rows ≡ map row (map (ask e) st.live) →
-      new ≡ record (moved_alone e rows 0 0 old) { answered = old.answered; unlinked = old.unlinked } →
+      lives ≡ map row (map (ask e) st.live) →
+      new ≡ record (moved_alone e lives 0 0 old) { answered = old.answered; unlinked = old.unlinked } →
       out_new.to_client ≡ out_old.to_client ++ flat_map client_spelling (replies st e) →
       out_new.to_host ≡ out_old.to_host ++ flat_map (host_packet_bytes st.agreed) (map cancel (filter (cancels e) st.live)) →
       out_new.notes ≡ out_old.notes ++ (import_notes e ++ submit_notes e ++ unlink_notes e ++ arrival_notes e) →
       Does st (mark_as st e None) old new out_old out_new
-  does-steady old new rows out_old out_new h answered_fits unlinked_fits dropped_fits asked is client host notes =
-      does-silent st e quiet s old new rows 0 0 out_old out_new h dropped_fits
-      (is ∙ (λ i. record (moved_alone e rows 0 0 old) { answered = capped-same old.answered answered_fits i; unlinked = capped-same old.unlinked unlinked_fits i }))
+  does-steady old new lives out_old out_new h answered_fits unlinked_fits dropped_fits asked is client host notes =
+      does-silent st e quiet s old new lives 0 0 out_old out_new h dropped_fits
+      (is ∙ (λ i. record (moved_alone e lives 0 0 old) { answered = capped-same old.answered answered_fits i; unlinked = capped-same old.unlinked unlinked_fits i }))
       (asked ∙ ap (λ (ps : List Pending). map row (map (ask e) ps)) (sym (by_test is_none true refl ∙ filter-all st.live)))
       (ap (λ (ps : List ClientPacket). length (filter is_ret_submit ps)) (sym unanswered)) (ap (λ (ps : List ClientPacket). length (filter is_won_unlink ps)) (sym unanswered))
       (ap (map (λ (p : Pending). note.Answered p.submit.request.number)) (by_test is_by_answer false refl ∙ filter-none st.live))

@@ -7,7 +7,8 @@ use Rattle.packet_stream.proofs.Following.{capped-past}
 use Rattle.redir_wire.specs.Capability.{no_caps}
 use Rattle.gate_core.specs.declared.write.outputs.Outputs.{Outputs}
 use Rattle.gate_core.specs.declared.state.kept.Kept.{Kept as Translator}
-use Rattle.gate_history.specs.step.Items.{Item, capped}
+use Rattle.gate_history.specs.declared.item.Item.{Item}
+use Rattle.usb_base.specs.Number.{capped}
 use Rattle.gate_history.specs.step.Marks.{Mark}
 use Rattle.gate_history.specs.state.State.{State, state_of}
 use Rattle.gate_history.specs.step.Meaning.{mark_of}

@@ -15,7 +15,9 @@ use Rattle.usb_base.specs.declared.reason.Reason.TheVariants.{AlreadyImported, N
 use Rattle.usb_base.specs.declared.refusal.Refusal.{Refusal}
 use Rattle.usb_base.specs.declared.side.Side.TheVariants.{Client}
 use Rattle.gate_history.specs.declared.note.Note.TheVariants as note
-use Rattle.gate_history.specs.client.Verdict.{Verdict, Now, Wire, Routed, IsoOut, Stream, is_wire}
+use Rattle.gate_history.specs.declared.verdict.Verdict.{Verdict}
+use Rattle.gate_history.specs.declared.verdict.Verdict.TheVariants.{Now, Wire, Routed, IsoOut, Stream}
+use Rattle.gate_history.specs.client.Verdict.{is_wire}
 use Rattle.gate_history.specs.step.Marks.{Submission, Fact, Effect, Replies, Opens, Unlinks, Refuses, Mark}
 use Rattle.gate_history.specs.client.Replies.{list_reply}
 use Rattle.gate_history.specs.state.Sides.{refusal, refused_at, leaves, is_loss}

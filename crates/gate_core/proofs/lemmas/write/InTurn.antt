@@ -1,7 +1,7 @@
 -- Packets that are sent one after another, with ids in turn.
 use Rattle.std.proofs.Common.{◌≡◌, ℕ, ◌+◌, ◌<◌, Bool, List, [], ◌∷◌, ◌++◌, length, take, get_or, Option, sym, ap, ◌∙◌, append_assoc}
 use Rattle.std.specs.Prelude.{Result, Ok, Err, OnErr}
-use Rattle.std.specs.List.{flat_map}
+use Rattle.std.specs.List.{flat_map, last_or}
 use Rattle.std.proofs.lemmas.List.{append-nil, take_more}
 use Rattle.std.proofs.lemmas.Grind.{flat_map-append}
 use Rattle.redir_data.specs.declared.packet.RedirPacket.{RedirPacket}
@@ -11,7 +11,7 @@ use Rattle.gate_history.specs.state.Ups.{Up}
 use Rattle.gate_parts.specs.declared.state.calls.Called.{Called}
 use Rattle.gate_history.specs.state.Ids.{greatest, last_of}
 use Rattle.gate_history.specs.state.Flight.{wide_ids}
-use Rattle.gate_history.specs.state.Calls.{called, last_or}
+use Rattle.gate_history.specs.state.Calls.{called}
 use Rattle.gate_history.specs.write.Packets.{stop_of, stops}
 use Rattle.gate_history.specs.write.Bytes.{host_packet_bytes}
 use Rattle.gate_parts.specs.write.Extends.{Extends}

@@ -1,4 +1,5 @@
 -- What a client's submits ask for, and what a verdict lets on the wire.
+use Rattle.std.specs.Bool.{beq}
 use Rattle.std.proofs.Common.{◌≡◌, inl, inr, ℕ, ◌+◌, ◌≤◌, ◌==◌, ◌&&◌, nat_lt, nat_le, not, Bool, true, false, cond, if◌then◌else◌, length, Option, Some, None, unwrap_or, refl, sym, ap, subst, ◌∙◌, arith}
 use Rattle.std.proofs.lemmas.Bool.{cases_Bool, eqb-true, ltb-false, le-ltb, lt-ltb, true≢false}
 use Rattle.std.proofs.lemmas.Bool.Decides.{eqb_tells}
@@ -19,6 +20,7 @@ use Rattle.redir_wire.specs.declared.packet.Caps.{Caps}
 use Rattle.redir_wire.specs.Header.{IdFits}
 use Rattle.redir_data.specs.declared.packet.RedirData.{RedirData}
 use Rattle.redir_data.specs.declared.packet.RedirPacket.{RedirPacket}
+use Rattle.redir_data.specs.declared.packet.RedirData.TheVariants as data_packet
 use Rattle.redir_data.specs.declared.packet.RedirPacket.TheVariants.{Plain, Carrying}
 use Rattle.redir_data.specs.Spelling.{data_count}
 use Rattle.redir_data.specs.Ranges.{BulkLengthFits}
@@ -26,12 +28,17 @@ use Rattle.redir_data.specs.Written.{CanWrite}
 use Rattle.control_route.specs.declared.route.Route.{Route}
 use Rattle.control_route.specs.declared.route.Route.TheVariants as route
 use Rattle.control_route.specs.Routes.{route_of}
-use Rattle.gate_history.specs.write.Errno.{enoent, ebusy, einval, emsgsize, eshutdown}
-use Rattle.gate_history.specs.client.Requests.{Request, request_of, transfer_by, address, is_in_setup}
-use Rattle.gate_history.specs.client.Verdict.{Pipe, Control, Bulk, InterruptOut, Verdict, Now, Wire, IsoOut, Stream, max_narrow, none_of, by_route, bool_eq, by_setup, by_kind, is_control, is_iso, is_invalid, is_narrow, by_endpoint, by_transfer, verdict}
+use Rattle.gate_history.specs.declared.errno.TheConstants.{ENOENT, EBUSY, EINVAL, EMSGSIZE, ESHUTDOWN}
+use Rattle.gate_history.specs.declared.request.Request.{Request}
+use Rattle.gate_history.specs.client.Requests.{request_of, transfer_by, address, is_in_setup}
+use Rattle.gate_history.specs.declared.verdict.Pipe.{Pipe}
+use Rattle.gate_history.specs.declared.verdict.Pipe.TheVariants.{Control, Bulk, InterruptOut}
+use Rattle.gate_history.specs.declared.verdict.Verdict.{Verdict}
+use Rattle.gate_history.specs.declared.verdict.Verdict.TheVariants.{Now, Wire, IsoOut, Stream}
+use Rattle.gate_history.specs.client.Verdict.{max_narrow, none_of, by_route, by_setup, by_kind, is_control, is_iso, is_invalid, is_narrow, by_endpoint, by_transfer, verdict}
 use Rattle.gate_history.specs.client.Carried.{IsDirected, IsRequest, HasItsSetup, LengthFits, IsSent, IsCarried}
 use Rattle.gate_history.specs.state.Flight.{wide_ids, wide_bulk}
-use Rattle.gate_history.specs.write.Packets.{no_setup, control_packet, wire_packet}
+use Rattle.gate_history.specs.write.Packets.{no_setup, wire_packet}
 
 -- ---- a submit's request
 
@@ -93,11 +100,11 @@ not-not-false false e = absurd (true≢false e)
 
 by_endpoint-carried : (wide : Bool) (r : Request) (row : EpRow) → IsRequest r → is_in_endpoint r.transfer.ep ≡ r.is_in → IsCarried wide (by_endpoint wide r row) r
 by_endpoint-carried wide r row is way =
-    unless wide (is_invalid row.kind) enoent _ r (λ valid.
-    unless wide (is_control row.kind) einval _ r (λ other.
-    unless wide (bool_eq (is_iso row.kind) (none_of r.descs)) einval _ r (λ iso.
-    unless wide (not (laid r.descs r.transfer.wanted)) einval _ r (λ lies.
-    unless wide (is_narrow wide r.is_in row.kind && nat_lt max_narrow r.transfer.wanted) emsgsize _ r (λ fits.
+    unless wide (is_invalid row.kind) ENOENT _ r (λ valid.
+    unless wide (is_control row.kind) EINVAL _ r (λ other.
+    unless wide (beq (is_iso row.kind) (none_of r.descs)) EINVAL _ r (λ iso.
+    unless wide (not (laid r.descs r.transfer.wanted)) EINVAL _ r (λ lies.
+    unless wide (is_narrow wide r.is_in row.kind && nat_lt max_narrow r.transfer.wanted) EMSGSIZE _ r (λ fits.
     by_kind-carried wide r row row.kind way is.body (not-not-false _ lies) is.few_bytes (data-way r.is_in r.transfer.ep r.transfer.wanted _ way is.body) fits)))))
 
 -- ---- endpoint 0
@@ -114,7 +121,7 @@ not-false true e = refl
 not-false false e = absurd (true≢false e)
 
 -- its directions are one, or it moves no data
-setup-data : (way is_in : Bool) (length wanted n : ℕ) → (not (length == 0) && not (bool_eq way is_in)) ≡ false → length ≡ wanted → n ≡ body_size (not is_in) wanted →
+setup-data : (way is_in : Bool) (length wanted n : ℕ) → (not (length == 0) && not (beq way is_in)) ≡ false → length ≡ wanted → n ≡ body_size (not is_in) wanted →
     n ≡ data_count ToHost (address way 0) wanted
 setup-data true true length wanted n one same e = e
 setup-data false false length wanted n one same e = e
@@ -123,9 +130,9 @@ setup-data false true length wanted n one same e = e ∙ sym (sym same ∙ no-le
 
 pub by_setup-carried : (wide : Bool) (r : Request) (s : Setup) → IsRequest r → r.transfer.setup ≡ Some s → r.transfer.ep ≡ address (is_in_setup s) 0 → IsCarried wide (by_setup r s) r
 by_setup-carried wide r s is has way =
-    unless wide (not (none_of r.descs)) einval _ r (λ none.
-    unless wide (not (s.length == 0) && not (bool_eq (is_in_setup s) r.is_in)) einval _ r (λ one.
-    unless wide (not (s.length == r.transfer.wanted)) einval _ r (λ same.
+    unless wide (not (none_of r.descs)) EINVAL _ r (λ none.
+    unless wide (not (s.length == 0) && not (beq (is_in_setup s) r.is_in)) EINVAL _ r (λ one.
+    unless wide (not (s.length == r.transfer.wanted)) EINVAL _ r (λ same.
     let length : s.length ≡ r.transfer.wanted = eqb-true s.length r.transfer.wanted (not-false _ same) in
     by_route-carried wide (route_of s) r (record {
       setup = subst (λ (o : Option Setup). HasItsSetup Control o r.transfer.wanted) (sym has) (sym length);
@@ -141,15 +148,15 @@ by_setup-carried wide r s is has way =
 by_transfer-carried : (changing : Bool) (table : EpTable) (wide : Bool) (r : Request) (o : Option Setup) → IsRequest r → r.transfer.setup ≡ o → IsDirected r.is_in o r.transfer.ep →
     IsCarried wide (by_transfer changing table wide r o) r
 by_transfer-carried changing table wide r None is has way =
-    unless wide changing enoent _ r (λ still. by_endpoint-carried wide r (row_of table r.transfer.ep) is way)
+    unless wide changing ENOENT _ r (λ still. by_endpoint-carried wide r (row_of table r.transfer.ep) is way)
 by_transfer-carried changing table wide r (Some s) is has way = by_setup-carried wide r s is has way
 
 -- what a verdict lets on the wire a packet can carry
 pub carried : (lost : Bool) (live : ℕ) (changing : Bool) (table : EpTable) (wide : Bool) (r : Request) → IsRequest r →
     IsCarried wide (verdict lost live changing table wide r) r
 carried lost live changing table wide r is =
-    unless wide lost eshutdown _ r (λ there.
-    unless wide (nat_le MAX_LIVE live) ebusy _ r (λ room.
+    unless wide lost ESHUTDOWN _ r (λ there.
+    unless wide (nat_le MAX_LIVE live) EBUSY _ r (λ room.
     by_transfer-carried changing table wide r r.transfer.setup is refl is.directed))
 
 -- ---- its packet
@@ -174,7 +181,7 @@ wide-few true = omega arith
 wide-few false = omega arith
 
 by_setup-written : (id : ℕ) (caps : Caps) (t : Transfer) (s : Setup) → IdFits (wide_ids caps) id → IsSent (wide_bulk caps) Control t →
-    CanWriteIt id caps (control_packet t s)
+    CanWriteIt id caps (Carrying (data_packet.Control t.ep s.request s.kind 0 s.value s.index t.wanted t.body))
 by_setup-written id caps t s fits sent =
     let few = few-there t.ep t.wanted (length t.body) sent.few_bytes sent.data_there in
     record { id_fits = fits; length_fits = tt; data_there = sent.data_there; in_limit = omega arith }

@@ -1,4 +1,5 @@
 -- For each number, submits and their ends alternate; and each end but the client's leaving sends one answer.
+use Rattle.std.specs.Option.{option_or}
 use Rattle.std.proofs.Common.{◌≡◌, ℕ, ◌≤◌, ◌||◌, ◌&&◌, ◌==◌, Bool, true, false, cond, not, leb, List, [], ◌∷◌, ◌++◌, length, map, Option, Some, None, refl, sym, ap, subst, ◌∙◌, arith}
 use Rattle.std.specs.Prelude.{filter, is_none, is_some, pos}
 use Rattle.std.specs.List.{list_any, flat_map}
@@ -8,12 +9,13 @@ use Rattle.std.proofs.lemmas.List.{append-nil, map-append}
 use Rattle.std.proofs.lemmas.List.Elements.{filter-append}
 use Rattle.usbip_urb.specs.declared.client.ClientPacket.{ClientPacket}
 use Rattle.usbip_urb.specs.declared.client.ClientPacket.TheVariants.{Urb}
-use Rattle.gate_history.specs.step.Items.{Item}
-use Rattle.gate_history.specs.write.Errno.{econnreset}
-use Rattle.gate_history.specs.client.Verdict.{Verdict, Wire, Routed, goes_by_id, is_wire}
+use Rattle.gate_history.specs.declared.item.Item.{Item}
+use Rattle.gate_history.specs.declared.errno.TheConstants.{ECONNRESET}
+use Rattle.gate_history.specs.declared.verdict.Verdict.{Verdict}
+use Rattle.gate_history.specs.declared.verdict.Verdict.TheVariants.{Wire, Routed}
+use Rattle.gate_history.specs.client.Verdict.{goes_by_id, is_wire}
 use Rattle.gate_history.specs.host.Fillings.{Transferred, Isochronous}
 use Rattle.gate_history.specs.step.Marks.{Submission, Effect, Replies, Imports, Opens, Waits, Unlinks, Mark}
-use Rattle.gate_history.specs.state.Sides.{or_else}
 use Rattle.gate_history.specs.client.Submits.{End, AtOnce, Sent, ByClient, ByLoss, ByAnswer, ByUnlink, ByChange, ByStatus, ByPackets, opened, accepted, is_waiting, ends, end_of, is_live, live, ended, asks, unlinker, Pending, pending}
 use Rattle.gate_history.specs.state.State.{State, state_of, is_number, has_number}
 use Rattle.gate_history.specs.step.Meaning.{meaning, mark_of}
@@ -184,7 +186,7 @@ one-answer s None (Some ByLoss) = refl
 one-answer s (Some by) (Some ByLoss) = refl
 one-answer s None (Some (ByAnswer o)) = refl
 one-answer s (Some by) (Some (ByAnswer o)) =
-    elim (is_wire s.verdict && is_cancelled o.status) as (λ b. said (map Urb (cond b (ret_unlink by econnreset ∷ []) (with_outcome s.request o ∷ ret_unlink by (pos 0) ∷ []))) ≡ answer s.request.number (Some by) b ∷ [])
+    elim (is_wire s.verdict && is_cancelled o.status) as (λ b. said (map Urb (cond b (ret_unlink by ECONNRESET ∷ []) (with_outcome s.request o ∷ ret_unlink by (pos 0) ∷ []))) ≡ answer s.request.number (Some by) b ∷ [])
     [ true ↦ refl | false ↦ refl ]
 one-answer s by (Some (ByUnlink other)) = refl
 one-answer s None (Some ByChange) = refl
@@ -228,11 +230,11 @@ counted-is (Some (ByPackets given)) = refl
 
 -- ---- the end and the unlinker of a submit that has ended stay
 
-or_else-kept : {A : Type 0} (o x : Option A) → is_none o ≡ false → or_else o x ≡ o
+or_else-kept : {A : Type 0} (o x : Option A) → is_none o ≡ false → option_or o x ≡ o
 or_else-kept (Some a) x h = refl
 or_else-kept None x h = absurd (false≢true (sym h))
 
-or_else-none : {A : Type 0} (o : Option A) → or_else o None ≡ o
+or_else-none : {A : Type 0} (o : Option A) → option_or o None ≡ o
 or_else-none (Some a) = refl
 or_else-none None = refl
 
@@ -247,7 +249,7 @@ same : (ms : List Mark) (m : Mark) (s : Submission) → is_live ms s ≡ false �
 same ms m s h =
     ap (λ (e : Option End). answer_by s (unlinker (m ∷ ms) s) e) (or_else-kept (end_of ms s) (cond (leb s.place (length ms)) (ends m.what s) None) h)
     ∙ ap (λ (u : Option ℕ). answer_by s u (end_of ms s))
-    (ap (or_else (unlinker ms s)) (never-asked (leb s.place (length ms)) (is_live ms s) (asks m.what s) h) ∙ or_else-none (unlinker ms s))
+    (ap (option_or (unlinker ms s)) (never-asked (leb s.place (length ms)) (is_live ms s) (asks m.what s) h) ∙ or_else-none (unlinker ms s))
 
 gone : (a b : Bool) → (a && not b) ≡ true → b ≡ false
 gone a true h = elim a as (λ a. (a && not true) ≡ true → true ≡ false) [ true ↦ λ h. absurd (false≢true h) | false ↦ λ h. absurd (false≢true h) ] h
@@ -278,7 +280,7 @@ due-is : (ms : List Mark) (m : Mark) (s : Submission) → Present ms s → is_co
 due-is ms m s p h =
     ap (λ (e : Option End). due s (unlinker ms s) e) (sym (end-at ms m s p))
     ∙ ap (λ (u : Option ℕ). due s u (end_of (m ∷ ms) s))
-    (sym (ap (λ (q : Pending). q.unlinker) (asked ms m s p) ∙ ap (or_else (unlinker ms s)) (unasked m.what s h) ∙ or_else-none (unlinker ms s)))
+    (sym (ap (λ (q : Pending). q.unlinker) (asked ms m s p) ∙ ap (option_or (unlinker ms s)) (unasked m.what s h) ∙ or_else-none (unlinker ms s)))
 
 kept-each : (P : Submission → Type 0) (p : Submission → Bool) (s : Submission) (ss : List Submission) (b : Bool) → p s ≡ b → (p s ≡ true → P s) → Each P ss → Each P (cond b (s ∷ ss) ss)
 kept-each P p s ss true e here rest = (here e, rest)

@@ -1,4 +1,5 @@
 -- What is true of a submit where an item accepts it, and of an import.
+use Rattle.std.specs.Bool.{beq}
 use Rattle.std.proofs.Common.{◌≡◌, ℕ, ◌<◌, ◌&&◌, Bool, true, false, cond, not, eqb, leb, List, [], ◌∷◌, length, Option, Some, None, refl, sym, ap, subst, ◌∙◌, arith}
 use Rattle.std.specs.Prelude.{nat_lt, is_none, ℤ}
 use Rattle.std.proofs.lemmas.Bool.{leb-false, false≢true}
@@ -29,10 +30,14 @@ use Rattle.control_route.specs.Routes.{route_of}
 use Rattle.usbip_urb.specs.declared.client.ClientPacket.{ClientPacket}
 use Rattle.usbip_urb.specs.declared.client.ClientPacket.TheVariants.{Op, Urb}
 use Rattle.usbip_urb.specs.declared.code.TheConstants.{MAX_LIVE}
-use Rattle.gate_history.specs.step.Items.{Item, Asked, ClientWrong, ClientLeft, Told, HostWrong, HostLeft}
-use Rattle.gate_history.specs.write.Errno.{enoent, ebusy, einval, emsgsize, eshutdown}
-use Rattle.gate_history.specs.client.Requests.{Request, request_of, is_in_setup}
-use Rattle.gate_history.specs.client.Verdict.{Verdict, Now, Wire, Routed, IsoOut, Stream, max_narrow, none_of, bool_eq, is_invalid, is_control, is_iso, is_narrow, by_route, by_kind, by_endpoint, by_transfer, verdict, goes_by_id}
+use Rattle.gate_history.specs.declared.item.Item.{Item}
+use Rattle.gate_history.specs.declared.item.Item.TheVariants.{Asked, ClientWrong, ClientLeft, Told, HostWrong, HostLeft}
+use Rattle.gate_history.specs.declared.errno.TheConstants.{ENOENT, EBUSY, EINVAL, EMSGSIZE, ESHUTDOWN}
+use Rattle.gate_history.specs.declared.request.Request.{Request}
+use Rattle.gate_history.specs.client.Requests.{request_of, is_in_setup}
+use Rattle.gate_history.specs.declared.verdict.Verdict.{Verdict}
+use Rattle.gate_history.specs.declared.verdict.Verdict.TheVariants.{Now, Wire, Routed, IsoOut, Stream}
+use Rattle.gate_history.specs.client.Verdict.{max_narrow, none_of, is_invalid, is_control, is_iso, is_narrow, by_route, by_kind, by_endpoint, by_transfer, verdict, goes_by_id}
 use Rattle.gate_history.specs.step.Marks.{Submission, Effect, Opens, Waits}
 use Rattle.gate_history.specs.state.Sides.{imports}
 use Rattle.gate_history.specs.client.Submits.{ByChange, opened, at_once, is_waiting, is_touched, ends}
@@ -42,7 +47,7 @@ use Rattle.gate_history.specs.state.State.{State, has_number}
 use Rattle.gate_history.specs.client.Replies.{is_exported}
 use Rattle.gate_history.specs.write.Packets.{HasRoute}
 use Rattle.gate_history.specs.host.Responses.{Response, response_of}
-use Rattle.gate_history.specs.step.Meaning.{may_import, imported_as, op_meaning, verdict_of, drawn_for, submission, by_stream, accepted_as, accepts, urb_meaning, asked_meaning, answered_as, answer_to, by_response, arrives, data_meaning, told_meaning, meaning}
+use Rattle.gate_history.specs.step.Meaning.{imported_as, asked_meaning, verdict_of, drawn_for, submission, by_stream, accepted_as, accepts, answered_as, answer_to, by_response, arrives, told_meaning, meaning}
 use Rattle.gate_history.proofs.lemmas.Lists.{Each}
 
 -- ---- of a verdict
@@ -51,7 +56,7 @@ use Rattle.gate_history.proofs.lemmas.Lists.{Each}
 pub verdict-room : (lost : Bool) (n : ℕ) (changing : Bool) (t : EpTable) (wide : Bool) (r : Request) → is_none (at_once (verdict lost n changing t wide r)) ≡ true → n < MAX_LIVE
 verdict-room lost n changing t wide r h = go lost (leb MAX_LIVE n) refl h
   where
-    go : (l b : Bool) → leb MAX_LIVE n ≡ b → is_none (at_once (cond l (Now eshutdown) (cond b (Now ebusy) (by_transfer changing t wide r r.transfer.setup)))) ≡ true → n < MAX_LIVE
+    go : (l b : Bool) → leb MAX_LIVE n ≡ b → is_none (at_once (cond l (Now ESHUTDOWN) (cond b (Now EBUSY) (by_transfer changing t wide r r.transfer.setup)))) ≡ true → n < MAX_LIVE
     go true b e k = absurd (false≢true k)
     go false true e k = absurd (false≢true k)
     go false false e k = leb-false MAX_LIVE n e
@@ -79,21 +84,21 @@ unless b status w h = sends-if b (Now status) w tt h
 
 sends-transfer : (changing : Bool) (table : EpTable) (wide : Bool) (r : Request) (o : Option Setup) → HasRoute (by_transfer changing table wide r o)
 sends-transfer changing table wide r (Some s) =
-    unless (not (none_of r.descs)) einval _
-    (unless (not (eqb s.length 0) && not (bool_eq (is_in_setup s) r.is_in)) einval _
-    (unless (not (eqb s.length r.transfer.wanted)) einval _ (sends-route (route_of s))))
-sends-transfer changing table wide r None = unless changing enoent _ (by_row (row_of table r.transfer.ep))
+    unless (not (none_of r.descs)) EINVAL _
+    (unless (not (eqb s.length 0) && not (beq (is_in_setup s) r.is_in)) EINVAL _
+    (unless (not (eqb s.length r.transfer.wanted)) EINVAL _ (sends-route (route_of s))))
+sends-transfer changing table wide r None = unless changing ENOENT _ (by_row (row_of table r.transfer.ep))
   where
     by_row : (row : EpRow) → HasRoute (by_endpoint wide r row)
     by_row row =
-        unless (is_invalid row.kind) enoent _
-        (unless (is_control row.kind) einval _
-        (unless (bool_eq (is_iso row.kind) (none_of r.descs)) einval _
-        (unless (not (laid r.descs r.transfer.wanted)) einval _
-        (unless (is_narrow wide r.is_in row.kind && nat_lt max_narrow r.transfer.wanted) emsgsize _ (sends-kind r row row.kind)))))
+        unless (is_invalid row.kind) ENOENT _
+        (unless (is_control row.kind) EINVAL _
+        (unless (beq (is_iso row.kind) (none_of r.descs)) EINVAL _
+        (unless (not (laid r.descs r.transfer.wanted)) EINVAL _
+        (unless (is_narrow wide r.is_in row.kind && nat_lt max_narrow r.transfer.wanted) EMSGSIZE _ (sends-kind r row row.kind)))))
 
 pub verdict-sends : (lost : Bool) (n : ℕ) (changing : Bool) (table : EpTable) (wide : Bool) (r : Request) → HasRoute (verdict lost n changing table wide r)
-verdict-sends lost n changing table wide r = unless lost eshutdown _ (unless (leb MAX_LIVE n) ebusy _ (sends-transfer changing table wide r r.transfer.setup))
+verdict-sends lost n changing table wide r = unless lost ESHUTDOWN _ (unless (leb MAX_LIVE n) EBUSY _ (sends-transfer changing table wide r r.transfer.setup))
 
 -- a stream that is up keeps its row, and changes nothing else
 
@@ -162,11 +167,11 @@ opening-import : (st : State) (o : Option Connect) → st.abandoned ≡ [] → I
 opening-import st None h = none st (imported_as st None) refl refl tt
 opening-import st (Some c) h = record { imported = tt; new = tt; alone = λ k. h; room = tt; drawn = tt; routes = tt; going = tt; waits = tt }
 
-opening-op : (st : State) (place : ℕ) (p : OpPacket) → IsOpening st (op_meaning st place p)
+opening-op : (st : State) (place : ℕ) (p : OpPacket) → IsOpening st (asked_meaning st place (Op p))
 opening-op st place (op.ReqDevlist status) = when st st.imported _ _ (λ h. none st _ refl refl tt) (λ h. none st _ refl refl tt)
-opening-op st place (op.ReqImport status busid) = when st st.imported _ _ (λ h. none st _ refl refl tt) (λ h. by (may_import st busid) refl)
+opening-op st place (op.ReqImport status busid) = when st st.imported _ _ (λ h. none st _ refl refl tt) (λ h. by (is_exported busid && none_of st.abandoned && is_none st.fence) refl)
   where
-    by : (b : Bool) → may_import st busid ≡ b → IsOpening st (imported_as st (cond b st.facts.connect None))
+    by : (b : Bool) → (is_exported busid && none_of st.abandoned && is_none st.fence) ≡ b → IsOpening st (imported_as st (cond b st.facts.connect None))
     by true e = opening-import st st.facts.connect (none-nil st.abandoned (middle (is_exported busid) (none_of st.abandoned) (is_none st.fence) e))
     by false e = none st _ refl refl tt
 opening-op st place (op.RepDevlist status devices) = none st _ refl refl tt
@@ -220,7 +225,7 @@ not-false : (b : Bool) → not b ≡ false → b ≡ true
 not-false true e = refl
 not-false false e = sym e
 
-opening-urb : (st : State) (place : ℕ) (p : UrbPacket) → IsOpening st (urb_meaning st place p)
+opening-urb : (st : State) (place : ℕ) (p : UrbPacket) → IsOpening st (asked_meaning st place (Urb p))
 opening-urb st place (urb.Submit s) =
     when st (not st.imported) _ _ (λ h. none st _ refl refl tt)
     (λ h. when st (has_number st s.head.seqnum) _ _ (λ k. none st _ refl refl tt) (λ k. opening-submit st (request_of s) (not-false st.imported h) k))
@@ -248,7 +253,7 @@ opening-arrival : (st : State) (ep : ℕ) (iso : Bool) (packet : StreamPacket) (
 opening-arrival st ep iso packet None = none st (arrives st ep iso packet None) refl refl tt
 opening-arrival st ep iso packet (Some up) = none st (arrives st ep iso packet (Some up)) refl refl tt
 
-opening-data : (st : State) (place : ℕ) (h : Header) (d : RedirData) → IsOpening st (data_meaning st place h d)
+opening-data : (st : State) (place : ℕ) (h : Header) (d : RedirData) → IsOpening st (told_meaning st place h (Carrying d))
 opening-data st place h (data_packet.Interrupt endpoint status length body) =
     when st (is_in_endpoint endpoint) _ _ (λ k. opening-arrival st endpoint false _ (stream_of st.streams endpoint)) (λ k. opening-response st place h _)
 opening-data st place h (data_packet.Iso endpoint status length body) =

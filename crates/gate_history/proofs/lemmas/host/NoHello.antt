@@ -1,5 +1,7 @@
 -- Before the host's hello nothing is told of a device, so that no client imports one, and nothing is sent to the host.
-use Rattle.std.proofs.Common.{◌≡◌, ℕ, Bool, true, false, cond, not, List, [], ◌++◌, length, map, Option, Some, None, refl, ap, ◌∙◌}
+use Rattle.gate_history.specs.client.Replies.{is_exported}
+use Rattle.gate_history.specs.client.Verdict.{none_of}
+use Rattle.std.proofs.Common.{◌≡◌, ◌&&◌, ℕ, Bool, true, false, cond, not, List, [], ◌++◌, length, map, Option, Some, None, refl, ap, ◌∙◌}
 use Rattle.std.specs.Prelude.{◌||◌, filter, zip, is_none}
 use Rattle.std.proofs.lemmas.Bool.{true≢false}
 use Rattle.usb_base.specs.declared.refusal.Refusal.{Refusal}
@@ -13,10 +15,11 @@ use Rattle.usbip_urb.specs.declared.packet.UrbPacket.TheVariants as urb
 use Rattle.redir_wire.specs.declared.packet.Caps.{Caps}
 use Rattle.redir_wire.specs.declared.packet.Connect.{Connect}
 use Rattle.gate_history.specs.state.Facts.{no_facts}
-use Rattle.gate_history.specs.step.Items.{Item, Asked, ClientWrong, ClientLeft, Told, HostWrong, HostLeft}
+use Rattle.gate_history.specs.declared.item.Item.{Item}
+use Rattle.gate_history.specs.declared.item.Item.TheVariants.{Asked, ClientWrong, ClientLeft, Told, HostWrong, HostLeft}
 use Rattle.gate_history.specs.step.Machine.{ask, live_after, after}
 use Rattle.gate_history.specs.step.Marks.{Effect, Idle, Replies, Ends, Refuses}
-use Rattle.gate_history.specs.step.Meaning.{may_import, importable, imported_as, op_meaning, urb_meaning, asked_meaning, meaning, mark_as}
+use Rattle.gate_history.specs.step.Meaning.{importable, imported_as, asked_meaning, meaning, mark_as}
 use Rattle.gate_history.specs.write.Output.{cancel, cancels, fresh, acknowledgements, to_host}
 use Rattle.gate_history.specs.write.Packets.{stops, asked_packets}
 use Rattle.gate_history.specs.state.Sides.{imports, leaves, is_loss}
@@ -72,13 +75,13 @@ none-either : (b : Bool) (o : Option Connect) → o ≡ None → cond b o None �
 none-either true o e = e
 none-either false o e = refl
 
-asks-op : (st : State) (place : ℕ) (p : OpPacket) → IsQuiet st → IsStill (op_meaning st place p)
+asks-op : (st : State) (place : ℕ) (p : OpPacket) → IsQuiet st → IsStill (asked_meaning st place (Op p))
 asks-op st place (op.ReqDevlist status) q = either st.imported _ _ (refuses _) (replies _)
-asks-op st place (op.ReqImport status busid) q = either st.imported _ _ (refuses _) (import-fails st (importable st busid) (none-either (may_import st busid) st.facts.connect q.connect))
+asks-op st place (op.ReqImport status busid) q = either st.imported _ _ (refuses _) (import-fails st (importable st busid) (none-either (is_exported busid && none_of st.abandoned && is_none st.fence) st.facts.connect q.connect))
 asks-op st place (op.RepDevlist status devices) q = idle
 asks-op st place (op.RepImport status device) q = idle
 
-asks-urb : (st : State) (place : ℕ) (p : UrbPacket) → IsQuiet st → IsStill (urb_meaning st place p)
+asks-urb : (st : State) (place : ℕ) (p : UrbPacket) → IsQuiet st → IsStill (asked_meaning st place (Urb p))
 asks-urb st place (urb.Submit s) q = refused-first st.imported _ _ q.imported (refuses _)
 asks-urb st place (urb.Unlink u) q = refused-first st.imported _ _ q.imported (refuses _)
 asks-urb st place (urb.RetSubmit r) q = idle

@@ -1,7 +1,8 @@
 -- Ids that are drawn in turn for packets, and what is noted of those that start and stop streams.
+use Rattle.usb_base.specs.Number.{part}
 use Rattle.std.proofs.Common.{◌≡◌, ℕ, zero, suc, ◌+◌, ◌≤◌, Bool, true, false, cond, List, [], ◌∷◌, ◌++◌, length, map, set, Option, Some, None, refl, ap, ◌∙◌, arith}
 use Rattle.std.specs.Prelude.{zip}
-use Rattle.std.specs.List.{flat_map}
+use Rattle.std.specs.List.{flat_map, last_or}
 use Rattle.std.specs.Option.{option_to_list}
 use Rattle.std.proofs.lemmas.List.{length-append, length-set}
 use Rattle.usb_base.specs.Endpoint.{endpoint_index}
@@ -13,12 +14,15 @@ use Rattle.redir_data.specs.declared.packet.RedirPacket.{RedirPacket}
 use Rattle.redir_data.specs.declared.packet.RedirPacket.TheVariants.{Plain, Carrying}
 use Rattle.control_route.specs.declared.route.Route.{Route}
 use Rattle.control_route.specs.declared.route.Route.TheVariants as route
+use Rattle.redir_data.specs.declared.packet.RedirData.TheVariants as data_packet
 use Rattle.gate_history.specs.state.Ups.{Up}
-use Rattle.gate_history.specs.state.Calls.{Calls, started, stopped, called_by, called, call_ids, last_or}
+use Rattle.gate_history.specs.state.Calls.{Calls, started, stopped, called_by, called, call_ids}
 use Rattle.gate_history.specs.state.Ids.{draw, draws, last_of, times}
-use Rattle.gate_history.specs.client.Verdict.{Pipe, Control, Bulk, InterruptOut, is_iso}
-use Rattle.gate_history.specs.client.Requests.{Request}
-use Rattle.gate_history.specs.write.Packets.{wire_packet, start_packet, starts, stop_packet, stop_of, stops, iso_packet, iso_packets, route_packets}
+use Rattle.gate_history.specs.declared.verdict.Pipe.{Pipe}
+use Rattle.gate_history.specs.declared.verdict.Pipe.TheVariants.{Control, Bulk, InterruptOut}
+use Rattle.gate_history.specs.client.Verdict.{is_iso}
+use Rattle.gate_history.specs.declared.request.Request.{Request}
+use Rattle.gate_history.specs.write.Packets.{wire_packet, start_packet, starts, stop_packet, stop_of, stops, iso_packets, route_packets}
 use Rattle.gate_history.proofs.lemmas.Lists.{Each}
 
 -- ---- ids in turn
@@ -75,7 +79,7 @@ route-silent route.Local = tt
 route-silent route.Plain = tt
 route-silent route.Bad = tt
 
-isos-silent : (ep : ℕ) (body : List ℕ) (ds : List IsoDesc) → Each IsSilent (map (iso_packet ep body) ds)
+isos-silent : (ep : ℕ) (body : List ℕ) (ds : List IsoDesc) → Each IsSilent (map (λ (d : IsoDesc). Carrying (data_packet.Iso ep 0 d.length (part d.offset d.length body))) ds)
 isos-silent ep body [] = tt
 isos-silent ep body (d ∷ ds) = (λ id c. refl, isos-silent ep body ds)
 

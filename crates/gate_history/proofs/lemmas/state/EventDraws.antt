@@ -4,7 +4,8 @@ use Rattle.usbip_urb.specs.declared.packet.UrbPacket.TheVariants as urb
 use Rattle.usbip_urb.specs.declared.client.ClientPacket.TheVariants.{Op, Urb}
 use Rattle.usbip_urb.specs.declared.code.TheConstants.{MAX_PACKETS}
 use Rattle.redir_data.specs.declared.state.RedirState.{RedirState}
-use Rattle.gate_history.specs.step.Items.{Item, Asked, ClientWrong, ClientLeft, Told, HostWrong, HostLeft}
+use Rattle.gate_history.specs.declared.item.Item.{Item}
+use Rattle.gate_history.specs.declared.item.Item.TheVariants.{Asked, ClientWrong, ClientLeft, Told, HostWrong, HostLeft}
 use Rattle.gate_history.specs.state.Sound.{HasFewPackets, DrawFresh}
 use Rattle.gate_history.proofs.lemmas.step.Rests.{counted}
 use Rattle.gate_history.proofs.lemmas.state.Flights.{item-fresh}

@@ -1,6 +1,8 @@
 -- No id is in flight twice, and the ids that an item draws are fresh.
+use Rattle.usbip_urb.specs.declared.packet.IsoDesc.{IsoDesc}
+use Rattle.usb_base.specs.Number.{part}
 use Rattle.std.proofs.Common.{◌≡◌, ℕ, ◌+◌, ◌<◌, ◌≤◌, ◌&&◌, Bool, true, false, cond, if◌then◌else◌, not, eqb, List, [], ◌∷◌, ◌++◌, length, map, set, Option, Some, None, refl, sym, ap, subst, ◌∙◌, arith, inl, inr}
-use Rattle.std.specs.Prelude.{◌%◌, ◌||◌, nat_lt, nat_eq, filter, is_none, option_map, zip}
+use Rattle.std.specs.Prelude.{◌%◌, ◌||◌, nat_lt, nat_eq, filter, is_none, option_map, zip, is_some, slice_set}
 use Rattle.std.specs.List.{AllByRecursion, IsDistinct}
 use Rattle.std.proofs.lemmas.Bool.{cases_Bool, false≢true}
 use Rattle.std.proofs.lemmas.Bool.Decides.{nat_tests}
@@ -16,13 +18,16 @@ use Rattle.redir_wire.specs.declared.packet.RedirControl.TheVariants as plain
 use Rattle.redir_data.specs.declared.packet.RedirData.{RedirData}
 use Rattle.redir_data.specs.declared.packet.RedirData.TheVariants as data_packet
 use Rattle.redir_data.specs.declared.packet.RedirPacket.TheVariants.{Plain, Carrying}
-use Rattle.gate_history.specs.step.Items.{Item, Asked, ClientWrong, ClientLeft, Told, HostWrong, HostLeft}
+use Rattle.gate_history.specs.declared.item.Item.{Item}
+use Rattle.gate_history.specs.declared.item.Item.TheVariants.{Asked, ClientWrong, ClientLeft, Told, HostWrong, HostLeft}
 use Rattle.gate_history.specs.host.Fillings.{Fill}
 use Rattle.usb_base.specs.declared.endpoint.EpRow.{EpRow}
 use Rattle.gate_history.specs.host.Responses.{response_of}
 use Rattle.gate_history.specs.state.Sound.{HasFewPackets}
 use Rattle.gate_history.specs.state.Ids.{holds, draws, last_of, greatest, AreFresh, times, Once}
-use Rattle.gate_history.specs.client.Verdict.{Verdict, Now, Wire, Routed, IsoOut, Stream, goes_by_id}
+use Rattle.gate_history.specs.declared.verdict.Verdict.{Verdict}
+use Rattle.gate_history.specs.declared.verdict.Verdict.TheVariants.{Now, Wire, Routed, IsoOut, Stream}
+use Rattle.gate_history.specs.client.Verdict.{goes_by_id}
 use Rattle.gate_history.specs.step.Marks.{Submission, Effect, Idle, Replies, Imports, Opens, Waits, Unlinks, Agrees, Answers, Arrives, StreamTold, Disconnects, Ends, Refuses, Mark}
 use Rattle.gate_history.specs.state.Sides.{is_client, leaves, is_loss, imports, imported}
 use Rattle.gate_history.specs.client.Submits.{End, ByClient, ByLoss, at_once, is_waiting, pending, opened, own_end, ends, live, is_answered, abandoned}
@@ -32,12 +37,13 @@ use Rattle.usb_base.specs.declared.transfer.StreamPacket.{StreamPacket}
 use Rattle.usb_base.specs.Endpoint.{endpoint_index, is_in_endpoint}
 use Rattle.usb_base.specs.Status.{is_success}
 use Rattle.redir_data.specs.declared.packet.RedirPacket.{RedirPacket}
-use Rattle.gate_history.specs.state.Ups.{Up, no_streams, stream_at, stream_of, raised, unless, lower_at, hold, is_ended, opened_streams, moved_streams, streams_after, streams}
+use Rattle.gate_history.specs.state.Ups.{Up, no_streams, stream_at, stream_of, unless, lower_at, hold, is_ended, opened_streams, moved_streams, streams_after, streams}
 use Rattle.gate_history.specs.state.Calls.{Calls, called, asking, calls, call_ids}
-use Rattle.gate_history.specs.client.Requests.{Request, request_of}
-use Rattle.gate_history.specs.write.Packets.{HasRoute, wire_packet, starts, stops, iso_packet, iso_packets, route_packets, packets_of, asked_packets}
+use Rattle.gate_history.specs.declared.request.Request.{Request}
+use Rattle.gate_history.specs.client.Requests.{request_of}
+use Rattle.gate_history.specs.write.Packets.{HasRoute, wire_packet, starts, stops, iso_packets, route_packets, packets_of, asked_packets}
 use Rattle.gate_history.proofs.lemmas.state.Calls.{AreLong, few-ids, long-called, few-stops, few-starts, draws-append, zip-append, last-append, called-append, called-silent, wire-silent, route-silent, iso-silent, times-append, times-called, times-last}
-use Rattle.gate_history.specs.step.Meaning.{verdict_of, by_stream, submission, accepted_as, accepts, arrives, data_meaning, told_meaning, meaning, drawn_for, drawn_by, mark_of}
+use Rattle.gate_history.specs.step.Meaning.{verdict_of, by_stream, submission, accepted_as, accepts, arrives, told_meaning, meaning, drawn_for, drawn_by, mark_of}
 use Rattle.gate_history.specs.step.Past.{is_left_out, past}
 use Rattle.gate_history.proofs.lemmas.step.Aside.{HoldsAside, by-test, of-op, of-response}
 use Rattle.gate_history.proofs.lemmas.Lists.{length-filter, Each, every, Each-weaker, Each-append, Each-filter, filter-same, filter-twice, both, filter-none}
@@ -105,7 +111,7 @@ pub streams-long : (ms : List Mark) → length (streams ms) ≡ 32
 streams-long [] = refl
 streams-long (m ∷ ms) = after-long m.what (streams ms) (streams-long ms)
   where
-    raised-long : (up : Up) (ups : List (Option Up)) (o : Option Up) → length ups ≡ 32 → length (raised ups up o) ≡ 32
+    raised-long : (up : Up) (ups : List (Option Up)) (o : Option Up) → length ups ≡ 32 → length (cond (is_some o) ups (slice_set ups (endpoint_index up.ep) (Some up))) ≡ 32
     raised-long up ups None h = length-set ups (endpoint_index up.ep) (Some up) ∙ h
     raised-long up ups (Some before) h = h
 
@@ -521,7 +527,7 @@ few-packets ups (Now status) r long few = omega arith
 few-packets ups (Wire pipe) r long few = omega arith
 few-packets ups (Routed route) r long few = omega (arith, length-append (stops (is_ended (Some route)) ups) (route_packets route), few-stops (is_ended (Some route)) ups, long, few-route route)
 few-packets ups (IsoOut row) r long few =
-    omega (arith, length-append (starts (stream_at ups r.transfer.ep) r.transfer.ep row) (iso_packets r), few-starts (stream_at ups r.transfer.ep) r.transfer.ep row, length-map r.descs (iso_packet r.transfer.ep r.transfer.body), few)
+    omega (arith, length-append (starts (stream_at ups r.transfer.ep) r.transfer.ep row) (iso_packets r), few-starts (stream_at ups r.transfer.ep) r.transfer.ep row, length-map r.descs (λ (d : IsoDesc). Carrying (data_packet.Iso r.transfer.ep 0 d.length (part d.offset d.length r.transfer.body))), few)
 few-packets ups (Stream row) r long few = omega (arith, few-starts (stream_at ups r.transfer.ep) r.transfer.ep row)
 
 none-fresh : (m : ℕ) (flying : List ℕ) → AreFresh m flying []
@@ -554,7 +560,7 @@ few-arrival : (st : State) (ep : ℕ) (iso : Bool) (packet : StreamPacket) (o : 
 few-arrival st ep iso packet None = tt
 few-arrival st ep iso packet (Some up) = tt
 
-few-data : (st : State) (place : ℕ) (h : Header) (d : RedirData) → OpensFew (data_meaning st place h d)
+few-data : (st : State) (place : ℕ) (h : Header) (d : RedirData) → OpensFew (told_meaning st place h (Carrying d))
 few-data st place h (data_packet.Interrupt endpoint status length body) =
     by-test OpensFew (is_in_endpoint endpoint) _ _ (few-arrival st endpoint false _ (stream_of st.streams endpoint)) (of-response OpensFew few-aside st place h _)
 few-data st place h (data_packet.Iso endpoint status length body) = by-test OpensFew (is_in_endpoint endpoint) _ _ (few-arrival st endpoint true _ (stream_of st.streams endpoint)) tt

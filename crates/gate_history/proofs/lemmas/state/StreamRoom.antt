@@ -1,6 +1,7 @@
 -- After every past each stream holds at most 1,024 packets.
+use Rattle.std.specs.Bool.{beq}
 use Rattle.std.proofs.Common.{◌≡◌, ℕ, ◌+◌, ◌<◌, ◌≤◌, Bool, true, false, cond, not, leb, List, [], ◌∷◌, ◌++◌, length, map, replicate, set, get_or, drop, Option, Some, None, refl, arith}
-use Rattle.std.specs.Prelude.{zero, suc, ◌%◌, ◌||◌, ◌&&◌, nat_lt, option_map}
+use Rattle.std.specs.Prelude.{zero, suc, ◌%◌, ◌||◌, ◌&&◌, nat_lt, option_map, is_some, slice_set}
 use Rattle.std.proofs.lemmas.Bool.{leb-false, false≢true}
 use Rattle.std.proofs.lemmas.List.{length-append, length-drop}
 use Rattle.usb_base.specs.declared.transfer.StreamPacket.{StreamPacket}
@@ -18,16 +19,20 @@ use Rattle.stream_buffers.specs.Cuts.{Cut}
 use Rattle.stream_buffers.specs.Interrupt.{last_of, interrupt_cut_at, interrupt_cut}
 use Rattle.stream_buffers.specs.Iso.{iso_outcome, iso_cut}
 use Rattle.stream_buffers.specs.declared.inbox.TheConstants.{MAX_HELD}
-use Rattle.gate_history.specs.step.Items.{Item, Asked, ClientWrong, ClientLeft, Told, HostWrong, HostLeft}
-use Rattle.gate_history.specs.client.Requests.{Request, request_of}
-use Rattle.gate_history.specs.client.Verdict.{Verdict, Now, Wire, Routed, IsoOut, Stream, none_of, bool_eq, is_iso}
+use Rattle.gate_history.specs.declared.item.Item.{Item}
+use Rattle.gate_history.specs.declared.item.Item.TheVariants.{Asked, ClientWrong, ClientLeft, Told, HostWrong, HostLeft}
+use Rattle.gate_history.specs.declared.request.Request.{Request}
+use Rattle.gate_history.specs.client.Requests.{request_of}
+use Rattle.gate_history.specs.declared.verdict.Verdict.{Verdict}
+use Rattle.gate_history.specs.declared.verdict.Verdict.TheVariants.{Now, Wire, Routed, IsoOut, Stream}
+use Rattle.gate_history.specs.client.Verdict.{none_of, is_iso}
 use Rattle.gate_history.specs.step.Marks.{Submission, Effect, Opens, Waits, Arrives, StreamTold}
 use Rattle.gate_history.specs.state.Sides.{leaves, is_loss}
 use Rattle.gate_history.specs.host.Fillings.{Given, Transferred, Isochronous, cut_as, cut_of, none_filled, filled_by, fill}
 use Rattle.gate_history.specs.host.Responses.{response_of}
 use Rattle.gate_history.specs.state.State.{State, state_of, has_number}
-use Rattle.gate_history.specs.state.Ups.{Up, no_streams, stream_at, stream_of, held_of, raised, unless, lower_at, hold, is_ended, opened_streams, moved_streams, streams_after, streams}
-use Rattle.gate_history.specs.step.Meaning.{verdict_of, drawn_for, submission, by_stream, waiting, accepted_as, accepts, is_held, arrives, data_meaning, told_meaning, meaning, mark_of}
+use Rattle.gate_history.specs.state.Ups.{Up, no_streams, stream_at, stream_of, held_of, unless, lower_at, hold, is_ended, opened_streams, moved_streams, streams_after, streams}
+use Rattle.gate_history.specs.step.Meaning.{verdict_of, drawn_for, submission, by_stream, waiting, accepted_as, accepts, is_held, arrives, told_meaning, meaning, mark_of}
 use Rattle.gate_history.specs.step.Past.{is_left_out, past}
 use Rattle.gate_history.proofs.lemmas.step.Aside.{HoldsAside, by-test, of-op, of-response}
 use Rattle.gate_history.proofs.lemmas.Lists.{Each}
@@ -106,7 +111,7 @@ few-lower_at : (ep : ℕ) (ups : List (Option Up)) → Each HoldsFew ups → Eac
 few-lower_at ep ups h =
     elim (nat_lt (ep % 128) 16) as (λ b. Each HoldsFew (cond b (set ups (endpoint_index ep) None) ups)) [ true ↦ few-set ups (endpoint_index ep) None (omega arith) h | false ↦ h ]
 
-few-raised : (ups : List (Option Up)) (up : Up) (o : Option Up) → length up.held ≤ MAX_HELD → Each HoldsFew ups → Each HoldsFew (raised ups up o)
+few-raised : (ups : List (Option Up)) (up : Up) (o : Option Up) → length up.held ≤ MAX_HELD → Each HoldsFew ups → Each HoldsFew (cond (is_some o) ups (slice_set ups (endpoint_index up.ep) (Some up)))
 few-raised ups up None k h = few-set ups (endpoint_index up.ep) (Some up) k h
 few-raised ups up (Some before) k h = h
 
@@ -155,7 +160,7 @@ few-aside : HoldsAside LeavesFew
 few-aside = record { idle = tt; replies = λ p. tt; imports = λ p. tt; answers = λ id o. tt; refuses = λ r. tt }
 
 not-full : (iso : Bool) (up : Up) → is_held iso up ≡ true → length up.held < MAX_HELD
-not-full iso up h = by (bool_eq iso (is_iso up.row.kind)) (leb MAX_HELD (length up.held)) refl h
+not-full iso up h = by (beq iso (is_iso up.row.kind)) (leb MAX_HELD (length up.held)) refl h
   where
     by : (a b : Bool) → leb MAX_HELD (length up.held) ≡ b → (a && not b) ≡ true → length up.held < MAX_HELD
     by true true e k = absurd (false≢true k)
@@ -177,7 +182,7 @@ module _ (st : State) (held : Each HoldsFew st.streams) where
   few-of byte =
       elim (nat_lt (byte % 128) 16) as (λ b. HoldsFew (cond b (stream_at st.streams byte) None)) [ true ↦ few-at st.streams (endpoint_index byte) held | false ↦ omega arith ]
 
-  few-data : (place : ℕ) (h : Header) (d : RedirData) → LeavesFew (data_meaning st place h d)
+  few-data : (place : ℕ) (h : Header) (d : RedirData) → LeavesFew (told_meaning st place h (Carrying d))
   few-data place h (data_packet.Interrupt endpoint status length body) =
       by-test LeavesFew (is_in_endpoint endpoint) _ _ (few-arrival st endpoint false _ (stream_of st.streams endpoint) (few-of endpoint)) (of-response LeavesFew few-aside st place h _)
   few-data place h (data_packet.Iso endpoint status length body) =

@@ -20,15 +20,18 @@ use Rattle.usb_base.specs.declared.transfer.StreamPacket.{StreamPacket}
 use Rattle.usb_base.specs.Endpoint.{is_in_endpoint}
 use Rattle.usbip_urb.specs.declared.client.ClientPacket.{ClientPacket}
 use Rattle.usbip_urb.specs.declared.client.ClientPacket.TheVariants.{Op, Urb}
-use Rattle.gate_history.specs.step.Items.{Item, Asked, ClientWrong, ClientLeft, Told, HostWrong, HostLeft}
-use Rattle.gate_history.specs.client.Requests.{Request, request_of}
-use Rattle.gate_history.specs.client.Verdict.{Verdict, Now}
+use Rattle.gate_history.specs.declared.item.Item.{Item}
+use Rattle.gate_history.specs.declared.item.Item.TheVariants.{Asked, ClientWrong, ClientLeft, Told, HostWrong, HostLeft}
+use Rattle.gate_history.specs.declared.request.Request.{Request}
+use Rattle.gate_history.specs.client.Requests.{request_of}
+use Rattle.gate_history.specs.declared.verdict.Verdict.{Verdict}
+use Rattle.gate_history.specs.declared.verdict.Verdict.TheVariants.{Now}
 use Rattle.gate_history.specs.step.Marks.{Submission, Effect, Mark}
 use Rattle.gate_history.specs.state.Sides.{is_client, agrees, refuses_client, ends_client, closes_host, client_over, host_over, agreed}
 use Rattle.gate_history.specs.state.Ups.{Up, stream_at, stream_of}
 use Rattle.gate_history.specs.state.State.{State, state_of, has_number}
 use Rattle.gate_history.specs.host.Responses.{Response, Data, Status, response_of, answer_kind, mismatch}
-use Rattle.gate_history.specs.step.Meaning.{importable, imported_as, op_meaning, verdict_of, drawn_for, submission, by_stream, accepted_as, accepts, urb_meaning, asked_meaning, answered_as, answer_to, by_response, arrives, data_meaning, told_meaning, meaning, mark_of}
+use Rattle.gate_history.specs.step.Meaning.{importable, imported_as, asked_meaning, verdict_of, drawn_for, submission, by_stream, accepted_as, accepts, answered_as, answer_to, by_response, arrives, told_meaning, meaning, mark_of}
 use Rattle.gate_history.specs.step.Past.{is_left_out, past}
 
 -- ---- effects of the client's items
@@ -45,7 +48,7 @@ client-import : (st : State) (o : Option Connect) → SparesHost (imported_as st
 client-import st None = record { closes = refl; agrees-none = refl }
 client-import st (Some c) = record { closes = refl; agrees-none = refl }
 
-client-op : (st : State) (place : ℕ) (p : OpPacket) → SparesHost (op_meaning st place p)
+client-op : (st : State) (place : ℕ) (p : OpPacket) → SparesHost (asked_meaning st place (Op p))
 client-op st place (op.ReqDevlist status) = either SparesHost st.imported _ _ (record { closes = refl; agrees-none = refl }) (record { closes = refl; agrees-none = refl })
 client-op st place (op.ReqImport status busid) = either SparesHost st.imported _ _ (record { closes = refl; agrees-none = refl }) (client-import st (importable st busid))
 client-op st place (op.RepDevlist status devices) = record { closes = refl; agrees-none = refl }
@@ -60,7 +63,7 @@ client-submit st r v =
     let kept = by_stream (stream_at st.streams r.transfer.ep) v in
     client-accepted st (submission st r kept (drawn_for st r kept)) kept
 
-client-urb : (st : State) (place : ℕ) (p : UrbPacket) → SparesHost (urb_meaning st place p)
+client-urb : (st : State) (place : ℕ) (p : UrbPacket) → SparesHost (asked_meaning st place (Urb p))
 client-urb st place (urb.Submit s) =
     either SparesHost (not st.imported) _ _ (record { closes = refl; agrees-none = refl })
     (either SparesHost (has_number st s.head.seqnum) _ _ (record { closes = refl; agrees-none = refl }) (client-submit st (request_of s) (verdict_of st (request_of s))))
@@ -109,7 +112,7 @@ host-arrival : (st : State) (ep : ℕ) (iso : Bool) (packet : StreamPacket) (o :
 host-arrival st ep iso packet None = record { refuses = refl; ends = refl }
 host-arrival st ep iso packet (Some up) = record { refuses = refl; ends = refl }
 
-host-data : (st : State) (place : ℕ) (h : Header) (d : RedirData) → SparesClient (data_meaning st place h d)
+host-data : (st : State) (place : ℕ) (h : Header) (d : RedirData) → SparesClient (told_meaning st place h (Carrying d))
 host-data st place h (data_packet.Interrupt endpoint status length body) =
     either SparesClient (is_in_endpoint endpoint) _ _ (host-arrival st endpoint false _ (stream_of st.streams endpoint)) (host-response st place h _)
 host-data st place h (data_packet.Iso endpoint status length body) =
@@ -144,7 +147,7 @@ arrival-agrees st ep iso packet (Some up) = refl
 none-agreed : (b : Bool) (e f : Effect) → agrees e ≡ None → agrees f ≡ None → agrees (cond b e f) ≡ None
 none-agreed b e f h k = either (λ x. agrees x ≡ None) b e f h k
 
-pub data-agrees : (st : State) (place : ℕ) (h : Header) (d : RedirData) → agrees (data_meaning st place h d) ≡ None
+pub data-agrees : (st : State) (place : ℕ) (h : Header) (d : RedirData) → agrees (told_meaning st place h (Carrying d)) ≡ None
 data-agrees st place h (data_packet.Interrupt endpoint status length body) =
     none-agreed (is_in_endpoint endpoint) _ _ (arrival-agrees st endpoint false _ (stream_of st.streams endpoint)) (response-agrees st place h _)
 data-agrees st place h (data_packet.Iso endpoint status length body) =

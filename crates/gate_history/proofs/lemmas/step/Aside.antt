@@ -7,10 +7,11 @@ use Rattle.usbip_op.specs.declared.packet.OpPacket.{OpPacket}
 use Rattle.usbip_op.specs.declared.packet.OpPacket.TheVariants as op
 use Rattle.redir_wire.specs.declared.packet.Connect.{Connect}
 use Rattle.redir_wire.specs.declared.packet.Header.{Header}
+use Rattle.usbip_urb.specs.declared.client.ClientPacket.TheVariants.{Op}
 use Rattle.gate_history.specs.step.Marks.{Submission, Effect, Idle, Replies, Imports, Answers, Refuses}
 use Rattle.gate_history.specs.host.Responses.{Response}
 use Rattle.gate_history.specs.state.State.{State}
-use Rattle.gate_history.specs.step.Meaning.{importable, imported_as, op_meaning, answered_as, answer_to, by_response}
+use Rattle.gate_history.specs.step.Meaning.{importable, imported_as, asked_meaning, answered_as, answer_to, by_response}
 
 pub record HoldsAside (P : Effect → Type 0) : Type 0 where
   pub idle : P Idle
@@ -28,7 +29,7 @@ module _ (P : Effect → Type 0) (aside : HoldsAside P) where
   of-import st None = aside.replies _
   of-import st (Some c) = aside.imports _
 
-  pub of-op : (st : State) (place : ℕ) (p : OpPacket) → P (op_meaning st place p)
+  pub of-op : (st : State) (place : ℕ) (p : OpPacket) → P (asked_meaning st place (Op p))
   of-op st place (op.ReqDevlist status) = by-test P st.imported _ _ (aside.refuses _) (aside.replies _)
   of-op st place (op.ReqImport status busid) = by-test P st.imported _ _ (aside.refuses _) (of-import st (importable st busid))
   of-op st place (op.RepDevlist status devices) = aside.idle

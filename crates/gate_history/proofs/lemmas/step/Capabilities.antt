@@ -19,9 +19,10 @@ use Rattle.redir_data.specs.declared.state.RedirState.{RedirState}
 use Rattle.redir_data.specs.Streams.{start, advanced, after}
 use Rattle.redir_data.specs.sound.Joined.{stream_sound}
 use Rattle.gate_history.specs.step.Streams.{host_format, host_reader, host_start}
-use Rattle.gate_history.specs.step.Items.{Item, Asked, ClientWrong, ClientLeft, Told, HostWrong, HostLeft}
+use Rattle.gate_history.specs.declared.item.Item.{Item}
+use Rattle.gate_history.specs.declared.item.Item.TheVariants.{Asked, ClientWrong, ClientLeft, Told, HostWrong, HostLeft}
 use Rattle.gate_history.specs.step.Marks.{Mark}
-use Rattle.gate_history.specs.state.Sides.{closes_host, host_over, agreed, agreed_after}
+use Rattle.gate_history.specs.state.Sides.{closes_host, host_over, agreed, agrees}
 use Rattle.gate_history.specs.state.State.{State, state_of}
 use Rattle.gate_history.specs.state.Flight.{wide_ids}
 use Rattle.gate_history.specs.host.Responses.{Response, Data, Status, response_of}
@@ -61,7 +62,7 @@ fits-at {P = P} format next sound a bytes given left i are is =
 
 -- ---- the host's
 
-told-step : (st : State) (place : ℕ) (h : Header) (p : RedirPacket) (s : RedirState) (caps : Caps) → IsInStep s caps → IsInStep (advanced s p) (agreed_after (told_meaning st place h p) caps)
+told-step : (st : State) (place : ℕ) (h : Header) (p : RedirPacket) (s : RedirState) (caps : Caps) → IsInStep s caps → IsInStep (advanced s p) (unwrap_or (agrees (told_meaning st place h p)) caps)
 told-step st place h (Plain (plain.Hello hello)) s caps step = record { caps_are = refl; none_yet = λ e. absurd (true≢false (sym e)) }
 told-step st place h (Plain plain.Disconnect) s caps step = step
 told-step st place h (Carrying d) s caps step = subst (IsInStep s) (sym (ap (λ (o : Option Caps). unwrap_or o caps) (data-agrees st place h d))) step
@@ -90,7 +91,7 @@ pub left-over : (first : ℕ) (xs : List Item) → host_over (past first (HostLe
 left-over first xs = let ms = past first xs in closing-by ms (mark_of (state_of first ms) HostLeft) refl (host_over ms) refl
 
 told-agreed : (first : ℕ) (xs : List Item) (place : ℕ) (h : Header) (p : RedirPacket) → host_over (past first xs) ≡ false →
-    agreed (past first (Told place h p ∷ xs)) ≡ agreed_after (told_meaning (state_of first (past first xs)) place h p) (agreed (past first xs))
+    agreed (past first (Told place h p ∷ xs)) ≡ unwrap_or (agrees (told_meaning (state_of first (past first xs)) place h p)) (agreed (past first xs))
 told-agreed first xs place h p going =
     let ms = past first xs in
     ap (λ (b : Bool). agreed (cond b ms (mark_of (state_of first ms) (Told place h p) ∷ ms))) going

@@ -23,8 +23,9 @@ use Rattle.redir_data.specs.declared.state.RedirState.{RedirState}
 use Rattle.redir_data.specs.Streams.{start, after}
 use Rattle.redir_data.specs.sound.Joined.{stream_sound}
 use Rattle.gate_history.specs.step.Events.{Event, ClientPiece, ClientEnd, HostPiece, HostEnd, client_bytes, host_bytes}
-use Rattle.gate_history.specs.step.History.{client_split, host_split, client_wrong, host_wrong, client_items, host_items, added, onto, arrivals}
-use Rattle.gate_history.specs.step.Items.{Item, Asked, ClientWrong, ClientLeft, Told, HostWrong, HostLeft}
+use Rattle.gate_history.specs.step.History.{client_split, host_split, client_items, host_items, added, onto, arrivals, wrong_items}
+use Rattle.gate_history.specs.declared.item.Item.{Item}
+use Rattle.gate_history.specs.declared.item.Item.TheVariants.{Asked, ClientWrong, ClientLeft, Told, HostWrong, HostLeft}
 use Rattle.gate_history.specs.write.Readable.{piece_bytes}
 use Rattle.gate_history.specs.client.Requests.{transfer_by}
 use Rattle.gate_history.specs.step.Came.{told}
@@ -68,7 +69,7 @@ asked-own : (is : List (ℕ × ClientPacket)) → Each (λ i. AskedFits i.1) is 
 asked-own [] fit = tt
 asked-own (i ∷ is) fit = (fit.0, asked-own is fit.1)
 
-wrong-own : (w : Option (ℕ × Reason)) → Each IsOwn (client_wrong w)
+wrong-own : (w : Option (ℕ × Reason)) → Each IsOwn (wrong_items ClientWrong w)
 wrong-own None = tt
 wrong-own (Some w) = (tt, tt)
 
@@ -82,7 +83,7 @@ client-own bytes piece are =
     let x = client_split (bytes ++ piece) in
     let found = is_splitting client_format client_next (λ s. client_packets_sound) client_start (bytes ++ piece) are in
     each-drop IsOwn (length (client_items bytes)) (client_items (bytes ++ piece))
-    (Each-append IsOwn (map (λ p. Asked p.0 p.1) x.packets) (client_wrong x.wrong) (asked-own x.packets (packets-fit client_start x.position (bytes ++ piece) found.left x.packets found.spelled are)) (wrong-own x.wrong))
+    (Each-append IsOwn (map (λ p. Asked p.0 p.1) x.packets) (wrong_items ClientWrong x.wrong) (asked-own x.packets (packets-fit client_start x.position (bytes ++ piece) found.left x.packets found.spelled are)) (wrong-own x.wrong))
 
 -- ---- what has come, and which packets of the host are among it
 
@@ -111,7 +112,7 @@ comes-told bytes are given (i ∷ more) is ys c =
     let later = comes-told bytes are next more (is ∙ sym (append_assoc given (i ∷ []) more)) (told_item i ∷ ys) ((fits, c.0), ap (λ (g : List (ℕ × (Header × RedirPacket))). g ++ i ∷ []) c.1) in
     (later.0, later.1 ∙ append_assoc given (i ∷ []) more)
 
-host-wrong-own : (w : Option (ℕ × Reason)) → Each IsOwn (host_wrong w)
+host-wrong-own : (w : Option (ℕ × Reason)) → Each IsOwn (wrong_items HostWrong w)
 host-wrong-own None = tt
 host-wrong-own (Some w) = (tt, tt)
 
@@ -137,12 +138,12 @@ comes-piece bytes piece are all ys c = by x.wrong refl
         let same : y.packets ≡ x.packets ++ more = ap (λ (z : Splitting RedirState (Header × RedirPacket) Reason). z.packets) (split-more host_reader host-steady host_start bytes piece are ∙ ap (further_by host_reader x piece) right) in
         let parts = host-added bytes piece x.packets more y.wrong refl right same refl in
         let told = comes-told (bytes ++ piece) all x.packets more same ys c in
-        let ended = comes-own (x.packets ++ more) (host_wrong y.wrong) (onto (map told_item more) ys) (host-wrong-own y.wrong) told in
-        let joined : onto (host_wrong y.wrong) (onto (map told_item more) ys) ≡ onto (added host_items bytes piece) ys = sym (onto-append (map told_item more) (host_wrong y.wrong) ys) ∙ ap (λ (l : List Item). onto l ys) (sym parts) in
+        let ended = comes-own (x.packets ++ more) (wrong_items HostWrong y.wrong) (onto (map told_item more) ys) (host-wrong-own y.wrong) told in
+        let joined : onto (wrong_items HostWrong y.wrong) (onto (map told_item more) ys) ≡ onto (added host_items bytes piece) ys = sym (onto-append (map told_item more) (wrong_items HostWrong y.wrong) ys) ∙ ap (λ (l : List Item). onto l ys) (sym parts) in
         subst (λ (l : List Item). Comes y.packets l) joined (ended.0, ended.1 ∙ sym same)
     by (Some w) wrong =
         let same : y ≡ x = split-more host_reader host-steady host_start bytes piece are ∙ ap (further_by host_reader x piece) wrong in
-        let items : host_items (bytes ++ piece) ≡ host_items bytes = ap (λ (z : Splitting RedirState (Header × RedirPacket) Reason). map told_item z.packets ++ host_wrong z.wrong) same in
+        let items : host_items (bytes ++ piece) ≡ host_items bytes = ap (λ (z : Splitting RedirState (Header × RedirPacket) Reason). map told_item z.packets ++ wrong_items HostWrong z.wrong) same in
         let none : added host_items bytes piece ≡ [] = ap (drop (length (host_items bytes))) items ∙ drop-whole (host_items bytes) in
         subst (λ (l : List Item). Comes y.packets (onto l ys)) (sym none) (c.0, c.1 ∙ sym (ap (λ (z : Splitting RedirState (Header × RedirPacket) Reason). z.packets) same))
 

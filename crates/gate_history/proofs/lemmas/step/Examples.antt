@@ -19,12 +19,14 @@ use Rattle.usbip_urb.specs.declared.client.ClientPacket.TheVariants.{Op, Urb}
 use Rattle.stream_buffers.specs.declared.inbox.TheConstants.{MAX_HELD}
 use Rattle.gate_history.specs.declared.note.Note.{Note}
 use Rattle.gate_history.specs.declared.note.Note.TheVariants as note
-use Rattle.gate_history.specs.step.Items.{Item, Asked, ClientWrong, ClientLeft, Told}
-use Rattle.gate_history.specs.write.Errno.{enoent, ebusy, emsgsize, econnreset, eshutdown, eremoteio}
+use Rattle.gate_history.specs.declared.item.Item.{Item}
+use Rattle.gate_history.specs.declared.item.Item.TheVariants.{Asked, ClientWrong, ClientLeft, Told}
+use Rattle.gate_history.specs.declared.errno.TheConstants.{ENOENT, EBUSY, EMSGSIZE, ECONNRESET, ESHUTDOWN, EREMOTEIO}
 use Rattle.packet_stream.specs.Split.{split}
 use Rattle.gate_history.specs.step.Events.{ClientPiece, ClientEnd}
-use Rattle.gate_history.specs.client.Requests.{Request}
-use Rattle.gate_history.specs.client.Verdict.{Now, verdict}
+use Rattle.gate_history.specs.declared.request.Request.{Request}
+use Rattle.gate_history.specs.declared.verdict.Verdict.TheVariants.{Now}
+use Rattle.gate_history.specs.client.Verdict.{verdict}
 use Rattle.gate_history.specs.step.History.{arrivals}
 use Rattle.gate_history.specs.state.State.{State, state_of}
 use Rattle.gate_history.specs.step.Meaning.{mark_of}
@@ -145,7 +147,7 @@ unfolding ep_rows
 answered_before = refl
 
 -- a short read that the client forbids
-short_read : map brief (client (submit 1 1 1 1 13 (replicate 8 0) [] ∷ imports ∷ device 0x7A) (bulk_answer 430 1 0 (replicate 5 0xa5))) ≡ (pos 1 ∷ eremoteio ∷ pos 5 ∷ []) ∷ []
+short_read : map brief (client (submit 1 1 1 1 13 (replicate 8 0) [] ∷ imports ∷ device 0x7A) (bulk_answer 430 1 0 (replicate 5 0xa5))) ≡ (pos 1 ∷ EREMOTEIO ∷ pos 5 ∷ []) ∷ []
 unfolding ep_rows
 short_read = refl
 
@@ -157,7 +159,7 @@ of_bulk_and_control = bulk_answer 430 1 0 [] ∷ bulk_in 2 ∷ bulk_in 1 ∷ imp
 abbrev control_answer : Item
 control_answer = told 482 100 2 (Carrying (moving.Control 0x80 0 0 0 0 0 0 []))
 
-lost_by_mismatch : map brief (client of_bulk_and_control control_answer) ≡ (pos 2 ∷ eshutdown ∷ pos 0 ∷ []) ∷ []
+lost_by_mismatch : map brief (client of_bulk_and_control control_answer) ≡ (pos 2 ∷ ESHUTDOWN ∷ pos 0 ∷ []) ∷ []
 unfolding ep_rows
 lost_by_mismatch = refl
 
@@ -167,14 +169,14 @@ mismatched = refl
 
 -- ---- statuses that the gateway makes itself
 
-too_long : map brief (client (imports ∷ device 0) (submit 3 0 1 0 65536 (replicate 8 0) [])) ≡ (pos 3 ∷ emsgsize ∷ pos 0 ∷ []) ∷ []
+too_long : map brief (client (imports ∷ device 0) (submit 3 0 1 0 65536 (replicate 8 0) [])) ≡ (pos 3 ∷ EMSGSIZE ∷ pos 0 ∷ []) ∷ []
 unfolding ep_rows
 too_long = refl
 
 limits : (MAX_LIVE ≡ 4096) × (MAX_HELD ≡ 1024) × (MAX_PACKETS ≡ 1024)
 limits = (refl, refl, refl)
 
-full : (r : Request) → verdict false 4096 false no_endpoints true r ≡ Now ebusy
+full : (r : Request) → verdict false 4096 false no_endpoints true r ≡ Now EBUSY
 full r = refl
 
 -- ---- refusals of a client
@@ -241,7 +243,7 @@ unlink_cancels : host 1 (bulk_in 1 ∷ imports ∷ device 0x7A) (unlink 2 1) ≡
 unfolding ep_rows
 unlink_cancels = refl
 
-unlink_wins : map brief (client asked_back (bulk_answer 430 1 1 [])) ≡ (pos 2 ∷ econnreset ∷ []) ∷ []
+unlink_wins : map brief (client asked_back (bulk_answer 430 1 1 [])) ≡ (pos 2 ∷ ECONNRESET ∷ []) ∷ []
 unfolding ep_rows
 unlink_wins = refl
 
@@ -265,7 +267,7 @@ disconnect = told 430 2 9 (Plain plain.Disconnect)
 abbrev three : List Item
 three = unlink 4 2 ∷ bulk_in 3 ∷ bulk_in 2 ∷ bulk_in 1 ∷ imports ∷ device 0x7A
 
-all_end : map brief (client three disconnect) ≡ (pos 1 ∷ eshutdown ∷ pos 0 ∷ []) ∷ (pos 4 ∷ econnreset ∷ []) ∷ (pos 3 ∷ eshutdown ∷ pos 0 ∷ []) ∷ []
+all_end : map brief (client three disconnect) ≡ (pos 1 ∷ ESHUTDOWN ∷ pos 0 ∷ []) ∷ (pos 4 ∷ ECONNRESET ∷ []) ∷ (pos 3 ∷ ESHUTDOWN ∷ pos 0 ∷ []) ∷ []
 unfolding ep_rows
 all_end = refl
 
@@ -273,7 +275,7 @@ acknowledged : host 1 three disconnect ≡ (9, Plain plain.DisconnectAck) ∷ []
 unfolding ep_rows
 acknowledged = refl
 
-lost_after : map brief (client (disconnect ∷ three) (bulk_in 5)) ≡ (pos 5 ∷ eshutdown ∷ pos 0 ∷ []) ∷ []
+lost_after : map brief (client (disconnect ∷ three) (bulk_in 5)) ≡ (pos 5 ∷ ESHUTDOWN ∷ pos 0 ∷ []) ∷ []
 unfolding ep_rows
 lost_after = refl
 
@@ -294,7 +296,7 @@ configured : map brief (client (set_configuration ∷ imports ∷ device 0x7A) (
 unfolding ep_rows route_of le_at
 configured = refl
 
-closed : map brief (client (set_configuration ∷ imports ∷ device 0x7A) (bulk_in 2)) ≡ (pos 2 ∷ enoent ∷ pos 0 ∷ []) ∷ []
+closed : map brief (client (set_configuration ∷ imports ∷ device 0x7A) (bulk_in 2)) ≡ (pos 2 ∷ ENOENT ∷ pos 0 ∷ []) ∷ []
 unfolding ep_rows route_of le_at
 closed = refl
 

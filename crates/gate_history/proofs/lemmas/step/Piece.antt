@@ -6,8 +6,9 @@ use Rattle.usb_base.specs.declared.reason.Reason.{Reason}
 use Rattle.usbip_urb.specs.declared.client.ClientPacket.{ClientPacket}
 use Rattle.redir_wire.specs.declared.packet.Header.{Header}
 use Rattle.redir_data.specs.declared.packet.RedirPacket.{RedirPacket}
-use Rattle.gate_history.specs.step.Items.{Item, Asked, Told}
-use Rattle.gate_history.specs.step.History.{client_split, host_split, client_wrong, host_wrong, client_items, host_items, added, onto}
+use Rattle.gate_history.specs.declared.item.Item.{Item}
+use Rattle.gate_history.specs.declared.item.Item.TheVariants.{Asked, Told, ClientWrong, HostWrong}
+use Rattle.gate_history.specs.step.History.{client_split, host_split, client_items, host_items, added, onto, wrong_items}
 
 -- what stands behind a list
 drop-all : {A : Type 0} (xs ys : List A) → drop (length xs) (xs ++ ys) ≡ ys
@@ -22,17 +23,17 @@ behind f given more wrong =
 
 pub client-added : (bytes piece : List ℕ) (given more : List (ℕ × ClientPacket)) (wrong : Option (ℕ × Reason)) →
     (client_split bytes).packets ≡ given → (client_split bytes).wrong ≡ None → (client_split (bytes ++ piece)).packets ≡ given ++ more → (client_split (bytes ++ piece)).wrong ≡ wrong →
-    added client_items bytes piece ≡ map (λ p. Asked p.0 p.1) more ++ client_wrong wrong
+    added client_items bytes piece ≡ map (λ p. Asked p.0 p.1) more ++ wrong_items ClientWrong wrong
 client-added bytes piece given more wrong a b c d =
-    (λ i. drop (length (map (λ (p : ℕ × ClientPacket). Asked p.0 p.1) (a i) ++ client_wrong (b i))) (map (λ (p : ℕ × ClientPacket). Asked p.0 p.1) (c i) ++ client_wrong (d i)))
-    ∙ behind (λ p. Asked p.0 p.1) given more (client_wrong wrong)
+    (λ i. drop (length (map (λ (p : ℕ × ClientPacket). Asked p.0 p.1) (a i) ++ wrong_items ClientWrong (b i))) (map (λ (p : ℕ × ClientPacket). Asked p.0 p.1) (c i) ++ wrong_items ClientWrong (d i)))
+    ∙ behind (λ p. Asked p.0 p.1) given more (wrong_items ClientWrong wrong)
 
 pub host-added : (bytes piece : List ℕ) (given more : List (ℕ × (Header × RedirPacket))) (wrong : Option (ℕ × Reason)) →
     (host_split bytes).packets ≡ given → (host_split bytes).wrong ≡ None → (host_split (bytes ++ piece)).packets ≡ given ++ more → (host_split (bytes ++ piece)).wrong ≡ wrong →
-    added host_items bytes piece ≡ map (λ p. Told p.0 p.1.0 p.1.1) more ++ host_wrong wrong
+    added host_items bytes piece ≡ map (λ p. Told p.0 p.1.0 p.1.1) more ++ wrong_items HostWrong wrong
 host-added bytes piece given more wrong a b c d =
-    (λ i. drop (length (map (λ (p : ℕ × (Header × RedirPacket)). Told p.0 p.1.0 p.1.1) (a i) ++ host_wrong (b i))) (map (λ (p : ℕ × (Header × RedirPacket)). Told p.0 p.1.0 p.1.1) (c i) ++ host_wrong (d i)))
-    ∙ behind (λ p. Told p.0 p.1.0 p.1.1) given more (host_wrong wrong)
+    (λ i. drop (length (map (λ (p : ℕ × (Header × RedirPacket)). Told p.0 p.1.0 p.1.1) (a i) ++ wrong_items HostWrong (b i))) (map (λ (p : ℕ × (Header × RedirPacket)). Told p.0 p.1.0 p.1.1) (c i) ++ wrong_items HostWrong (d i)))
+    ∙ behind (λ p. Told p.0 p.1.0 p.1.1) given more (wrong_items HostWrong wrong)
 
 pub onto-append : (xs ys zs : List Item) → onto (xs ++ ys) zs ≡ onto ys (onto xs zs)
 onto-append [] ys zs = refl

@@ -23,8 +23,10 @@ use Rattle.redir_data.specs.declared.packet.RedirPacket.{RedirPacket}
 use Rattle.redir_data.specs.declared.packet.RedirPacket.TheVariants.{Plain, Carrying}
 use Rattle.gate_history.specs.declared.note.Note.{Note}
 use Rattle.gate_history.specs.declared.note.Note.TheVariants as note
-use Rattle.gate_history.specs.step.Items.{Item, Asked, Told}
-use Rattle.gate_history.specs.client.Verdict.{Verdict, Now}
+use Rattle.gate_history.specs.declared.item.Item.{Item}
+use Rattle.gate_history.specs.declared.item.Item.TheVariants.{Asked, Told, ClientWrong, HostWrong}
+use Rattle.gate_history.specs.declared.verdict.Verdict.{Verdict}
+use Rattle.gate_history.specs.declared.verdict.Verdict.TheVariants.{Now}
 use Rattle.gate_history.specs.step.Marks.{Submission, Effect, Idle, Mark}
 use Rattle.gate_history.specs.state.Sides.{refusal, refused_at, leaves, is_loss}
 use Rattle.gate_history.specs.client.Submits.{Pending, has_id, ends}
@@ -34,7 +36,7 @@ use Rattle.gate_history.specs.state.State.{State, state_of, submits, has_number}
 use Rattle.gate_history.specs.step.Meaning.{importable, imported_as, accepted_as, answered_as, answer_to, by_response, arrives, by_arrival, meaning, mark_of}
 use Rattle.gate_history.specs.host.Responses.{Response, Data, outcome, response_of, mismatch, seen}
 use Rattle.gate_history.specs.step.Past.{is_left_out, past}
-use Rattle.gate_history.specs.step.History.{client_split, host_split, client_wrong, host_wrong, client_items, host_items}
+use Rattle.gate_history.specs.step.History.{client_split, host_split, client_items, host_items, wrong_items}
 use Rattle.gate_history.specs.write.Output.{present}
 use Rattle.gate_history.specs.write.Notes.{when, import_notes, submit_notes, unlink_notes, arrival_notes, answer_notes, is_by_answer, refusal_notes, notes_of}
 use Rattle.gate_history.specs.write.All.{all_of}
@@ -169,10 +171,10 @@ host-behind (p ∷ found) xs = host-behind found xs
 
 pub client-wrongs : (bytes : List ℕ) → client_wrongs (client_items bytes) ≡ option_to_list (client_split bytes).wrong
 client-wrongs bytes =
-    client-behind (client_split bytes).packets (client_wrong (client_split bytes).wrong)
-    ∙ elim (client_split bytes).wrong as (λ o. client_wrongs (client_wrong o) ≡ option_to_list o) [ None ↦ refl | Some w ↦ refl ]
+    client-behind (client_split bytes).packets (wrong_items ClientWrong (client_split bytes).wrong)
+    ∙ elim (client_split bytes).wrong as (λ o. client_wrongs (wrong_items ClientWrong o) ≡ option_to_list o) [ None ↦ refl | Some w ↦ refl ]
 
 pub host-wrongs : (bytes : List ℕ) → host_wrongs (host_items bytes) ≡ option_to_list (host_split bytes).wrong
 host-wrongs bytes =
-    host-behind (host_split bytes).packets (host_wrong (host_split bytes).wrong)
-    ∙ elim (host_split bytes).wrong as (λ o. host_wrongs (host_wrong o) ≡ option_to_list o) [ None ↦ refl | Some w ↦ refl ]
+    host-behind (host_split bytes).packets (wrong_items HostWrong (host_split bytes).wrong)
+    ∙ elim (host_split bytes).wrong as (λ o. host_wrongs (wrong_items HostWrong o) ≡ option_to_list o) [ None ↦ refl | Some w ↦ refl ]

@@ -18,14 +18,17 @@ use Rattle.usb_base.specs.declared.transfer.StreamPacket.{StreamPacket}
 use Rattle.usb_base.specs.Endpoint.{is_in_endpoint}
 use Rattle.usbip_urb.specs.declared.client.ClientPacket.{ClientPacket}
 use Rattle.usbip_urb.specs.declared.client.ClientPacket.TheVariants.{Op, Urb}
-use Rattle.gate_history.specs.step.Items.{Item, Asked, Told}
-use Rattle.gate_history.specs.client.Requests.{Request, request_of}
-use Rattle.gate_history.specs.client.Verdict.{Verdict, Now}
+use Rattle.gate_history.specs.declared.item.Item.{Item}
+use Rattle.gate_history.specs.declared.item.Item.TheVariants.{Asked, Told}
+use Rattle.gate_history.specs.declared.request.Request.{Request}
+use Rattle.gate_history.specs.client.Requests.{request_of}
+use Rattle.gate_history.specs.declared.verdict.Verdict.{Verdict}
+use Rattle.gate_history.specs.declared.verdict.Verdict.TheVariants.{Now}
 use Rattle.gate_history.specs.step.Marks.{Submission, Effect, Mark}
 use Rattle.gate_history.specs.state.Ups.{Up, stream_at, stream_of}
 use Rattle.gate_history.specs.state.State.{State, state_of, has_number}
 use Rattle.gate_history.specs.host.Responses.{Response, response_of}
-use Rattle.gate_history.specs.step.Meaning.{importable, imported_as, op_meaning, verdict_of, drawn_for, submission, by_stream, accepted_as, accepts, urb_meaning, asked_meaning, answered_as, answer_to, by_response, arrives, data_meaning, told_meaning, meaning, mark_of}
+use Rattle.gate_history.specs.step.Meaning.{importable, imported_as, asked_meaning, verdict_of, drawn_for, submission, by_stream, accepted_as, accepts, answered_as, answer_to, by_response, arrives, told_meaning, meaning, mark_of}
 use Rattle.gate_history.specs.step.Past.{is_left_out, put, past}
 use Rattle.gate_history.specs.write.All.{all_of}
 use Rattle.gate_history.specs.step.Machine.{after, step, run, given, all_given}
@@ -41,7 +44,7 @@ placed-import : (n : ℕ) (st : State) (o : Option Connect) → IsPlaced n (impo
 placed-import n st None = tt
 placed-import n st (Some c) = tt
 
-placed-op : (st : State) (place : ℕ) (p : OpPacket) → IsPlaced st.items (op_meaning st place p)
+placed-op : (st : State) (place : ℕ) (p : OpPacket) → IsPlaced st.items (asked_meaning st place (Op p))
 placed-op st place (op.ReqDevlist status) = either st.items st.imported _ _ tt tt
 placed-op st place (op.ReqImport status busid) = either st.items st.imported _ _ tt (placed-import st.items st (importable st busid))
 placed-op st place (op.RepDevlist status devices) = tt
@@ -56,7 +59,7 @@ placed-submit st r v =
     let kept = by_stream (stream_at st.streams r.transfer.ep) v in
     placed-accepted st (submission st r kept (drawn_for st r kept)) kept refl
 
-placed-urb : (st : State) (place : ℕ) (p : UrbPacket) → IsPlaced st.items (urb_meaning st place p)
+placed-urb : (st : State) (place : ℕ) (p : UrbPacket) → IsPlaced st.items (asked_meaning st place (Urb p))
 placed-urb st place (urb.Submit s) = either st.items (not st.imported) _ _ tt (either st.items (has_number st s.head.seqnum) _ _ tt (placed-submit st (request_of s) (verdict_of st (request_of s))))
 placed-urb st place (urb.Unlink u) = either st.items (not st.imported) _ _ tt tt
 placed-urb st place (urb.RetSubmit r) = tt
@@ -82,7 +85,7 @@ placed-arrival : (n : ℕ) (st : State) (ep : ℕ) (iso : Bool) (packet : Stream
 placed-arrival n st ep iso packet None = tt
 placed-arrival n st ep iso packet (Some up) = tt
 
-placed-data : (st : State) (place : ℕ) (h : Header) (d : RedirData) → IsPlaced st.items (data_meaning st place h d)
+placed-data : (st : State) (place : ℕ) (h : Header) (d : RedirData) → IsPlaced st.items (told_meaning st place h (Carrying d))
 placed-data st place h (data_packet.Interrupt endpoint status length body) =
     either st.items (is_in_endpoint endpoint) _ _ (placed-arrival st.items st endpoint false _ (stream_of st.streams endpoint)) (placed-response st.items st place h _)
 placed-data st place h (data_packet.Iso endpoint status length body) = either st.items (is_in_endpoint endpoint) _ _ (placed-arrival st.items st endpoint true _ (stream_of st.streams endpoint)) tt

@@ -1,11 +1,11 @@
 -- The machine's state is what the past says.
+use Rattle.std.specs.Option.{option_or}
 use Rattle.std.proofs.Common.{◌≡◌, ℕ, suc, ◌<◌, ◌≤◌, ◌&&◌, Bool, true, false, cond, leb, List, [], ◌∷◌, ◌++◌, length, map, Option, Some, None, refl, sym, ap, ◌∙◌, arith}
 use Rattle.std.specs.Prelude.{filter, is_none}
 use Rattle.std.proofs.lemmas.List.{map-append}
 use Rattle.std.proofs.lemmas.List.Elements.{filter-append}
 use Rattle.gate_history.specs.step.Marks.{Submission, Effect, Mark}
-use Rattle.gate_history.specs.state.Sides.{or_else}
-use Rattle.gate_history.specs.client.Submits.{opened, accepted, ends, end_of, End, is_live, live, asks, unlinker, Pending, pending, pendings, abandoned_after}
+use Rattle.gate_history.specs.client.Submits.{opened, accepted, ends, end_of, End, is_live, live, asks, unlinker, Pending, pending, abandoned_after}
 use Rattle.gate_history.specs.state.State.{state_of}
 use Rattle.gate_history.specs.write.Output.{fresh}
 use Rattle.gate_history.specs.step.Machine.{ask, live_after, after}
@@ -43,18 +43,18 @@ within a n h = grind arith
 pub unopened-end : (ms : List Mark) (s : Submission) → length ms ≤ s.place → end_of ms s ≡ None
 unopened-end [] s h = refl
 unopened-end (m ∷ ms) s h =
-    ap (λ (e : Option End). or_else e (cond (leb s.place (length ms)) (ends m.what s) None)) (unopened-end ms s (omega arith))
+    ap (λ (e : Option End). option_or e (cond (leb s.place (length ms)) (ends m.what s) None)) (unopened-end ms s (omega arith))
     ∙ ap (λ (b : Bool). cond b (ends m.what s) None) (beyond s.place (length ms) (omega arith))
 
 pub unopened-unlinker : (ms : List Mark) (s : Submission) → length ms ≤ s.place → unlinker ms s ≡ None
 unopened-unlinker [] s h = refl
 unopened-unlinker (m ∷ ms) s h =
-    ap (λ (u : Option ℕ). or_else u (cond (leb s.place (length ms) && is_live ms s) (asks m.what s) None)) (unopened-unlinker ms s (omega arith))
+    ap (λ (u : Option ℕ). option_or u (cond (leb s.place (length ms) && is_live ms s) (asks m.what s) None)) (unopened-unlinker ms s (omega arith))
     ∙ ap (λ (b : Bool). cond (b && is_live ms s) (asks m.what s) None) (beyond s.place (length ms) (omega arith))
 
 -- ---- those that are live
 
-is_none-or_else : {A : Type 0} (a b : Option A) → is_none (or_else a b) ≡ both (is_none a) (is_none b)
+is_none-or_else : {A : Type 0} (a b : Option A) → is_none (option_or a b) ≡ both (is_none a) (is_none b)
 is_none-or_else (Some a) b = refl
 is_none-or_else None b = refl
 
@@ -63,7 +63,7 @@ pub live-is : (ms : List Mark) (m : Mark) → IsWell (m ∷ ms) → live (m ∷ 
 live-is ms m w =
     filter-same (is_live (m ∷ ms)) (λ s. both (is_live ms s) (is_none (ends m.what s))) (accepted ms ++ opened m.what)
     (Each-weaker (Before (suc (length ms))) (λ s. is_live (m ∷ ms) s ≡ both (is_live ms s) (is_none (ends m.what s)))
-    (λ s h. ap (λ (b : Bool). is_none (or_else (end_of ms s) (cond b (ends m.what s) None))) (within s.place (length ms) h) ∙ is_none-or_else (end_of ms s) (ends m.what s))
+    (λ s h. ap (λ (b : Bool). is_none (option_or (end_of ms s) (cond b (ends m.what s) None))) (within s.place (length ms) h) ∙ is_none-or_else (end_of ms s) (ends m.what s))
     (accepted ms ++ opened m.what) (placed (m ∷ ms) w))
     ∙ sym (filter-twice (λ s. is_none (ends m.what s)) (is_live ms) (accepted ms ++ opened m.what))
     ∙ ap (filter (λ s. is_none (ends m.what s)))
@@ -98,19 +98,19 @@ submits-is ms [] = refl
 submits-is ms (s ∷ ss) = ap (λ (l : List Submission). s ∷ l) (submits-is ms ss)
 
 -- a new one was not asked back
-pub present-is : (first : ℕ) (ms : List Mark) (e : Effect) → IsPlaced (length ms) e → pendings ms ++ map fresh (opened e) ≡ map (pending ms) (live ms ++ opened e)
+pub present-is : (first : ℕ) (ms : List Mark) (e : Effect) → IsPlaced (length ms) e → map (pending ms) (live ms) ++ map fresh (opened e) ≡ map (pending ms) (live ms ++ opened e)
 present-is first ms e h =
-    ap (λ (l : List Pending). pendings ms ++ l)
+    ap (λ (l : List Pending). map (pending ms) (live ms) ++ l)
     (map-same fresh (pending ms) (opened e)
     (Each-weaker (λ s. s.place ≡ length ms) (λ s. fresh s ≡ pending ms s) (λ s p. ap (λ (u : Option ℕ). record { submit = s; unlinker = u }) (sym (unopened-unlinker ms s (omega (arith, p))))) (opened e) h))
     ∙ sym (map-append (pending ms) (live ms) (opened e))
 
 pub asked : (ms : List Mark) (m : Mark) (s : Submission) → Present ms s → pending (m ∷ ms) s ≡ ask m.what (pending ms s)
 asked ms m s p =
-    ap (λ (b : Bool). record { submit = s; unlinker = or_else (unlinker ms s) (cond (b && is_live ms s) (asks m.what s) None) }) (within s.place (length ms) p.there)
-    ∙ ap (λ (b : Bool). record { submit = s; unlinker = or_else (unlinker ms s) (cond b (asks m.what s) None) }) p.live
+    ap (λ (b : Bool). record { submit = s; unlinker = option_or (unlinker ms s) (cond (b && is_live ms s) (asks m.what s) None) }) (within s.place (length ms) p.there)
+    ∙ ap (λ (b : Bool). record { submit = s; unlinker = option_or (unlinker ms s) (cond b (asks m.what s) None) }) p.live
 
-pub pendings-is : (first : ℕ) (ms : List Mark) (m : Mark) → IsWell (m ∷ ms) → pendings (m ∷ ms) ≡ live_after (state_of first ms) m.what
+pub pendings-is : (first : ℕ) (ms : List Mark) (m : Mark) → IsWell (m ∷ ms) → map (pending (m ∷ ms)) (live (m ∷ ms)) ≡ live_after (state_of first ms) m.what
 pendings-is first ms m w =
     ap (map (pending (m ∷ ms))) (live-is ms m w)
     ∙ map-same (pending (m ∷ ms)) (λ s. ask m.what (pending ms s)) kept

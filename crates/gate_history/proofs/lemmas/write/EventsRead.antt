@@ -16,7 +16,8 @@ use Rattle.redir_data.specs.declared.packet.RedirPacket.TheVariants.{Plain, Carr
 use Rattle.redir_data.specs.declared.state.RedirState.{RedirState}
 use Rattle.redir_data.specs.Spelling as carrying
 use Rattle.redir_data.specs.Streams.{start as first_state, after as read_after, advanced}
-use Rattle.gate_history.specs.step.Items.{Item, Asked, ClientWrong, ClientLeft, Told, HostWrong, HostLeft}
+use Rattle.gate_history.specs.declared.item.Item.{Item}
+use Rattle.gate_history.specs.declared.item.Item.TheVariants.{Asked, ClientWrong, ClientLeft, Told, HostWrong, HostLeft}
 use Rattle.gate_history.specs.step.Machine.{after, step, run, given, all_given, live_after}
 use Rattle.gate_history.specs.step.Marks.{Effect, Agrees, Fact}
 use Rattle.gate_history.specs.step.Meaning.{told_meaning, meaning, mark_as, told_by}

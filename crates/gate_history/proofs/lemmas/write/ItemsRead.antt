@@ -29,19 +29,22 @@ use Rattle.redir_data.proofs.Sent.{control_sent}
 use Rattle.gate_history.specs.state.Calls.{asking}
 use Rattle.gate_history.specs.state.Flight.{wide_ids, wide_bulk}
 use Rattle.gate_history.specs.state.Ids.{greatest, last_of, Fits}
-use Rattle.gate_history.specs.step.Items.{Item, Asked, ClientWrong, ClientLeft, Told, HostWrong, HostLeft}
+use Rattle.gate_history.specs.declared.item.Item.{Item}
+use Rattle.gate_history.specs.declared.item.Item.TheVariants.{Asked, ClientWrong, ClientLeft, Told, HostWrong, HostLeft}
 use Rattle.gate_history.specs.step.Machine.{ask, live_after}
 use Rattle.gate_history.specs.step.Marks.{Submission, Fact, Effect, Idle, Replies, Disconnects, Ends, Refuses}
-use Rattle.gate_history.specs.step.Meaning.{importable, imported_as, op_meaning, verdict_of, drawn_for, submission, by_stream, accepted_as, accepts, urb_meaning, asked_meaning, answered_as, answer_to, by_response, arrives, data_meaning, told_meaning, meaning, mark_as, drawn_by}
+use Rattle.gate_history.specs.step.Meaning.{importable, imported_as, asked_meaning, verdict_of, drawn_for, submission, by_stream, accepted_as, accepts, answered_as, answer_to, by_response, arrives, told_meaning, meaning, mark_as, drawn_by}
 use Rattle.gate_history.specs.write.Output.{cancel, cancels, fresh, present, acknowledgements, to_host}
 use Rattle.gate_history.specs.write.Packets.{stops, asked_packets}
-use Rattle.gate_history.specs.client.Requests.{Request, request_of}
+use Rattle.gate_history.specs.declared.request.Request.{Request}
+use Rattle.gate_history.specs.client.Requests.{request_of}
 use Rattle.gate_history.specs.host.Responses.{Response, response_of}
 use Rattle.gate_history.specs.state.Sides.{agrees, leaves}
 use Rattle.gate_history.specs.state.State.{State, flying, has_number, next_ids}
 use Rattle.gate_history.specs.client.Submits.{Pending, opened, ends}
 use Rattle.gate_history.specs.state.Ups.{Up, stream_at, stream_of, is_ended}
-use Rattle.gate_history.specs.client.Verdict.{Verdict, Now, Wire, Routed, IsoOut, Stream}
+use Rattle.gate_history.specs.declared.verdict.Verdict.{Verdict}
+use Rattle.gate_history.specs.declared.verdict.Verdict.TheVariants.{Now, Wire, Routed, IsoOut, Stream}
 use Rattle.gate_history.specs.client.Carried.{IsCarried}
 use Rattle.gate_history.proofs.lemmas.client.Carried.{carried, is_request}
 use Rattle.gate_history.proofs.lemmas.state.Draws.{draws-fit}
@@ -106,7 +109,7 @@ imports : (st : State) (o : Option Connect) → IsReadable st (imported_as st o)
 imports st None = replies st _
 imports st (Some c) = record { opens = tt; sends = tt; acks = tt; agrees-none = refl }
 
-asks-op : (st : State) (place : ℕ) (p : OpPacket) → IsReadable st (op_meaning st place p)
+asks-op : (st : State) (place : ℕ) (p : OpPacket) → IsReadable st (asked_meaning st place (Op p))
 asks-op st place (op.ReqDevlist status) = either st st.imported _ _ (refuses st _) (replies st _)
 asks-op st place (op.ReqImport status busid) = either st st.imported _ _ (refuses st _) (imports st (importable st busid))
 asks-op st place (op.RepDevlist status devices) = idle st
@@ -137,7 +140,7 @@ submits-fit st r v carries fit =
     let kept = by_stream (stream_at st.streams r.transfer.ep) v in
     accepted st r kept (drawn_for st r kept) (kept-carried (wide_bulk st.agreed) (stream_at st.streams r.transfer.ep) v r carries) fit (drawn-fit st _)
 
-asks-urb : (st : State) (place : ℕ) (p : UrbPacket) → AskedFits (Urb p) → IsReadable st (urb_meaning st place p)
+asks-urb : (st : State) (place : ℕ) (p : UrbPacket) → AskedFits (Urb p) → IsReadable st (asked_meaning st place (Urb p))
 asks-urb st place (urb.Submit s) fits =
     either st (not st.imported) _ _ (refuses st _)
     (either st (has_number st s.head.seqnum) _ _ (refuses st _)
@@ -168,7 +171,7 @@ arrival : (st : State) (ep : ℕ) (iso : Bool) (packet : StreamPacket) (o : Opti
 arrival st ep iso packet None = idle st
 arrival st ep iso packet (Some up) = record { opens = tt; sends = tt; acks = tt; agrees-none = refl }
 
-tells-data : (st : State) (place : ℕ) (h : Header) (d : RedirData) → IsReadable st (data_meaning st place h d)
+tells-data : (st : State) (place : ℕ) (h : Header) (d : RedirData) → IsReadable st (told_meaning st place h (Carrying d))
 tells-data st place h (data_packet.Interrupt endpoint status length body) =
     either st (is_in_endpoint endpoint) _ _ (arrival st endpoint false _ (stream_of st.streams endpoint)) (responds st place h _)
 tells-data st place h (data_packet.Iso endpoint status length body) = either st (is_in_endpoint endpoint) _ _ (arrival st endpoint true _ (stream_of st.streams endpoint)) (idle st)

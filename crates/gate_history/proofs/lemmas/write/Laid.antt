@@ -7,7 +7,6 @@ use Rattle.std.proofs.lemmas.List.Sums.{sum_by-cons}
 use Rattle.redir_data.specs.declared.packet.RedirData.TheVariants as data_packet
 use Rattle.redir_data.specs.declared.packet.RedirPacket.{RedirPacket}
 use Rattle.redir_data.specs.declared.packet.RedirPacket.TheVariants.{Carrying}
-use Rattle.gate_history.specs.write.Packets.{iso_packet}
 use Rattle.usb_base.specs.Number.{part}
 use Rattle.usbip_urb.specs.declared.packet.IsoDesc.{IsoDesc}
 use Rattle.usbip_urb.specs.Buffers.{laid_from, laid, stretch, total}
@@ -78,7 +77,7 @@ few-stretch ds body k h here = let w = within-from 0 ds (length body) k h here i
 
 -- the packet of a stretch
 pub stretch-packet : (ep : ℕ) (ds : List IsoDesc) (body whole data' : List ℕ) (k : ℕ) → laid ds (length body) ≡ true → k < length ds → whole ≡ body → data' ≡ stretch ds whole k →
-    ◌≡◌ {A = RedirPacket} (Carrying (data_packet.Iso ep 0 (length data') data')) (iso_packet ep body (get_or ds k no_desc))
+    ◌≡◌ {A = RedirPacket} (Carrying (data_packet.Iso ep 0 (length data') data')) (Carrying (data_packet.Iso ep 0 (get_or ds k no_desc).length (part (get_or ds k no_desc).offset (get_or ds k no_desc).length body)))
 stretch-packet ep ds body whole data' k h here same is =
     let e = is ∙ ap (λ (b : List ℕ). stretch ds b k) same in
     λ i. Carrying (data_packet.Iso ep 0 ((ap (λ (b : List ℕ). length b) e ∙ length-stretch ds body k h here) i) ((e ∙ stretch-is ds body k here) i))

@@ -14,16 +14,20 @@ use Rattle.redir_wire.specs.declared.packet.Way.TheVariants.{ToHost}
 use Rattle.redir_wire.specs.Header.{IdFits}
 use Rattle.redir_data.specs.declared.packet.RedirData.TheVariants as data_packet
 use Rattle.redir_data.specs.declared.packet.RedirPacket.{RedirPacket}
-use Rattle.redir_data.specs.declared.packet.RedirPacket.TheVariants.{Plain}
+use Rattle.redir_data.specs.declared.packet.RedirPacket.TheVariants.{Plain, Carrying}
 use Rattle.redir_data.specs.Sent.{CanBeRead}
 use Rattle.redir_data.proofs.Sent.{control_sent, data_sent}
 use Rattle.control_route.specs.declared.route.Route.{Route}
 use Rattle.control_route.specs.declared.route.Route.TheVariants as route
 use Rattle.gate_history.specs.state.Flight.{wide_ids, wide_bulk}
-use Rattle.gate_history.specs.write.Packets.{no_setup, wire_packet, route_packets, start_packet, starts, stop_packet, stop_of, stops, iso_packet, iso_packets, packets_of}
-use Rattle.gate_history.specs.client.Requests.{Request}
+use Rattle.gate_history.specs.write.Packets.{no_setup, wire_packet, route_packets, start_packet, starts, stop_packet, stop_of, stops, iso_packets, packets_of}
+use Rattle.gate_history.specs.declared.request.Request.{Request}
 use Rattle.gate_history.specs.state.Ups.{Up, stream_at, is_ended}
-use Rattle.gate_history.specs.client.Verdict.{Pipe, Control, Bulk, InterruptOut, Verdict, Now, Wire, Routed, IsoOut, Stream, is_iso}
+use Rattle.gate_history.specs.declared.verdict.Pipe.{Pipe}
+use Rattle.gate_history.specs.declared.verdict.Pipe.TheVariants.{Control, Bulk, InterruptOut}
+use Rattle.gate_history.specs.declared.verdict.Verdict.{Verdict}
+use Rattle.gate_history.specs.declared.verdict.Verdict.TheVariants.{Now, Wire, Routed, IsoOut, Stream}
+use Rattle.gate_history.specs.client.Verdict.{is_iso}
 use Rattle.gate_history.specs.client.Carried.{HasItsSetup, IsSent, IsLaid, IsCarried}
 use Rattle.gate_history.proofs.lemmas.client.Carried.{can_be_written}
 use Rattle.gate_history.proofs.lemmas.write.Laid.{IsWithin, all-within}
@@ -103,7 +107,7 @@ sends-wire caps InterruptOut t sent fit id fits =
 
 -- ---- isochronous packets to the device
 
-sends-iso : (caps : Caps) (ep : ℕ) (body : List ℕ) (d : IsoDesc) → is_in_endpoint ep ≡ false → IsWithin d (length body) → Sendable caps (iso_packet ep body d)
+sends-iso : (caps : Caps) (ep : ℕ) (body : List ℕ) (d : IsoDesc) → is_in_endpoint ep ≡ false → IsWithin d (length body) → Sendable caps (Carrying (data_packet.Iso ep 0 d.length (part d.offset d.length body)))
 sends-iso caps ep body d out within id fits =
     let few = within.few in
     let all = within.within in
@@ -111,7 +115,7 @@ sends-iso caps ep body d out within id fits =
     data_sent ToHost caps id (data_packet.Iso ep 0 d.length (part d.offset d.length body)) (omega arith)
     (record { id_fits = fits; length_fits = tt; data_there = long ∙ sym (ap (λ (b : Bool). cond (not b) d.length 0) out); in_limit = omega arith })
 
-sends-isos : (caps : Caps) (ep : ℕ) (body : List ℕ) (ds : List IsoDesc) → is_in_endpoint ep ≡ false → Each (λ d. IsWithin d (length body)) ds → Each (Sendable caps) (map (iso_packet ep body) ds)
+sends-isos : (caps : Caps) (ep : ℕ) (body : List ℕ) (ds : List IsoDesc) → is_in_endpoint ep ≡ false → Each (λ d. IsWithin d (length body)) ds → Each (Sendable caps) (map (λ (d : IsoDesc). Carrying (data_packet.Iso ep 0 d.length (part d.offset d.length body))) ds)
 sends-isos caps ep body [] out within = tt
 sends-isos caps ep body (d ∷ ds) out within = (sends-iso caps ep body d out within.0, sends-isos caps ep body ds out within.1)
 

@@ -1,4 +1,5 @@
 -- Which way the data of a transfer that goes by an id may move.
+use Rattle.std.specs.Bool.{beq}
 use Rattle.std.proofs.Common.{rules, w32, ◌≡◌, ◌⊎◌, ◌&&◌, ◌==◌, ℕ, ◌<◌, Bool, true, false, cond, not, Option, Some, None, refl, sym, ap, ◌∙◌, inl, inr, List, [], ◌∷◌, arith}
 use Rattle.std.specs.Prelude.{nat_lt, nat_le, FitsSigned}
 use Rattle.unlink_race.specs.Searches.{is_stream}
@@ -17,9 +18,13 @@ use Rattle.usbip_urb.specs.declared.code.TheConstants.{MAX_LIVE}
 use Rattle.control_route.specs.declared.route.Route.{Route}
 use Rattle.control_route.specs.declared.route.Route.TheVariants as route
 use Rattle.control_route.specs.Routes.{RouteRow, has_no_data, is_byte, is_for, rows, route_of}
-use Rattle.gate_history.specs.write.Errno.{enoent, ebusy, einval, emsgsize, eshutdown}
-use Rattle.gate_history.specs.client.Requests.{Request, address, is_in_setup}
-use Rattle.gate_history.specs.client.Verdict.{InterruptOut, Verdict, Now, Wire, Routed, IsoOut, Stream, max_narrow, none_of, bool_eq, is_invalid, is_control, is_iso, is_narrow, by_route, by_setup, by_kind, by_endpoint, by_transfer, verdict, goes_by_id}
+use Rattle.gate_history.specs.declared.errno.TheConstants.{ENOENT, EBUSY, EINVAL, EMSGSIZE, ESHUTDOWN}
+use Rattle.gate_history.specs.declared.request.Request.{Request}
+use Rattle.gate_history.specs.client.Requests.{address, is_in_setup}
+use Rattle.gate_history.specs.declared.verdict.Pipe.TheVariants.{InterruptOut}
+use Rattle.gate_history.specs.declared.verdict.Verdict.{Verdict}
+use Rattle.gate_history.specs.declared.verdict.Verdict.TheVariants.{Now, Wire, Routed, IsoOut, Stream}
+use Rattle.gate_history.specs.client.Verdict.{max_narrow, none_of, is_invalid, is_control, is_iso, is_narrow, by_route, by_setup, by_kind, by_endpoint, by_transfer, verdict, goes_by_id}
 use Rattle.gate_history.specs.host.Responses.{route_gets}
 use Rattle.gate_history.specs.client.Carried.{IsDirected, IsRequest}
 use Rattle.gate_parts.specs.state.Rows.{kind_of, IsRead}
@@ -86,7 +91,7 @@ no-length : (n : ℕ) → (not (n == 0) && true) ≡ false → n ≡ 0
 no-length n e = elim (eqb_tells n 0) [ inl h ↦ h.1 | inr h ↦ absurd (true≢false (rw h.0 at e)) ]
 
 -- its directions are one, or it moves no data
-one-way : (way is_in : Bool) (length : ℕ) → (not (length == 0) && not (bool_eq way is_in)) ≡ false → (length ≡ 0) ⊎ (way ≡ is_in)
+one-way : (way is_in : Bool) (length : ℕ) → (not (length == 0) && not (beq way is_in)) ≡ false → (length ≡ 0) ⊎ (way ≡ is_in)
 one-way true true length e = inr refl
 one-way false false length e = inr refl
 one-way true false length e = inl (no-length length e)
@@ -105,9 +110,9 @@ by_route-reads route.Bad way is_in ep wanted gets at (inr same) k = absurd (fals
 
 pub by_setup-reads : (r : Request) (s : Setup) → r.transfer.ep ≡ address (is_in_setup s) 0 → Reads r.is_in r.transfer.ep r.transfer.wanted (by_setup r s)
 by_setup-reads r s at =
-    unless r.is_in (not (none_of r.descs)) r.transfer.ep r.transfer.wanted einval _ (λ none.
-    unless r.is_in (not (s.length == 0) && not (bool_eq (is_in_setup s) r.is_in)) r.transfer.ep r.transfer.wanted einval _ (λ one.
-    unless r.is_in (not (s.length == r.transfer.wanted)) r.transfer.ep r.transfer.wanted einval _ (λ same.
+    unless r.is_in (not (none_of r.descs)) r.transfer.ep r.transfer.wanted EINVAL _ (λ none.
+    unless r.is_in (not (s.length == 0) && not (beq (is_in_setup s) r.is_in)) r.transfer.ep r.transfer.wanted EINVAL _ (λ one.
+    unless r.is_in (not (s.length == r.transfer.wanted)) r.transfer.ep r.transfer.wanted EINVAL _ (λ same.
     by_route-reads (route_of s) (is_in_setup s) r.is_in r.transfer.ep r.transfer.wanted (route-reads s) at
     (elim (one-way (is_in_setup s) r.is_in s.length one) [ inl zero ↦ inl (sym (eqb-true s.length r.transfer.wanted (not-false _ same)) ∙ zero) | inr way ↦ inr way ]))))
 
@@ -122,23 +127,23 @@ by_kind-reads r row kind.Invalid way = λ k. absurd (false≢true k)
 
 by_endpoint-reads : (wide : Bool) (r : Request) (row : EpRow) → is_in_endpoint r.transfer.ep ≡ r.is_in → Reads r.is_in r.transfer.ep r.transfer.wanted (by_endpoint wide r row)
 by_endpoint-reads wide r row way =
-    unless r.is_in (is_invalid row.kind) r.transfer.ep r.transfer.wanted enoent _ (λ valid.
-    unless r.is_in (is_control row.kind) r.transfer.ep r.transfer.wanted einval _ (λ other.
-    unless r.is_in (bool_eq (is_iso row.kind) (none_of r.descs)) r.transfer.ep r.transfer.wanted einval _ (λ iso.
-    unless r.is_in (not (laid r.descs r.transfer.wanted)) r.transfer.ep r.transfer.wanted einval _ (λ lies.
-    unless r.is_in (is_narrow wide r.is_in row.kind && nat_lt max_narrow r.transfer.wanted) r.transfer.ep r.transfer.wanted emsgsize _ (λ fits.
+    unless r.is_in (is_invalid row.kind) r.transfer.ep r.transfer.wanted ENOENT _ (λ valid.
+    unless r.is_in (is_control row.kind) r.transfer.ep r.transfer.wanted EINVAL _ (λ other.
+    unless r.is_in (beq (is_iso row.kind) (none_of r.descs)) r.transfer.ep r.transfer.wanted EINVAL _ (λ iso.
+    unless r.is_in (not (laid r.descs r.transfer.wanted)) r.transfer.ep r.transfer.wanted EINVAL _ (λ lies.
+    unless r.is_in (is_narrow wide r.is_in row.kind && nat_lt max_narrow r.transfer.wanted) r.transfer.ep r.transfer.wanted EMSGSIZE _ (λ fits.
     by_kind-reads r row row.kind way)))))
 
 -- ---- both
 
 by_transfer-reads : (changing : Bool) (table : EpTable) (wide : Bool) (r : Request) (o : Option Setup) → IsDirected r.is_in o r.transfer.ep → Reads r.is_in r.transfer.ep r.transfer.wanted (by_transfer changing table wide r o)
-by_transfer-reads changing table wide r None way = unless r.is_in changing r.transfer.ep r.transfer.wanted enoent _ (λ still. by_endpoint-reads wide r (row_of table r.transfer.ep) way)
+by_transfer-reads changing table wide r None way = unless r.is_in changing r.transfer.ep r.transfer.wanted ENOENT _ (λ still. by_endpoint-reads wide r (row_of table r.transfer.ep) way)
 by_transfer-reads changing table wide r (Some s) way = by_setup-reads r s way
 
 pub verdict-reads : (lost : Bool) (live : ℕ) (changing : Bool) (table : EpTable) (wide : Bool) (r : Request) → IsRequest r → Reads r.is_in r.transfer.ep r.transfer.wanted (verdict lost live changing table wide r)
 verdict-reads lost live changing table wide r is =
-    unless r.is_in lost r.transfer.ep r.transfer.wanted eshutdown _ (λ there.
-    unless r.is_in (nat_le MAX_LIVE live) r.transfer.ep r.transfer.wanted ebusy _ (λ room.
+    unless r.is_in lost r.transfer.ep r.transfer.wanted ESHUTDOWN _ (λ there.
+    unless r.is_in (nat_le MAX_LIVE live) r.transfer.ep r.transfer.wanted EBUSY _ (λ room.
     by_transfer-reads changing table wide r r.transfer.setup is.directed))
 
 -- ---- one that goes by an id finds room
@@ -146,7 +151,7 @@ verdict-reads lost live changing table wide r is =
 pub by_id-room : (lost : Bool) (n : ℕ) (changing : Bool) (table : EpTable) (wide : Bool) (r : Request) → goes_by_id (verdict lost n changing table wide r) ≡ true → n < MAX_LIVE
 by_id-room lost n changing table wide r h = go lost (nat_le MAX_LIVE n) refl h
   where
-    go : (l b : Bool) → nat_le MAX_LIVE n ≡ b → goes_by_id (cond l (Now eshutdown) (cond b (Now ebusy) (by_transfer changing table wide r r.transfer.setup))) ≡ true → n < MAX_LIVE
+    go : (l b : Bool) → nat_le MAX_LIVE n ≡ b → goes_by_id (cond l (Now ESHUTDOWN) (cond b (Now EBUSY) (by_transfer changing table wide r r.transfer.setup))) ≡ true → n < MAX_LIVE
     go true b e k = absurd (false≢true k)
     go false true e k = absurd (false≢true k)
     go false false e k = leb-false MAX_LIVE n e
@@ -183,25 +188,25 @@ by_kind-fits r row kind.Invalid = (search rules)
 
 by_endpoint-fits : (wide : Bool) (r : Request) (row : EpRow) → StatusFits (by_endpoint wide r row)
 by_endpoint-fits wide r row =
-    either-fits (is_invalid row.kind) (Now enoent) _ (search rules)
-    (either-fits (is_control row.kind) (Now einval) _ (search rules)
-    (either-fits (bool_eq (is_iso row.kind) (none_of r.descs)) (Now einval) _ (search rules)
-    (either-fits (not (laid r.descs r.transfer.wanted)) (Now einval) _ (search rules)
-    (either-fits (is_narrow wide r.is_in row.kind && nat_lt max_narrow r.transfer.wanted) (Now emsgsize) _ (search rules) (by_kind-fits r row row.kind)))))
+    either-fits (is_invalid row.kind) (Now ENOENT) _ (search rules)
+    (either-fits (is_control row.kind) (Now EINVAL) _ (search rules)
+    (either-fits (beq (is_iso row.kind) (none_of r.descs)) (Now EINVAL) _ (search rules)
+    (either-fits (not (laid r.descs r.transfer.wanted)) (Now EINVAL) _ (search rules)
+    (either-fits (is_narrow wide r.is_in row.kind && nat_lt max_narrow r.transfer.wanted) (Now EMSGSIZE) _ (search rules) (by_kind-fits r row row.kind)))))
 
 by_setup-fits : (r : Request) (s : Setup) → StatusFits (by_setup r s)
 by_setup-fits r s =
-    either-fits (not (none_of r.descs)) (Now einval) _ (search rules)
-    (either-fits (not (s.length == 0) && not (bool_eq (is_in_setup s) r.is_in)) (Now einval) _ (search rules)
-    (either-fits (not (s.length == r.transfer.wanted)) (Now einval) _ (search rules) (by_route-fits (route_of s))))
+    either-fits (not (none_of r.descs)) (Now EINVAL) _ (search rules)
+    (either-fits (not (s.length == 0) && not (beq (is_in_setup s) r.is_in)) (Now EINVAL) _ (search rules)
+    (either-fits (not (s.length == r.transfer.wanted)) (Now EINVAL) _ (search rules) (by_route-fits (route_of s))))
 
 by_transfer-fits : (changing : Bool) (table : EpTable) (wide : Bool) (r : Request) (o : Option Setup) → StatusFits (by_transfer changing table wide r o)
-by_transfer-fits changing table wide r None = either-fits changing (Now enoent) _ (search rules) (by_endpoint-fits wide r (row_of table r.transfer.ep))
+by_transfer-fits changing table wide r None = either-fits changing (Now ENOENT) _ (search rules) (by_endpoint-fits wide r (row_of table r.transfer.ep))
 by_transfer-fits changing table wide r (Some s) = by_setup-fits r s
 
 pub verdict-fits : (lost : Bool) (live : ℕ) (changing : Bool) (table : EpTable) (wide : Bool) (r : Request) → StatusFits (verdict lost live changing table wide r)
 verdict-fits lost live changing table wide r =
-    either-fits lost (Now eshutdown) _ (search rules) (either-fits (nat_le MAX_LIVE live) (Now ebusy) _ (search rules) (by_transfer-fits changing table wide r r.transfer.setup))
+    either-fits lost (Now ESHUTDOWN) _ (search rules) (either-fits (nat_le MAX_LIVE live) (Now EBUSY) _ (search rules) (by_transfer-fits changing table wide r r.transfer.setup))
 
 -- ---- and it goes as some packets, or waits for none
 

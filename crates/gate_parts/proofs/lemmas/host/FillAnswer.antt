@@ -1,6 +1,6 @@
 -- The answer of a filled request is spelled by its fields in front, and what the packets keep.
-use Rattle.std.proofs.Common.{◌≡◌, ℕ, Bool, List, [], ◌++◌, length, filter, refl, sym, ap, ◌∙◌}
-use Rattle.std.specs.Prelude.{not, ℤ, pos, negsuc}
+use Rattle.std.proofs.Common.{◌≡◌, ℕ, List, [], ◌++◌, length, filter, refl, sym, ap, ◌∙◌}
+use Rattle.std.specs.Prelude.{pos}
 use Rattle.std.proofs.lemmas.List.{append-nil}
 use Rattle.std.specs.Int.{w32, cast_signed, cast_unsigned}
 use Rattle.usb_base.specs.declared.status.UsbStatus.{UsbStatus}
@@ -12,7 +12,6 @@ use Rattle.usbip_urb.specs.Spelling.{spelling, descs_bytes}
 use Rattle.stream_buffers.specs.declared.iso.IsoOutcome.{IsoOutcome}
 use Rattle.stream_buffers.specs.Fillings.{is_failed, errors_of}
 use Rattle.unlink_race.specs.declared.live.Live.{Live}
-use Rattle.gate_history.specs.write.Errno.{is_zero}
 use Rattle.gate_history.specs.write.Answers.{with_given, echoed}
 use Rattle.gate_history.specs.host.Fillings.{Transferred, Isochronous}
 use Rattle.gate_parts.specs.state.Rows.{row_request}
@@ -33,18 +32,11 @@ errno_back (status.Other byte) = refl
 pub transferred : (l : Live) (o : Outcome) → l.descs ≡ [] →
     spelling (with_given (row_request l) (Transferred o)) ≡ front_bytes (row_request l) (errno_of o.status) o.done 0 ++ o.body
 transferred l o none =
-    ap (λ (ds : List IsoDesc). front_bytes (row_request l) (errno_of o.status) o.done (length (filter (λ (d : IsoDesc). not (is_zero d.status)) (echoed (errno_of o.status) ds))) ++ o.body ++ descs_bytes (echoed (errno_of o.status) ds)) none
+    ap (λ (ds : List IsoDesc). front_bytes (row_request l) (errno_of o.status) o.done (length (filter (λ (d : IsoDesc). is_failed d.status) (echoed (errno_of o.status) ds))) ++ o.body ++ descs_bytes (echoed (errno_of o.status) ds)) none
     ∙ append-nil (front_bytes (row_request l) (errno_of o.status) o.done 0 ++ o.body)
-
-is_error : (z : ℤ) → is_failed z ≡ not (is_zero z)
-is_error (pos n) = refl
-is_error (negsuc n) = refl
-
-errors_same : (ds : List IsoDesc) → errors_of ds ≡ length (filter (λ (d : IsoDesc). not (is_zero d.status)) ds)
-errors_same ds = ap (λ (p : IsoDesc → Bool). length (filter p ds)) (λ i. λ (d : IsoDesc). is_error d.status i)
 
 pub isochronous : (l : Live) (o : IsoOutcome) (done wrong : ℕ) → done ≡ length o.body → wrong ≡ errors_of o.descs →
     spelling (with_given (row_request l) (Isochronous o)) ≡ front_bytes (row_request l) (pos 0) done wrong ++ o.body ++ descs_bytes o.descs
 isochronous l o done wrong long counted =
-    ap (λ (n : ℕ). front_bytes (row_request l) (pos 0) (length o.body) n ++ o.body ++ descs_bytes o.descs) (sym (counted ∙ errors_same o.descs))
+    ap (λ (n : ℕ). front_bytes (row_request l) (pos 0) (length o.body) n ++ o.body ++ descs_bytes o.descs) (sym counted)
     ∙ ap (λ (n : ℕ). front_bytes (row_request l) (pos 0) n wrong ++ o.body ++ descs_bytes o.descs) (sym long)

@@ -22,7 +22,7 @@ use Rattle.gate_history.specs.declared.note.Note.{Note}
 use Rattle.gate_history.specs.declared.note.Note.TheVariants as note
 use Rattle.gate_parts.specs.declared.host.fill.Filled.{Filled}
 use Rattle.gate_history.specs.write.Answers.{with_given}
-use Rattle.gate_history.specs.client.Requests.{Request}
+use Rattle.gate_history.specs.declared.request.Request.{Request}
 use Rattle.gate_history.specs.client.Verdict.{none_of}
 use Rattle.gate_history.specs.host.Fillings.{Given, Transferred, Isochronous, Fill, cut_as, cut_of, none_filled, filled_by, fill}
 use Rattle.gate_parts.specs.state.Rows.{row_request}

@@ -22,9 +22,11 @@ use Rattle.unlink_race.specs.declared.live.LiveKind.TheVariants as live_kind
 use Rattle.unlink_race.specs.declared.ending.Ending.{Ending}
 use Rattle.unlink_race.specs.declared.ending.Ending.TheVariants.{Completed, Unlinked, CompletedThenLate}
 use Rattle.unlink_race.specs.Endings.{ending_of}
-use Rattle.gate_history.specs.step.Items.{capped}
-use Rattle.gate_history.specs.client.Requests.{Request}
-use Rattle.gate_history.specs.client.Verdict.{Verdict, Now, Wire, Routed, IsoOut, Stream, Control, Bulk, InterruptOut}
+use Rattle.usb_base.specs.Number.{capped}
+use Rattle.gate_history.specs.declared.request.Request.{Request}
+use Rattle.gate_history.specs.declared.verdict.Pipe.TheVariants.{Control, Bulk, InterruptOut}
+use Rattle.gate_history.specs.declared.verdict.Verdict.{Verdict}
+use Rattle.gate_history.specs.declared.verdict.Verdict.TheVariants.{Now, Wire, Routed, IsoOut, Stream}
 use Rattle.gate_history.specs.step.Marks.{Submission}
 use Rattle.gate_history.specs.host.Responses.{Response, Data, Status, route_answer, answer_kind, mismatched, mismatch, gets, got, seen}
 use Rattle.gate_history.specs.write.Answers.{with_outcome, answers_by}

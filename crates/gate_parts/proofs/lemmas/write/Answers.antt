@@ -14,8 +14,8 @@ use Rattle.unlink_race.specs.declared.live.LiveKind.TheVariants as live_kind
 use Rattle.unlink_race.specs.declared.ending.Ending.{Ending}
 use Rattle.unlink_race.specs.declared.ending.Ending.TheVariants.{Completed, Unlinked, CompletedThenLate}
 use Rattle.unlink_race.specs.Endings.{ending_of}
-use Rattle.gate_history.specs.write.Errno.{econnreset, eshutdown}
-use Rattle.gate_history.specs.client.Requests.{Request}
+use Rattle.gate_history.specs.declared.errno.TheConstants.{ECONNRESET, ESHUTDOWN}
+use Rattle.gate_history.specs.declared.request.Request.{Request}
 use Rattle.gate_history.specs.client.Verdict.{is_wire}
 use Rattle.gate_history.specs.step.Marks.{Submission}
 use Rattle.gate_history.specs.write.Answers.{is_cancelled, ret_unlink, without_packets, with_outcome, answers_by, lost_answer}
@@ -45,12 +45,12 @@ row-outcome s l o row = ap (λ (r : Request). with_outcome r o) (row-answered s 
 
 abbrev pub by_ending : UrbPacket → Ending → List UrbPacket
 by_ending x Completed = x ∷ []
-by_ending x (Unlinked by) = ret_unlink by econnreset ∷ []
+by_ending x (Unlinked by) = ret_unlink by ECONNRESET ∷ []
 by_ending x (CompletedThenLate by) = x ∷ ret_unlink by (pos 0) ∷ []
 
 abbrev chosen : UrbPacket → Bool → Bool → Option ℕ → List UrbPacket
 chosen x wire cancelled None = x ∷ []
-chosen x wire cancelled (Some by) = if wire && cancelled then ret_unlink by econnreset ∷ [] else x ∷ ret_unlink by (pos 0) ∷ []
+chosen x wire cancelled (Some by) = if wire && cancelled then ret_unlink by ECONNRESET ∷ [] else x ∷ ret_unlink by (pos 0) ∷ []
 
 by-kind : (x : UrbPacket) (u : Option ℕ) (k : LiveKind) (st : UsbStatus) → by_ending x (ending_of u k st) ≡ chosen x (is_wire_row k) (is_cancelled st) u
 by-kind x None k st = refl
@@ -88,5 +88,5 @@ pub bytes-two : (s : Submission) (l : Live) (o : Outcome) (x y : UrbPacket) (e :
 bytes-two s l o x y e row is two =
     ap (λ (b : List ℕ). spelling x ++ b) (sym (append-nil (spelling y))) ∙ ap (flat_map spelling) (sym two ∙ row-answers s l o e row is)
 
-pub lost-none : (s : Submission) (l : Live) → IsRowOf s l → without_packets (row_request l) eshutdown ≡ lost_answer s None
-lost-none s l row = row-without s l eshutdown row
+pub lost-none : (s : Submission) (l : Live) → IsRowOf s l → without_packets (row_request l) ESHUTDOWN ≡ lost_answer s None
+lost-none s l row = row-without s l ESHUTDOWN row

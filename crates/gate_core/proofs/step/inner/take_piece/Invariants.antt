@@ -1,5 +1,5 @@
 use Rattle.std.proofs.Common.{ℕ, List}
-use Rattle.gate_history.specs.step.Items.{Item}
+use Rattle.gate_history.specs.declared.item.Item.{Item}
 use Rattle.gate_core.specs.inner.Steps.{left_of}
 use Rattle.gate_core.specs.inner.Sides.{IsAt}
 use Rattle.gate_core.proofs.lemmas.step.Pieces.{Taking}

@@ -2,8 +2,8 @@ use Rattle.std.proofs.Common.{◌≡◌, ◌++◌, ◌∙◌, ℕ, List, OnOk, r
 use Rattle.std.specs.Prelude.{pos}
 use Rattle.usbip_urb.specs.Spelling.{spelling}
 use Rattle.unlink_race.specs.declared.ending.Ending.TheVariants.{Completed, Unlinked, CompletedThenLate}
-use Rattle.gate_history.specs.write.Errno.{econnreset}
-use Rattle.gate_history.specs.client.Requests.{Request}
+use Rattle.gate_history.specs.declared.errno.TheConstants.{ECONNRESET}
+use Rattle.gate_history.specs.declared.request.Request.{Request}
 use Rattle.gate_history.specs.write.Answers.{with_outcome, ret_unlink}
 use Rattle.gate_parts.specs.state.Rows.{row_request}
 use Rattle.gate_parts.proofs.lemmas.write.Answers.{bytes-one, bytes-two}
@@ -25,7 +25,7 @@ returns-in-Unlinked-clause-ok c = λ s row.
     let by = c.in-Unlinked.by in
     let is = sym c.in-Unlinked.is ∙ c.ending_of.ensures in
     subst (λ (b : List ℕ). OnOk c.write_ret_unlink.result (c.write_ret_unlink.new.out ≡ c.args.out.now ++ b))
-    (bytes-one s l o (ret_unlink by econnreset) (Unlinked by) row is refl)
+    (bytes-one s l o (ret_unlink by ECONNRESET) (Unlinked by) row is refl)
     c.write_ret_unlink.ensures.ok
 
 pub returns-in-CompletedThenLate-clause-ok : goal.returns-in-CompletedThenLate-clause-ok

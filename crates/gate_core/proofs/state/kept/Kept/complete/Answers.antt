@@ -4,7 +4,7 @@ use Rattle.std.specs.Option.{option_copied}
 use Rattle.unlink_race.specs.Searches.{has_id}
 use Rattle.gate_parts.specs.state.Rows.{IsFine}
 use Rattle.gate_parts.specs.host.Responses.{response_view}
-use Rattle.gate_history.specs.step.Items.{capped}
+use Rattle.usb_base.specs.Number.{capped}
 use Rattle.gate_core.proofs.lemmas.Held.{live-taken, left-taken, without-one, each-at}
 use Rattle.gate_core.proofs.lemmas.host.Answer.{does-live, live-gives, does-late}
 use Rattle.gate_core.proofs.lemmas.write.InTurn.{on-err}

@@ -4,7 +4,7 @@ use Rattle.std.proofs.lemmas.List.Filters.{length-filter_both}
 use Rattle.unlink_race.specs.declared.live.Live.{Live}
 use Rattle.unlink_race.specs.Requests.{Requests}
 use Rattle.unlink_race.specs.Searches.{ended_by}
-use Rattle.gate_history.specs.step.Items.{capped}
+use Rattle.usb_base.specs.Number.{capped}
 use Rattle.gate_parts.specs.state.Rows.{IsFine}
 use Rattle.gate_core.specs.inner.Holds.{IsKept}
 use Rattle.gate_history.proofs.lemmas.Lists.{Each-filter, length-filter}

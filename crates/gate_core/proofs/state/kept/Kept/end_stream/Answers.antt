@@ -10,7 +10,7 @@ use Rattle.unlink_race.specs.declared.live.Live.{Live}
 use Rattle.unlink_race.specs.declared.live.StreamEnd.TheVariants.{Told}
 use Rattle.unlink_race.specs.Searches.{ended_by, waits_for}
 use Rattle.gate_core.specs.declared.state.kept.Kept.{Kept}
-use Rattle.gate_history.specs.step.Items.{capped}
+use Rattle.usb_base.specs.Number.{capped}
 use Rattle.gate_history.specs.state.Ups.{lower_at}
 use Rattle.gate_history.specs.write.Answers.{without_packets}
 use Rattle.gate_parts.specs.state.Rows.{row_request, ended_bytes}

@@ -9,13 +9,12 @@ use Rattle.gate_history.specs.declared.note.Note.TheVariants as note
 use Rattle.gate_history.specs.state.Ups.{Up, stream_at}
 use Rattle.gate_parts.specs.declared.state.calls.Called.{Called}
 use Rattle.gate_history.specs.state.Ids.{last_of}
-use Rattle.gate_history.specs.client.Verdict.{IsoOut}
+use Rattle.gate_history.specs.declared.verdict.Verdict.TheVariants.{IsoOut}
 use Rattle.gate_history.specs.write.Packets.{starts, iso_packets}
 use Rattle.gate_history.specs.state.Calls.{called}
 use Rattle.gate_history.specs.step.Meaning.{drawn_for, submission}
 use Rattle.gate_history.specs.write.Answers.{all_sent}
 use Rattle.gate_history.specs.write.Bytes.{host_packet_bytes}
-use Rattle.gate_history.specs.client.Views.{request_view}
 use Rattle.gate_core.specs.inner.Calls.{ids_after, with_ids, starts_of, called_of, after_starts, bytes_of}
 use Rattle.gate_history.proofs.lemmas.state.Calls.{iso-silent}
 use Rattle.gate_core.proofs.lemmas.state.Ids.{ids-are, asked-are}
@@ -27,7 +26,7 @@ use Rattle.gate_core.proofs.state.kept.Kept.send_iso.Goals as goal
 pub returns-clause-ok : goal.returns-clause-ok
 returns-clause-ok c st h sound =
     let old = c.args.self.now in
-    let r = request_view c.args.request.now in
+    let r = c.args.request.now in
     let ep = r.transfer.ep in
     let v = IsoOut c.args.row in
     let starting : List RedirPacket = starts_of old ep c.args.row in
@@ -65,6 +64,6 @@ pub returns-in_err-write_all_sent-clause-err : goal.returns-in_err-write_all_sen
 returns-in_err-write_all_sent-clause-err c = on-err c.from_residual-in_err-write_all_sent.result _ (record {
   same = refl;
   client = record { more = []; is = c.in_err-write_all_sent.ensures.err ∙ sym (append-nil c.args.out.now.to_client) };
-  host = extends-after c.args.out.now.to_host c.write_start.new.to_host c.write_packets.new.to_host _ c.in_ok-called.ensures.sent (record { more = bytes_of c.args.self.now c.in_ok-called.called.last (iso_packets (request_view c.args.request.now)); is = c.in_ok-last.ensures.sent });
+  host = extends-after c.args.out.now.to_host c.write_start.new.to_host c.write_packets.new.to_host _ c.in_ok-called.ensures.sent (record { more = bytes_of c.args.self.now c.in_ok-called.called.last (iso_packets c.args.request.now); is = c.in_ok-last.ensures.sent });
   notes = record { more = note.Submitted c.args.request.now.number 0 ∷ []; is = c.in_ok-push.ensures.ok };
 })

@@ -11,17 +11,16 @@ use Rattle.unlink_race.specs.Searches.{touched_by}
 use Rattle.gate_core.specs.declared.state.kept.Kept.{Kept}
 use Rattle.gate_history.specs.declared.note.Note.TheVariants as note
 use Rattle.gate_parts.specs.declared.state.calls.Called.{Called}
-use Rattle.gate_history.specs.step.Items.{capped}
-use Rattle.gate_history.specs.write.Errno.{eshutdown}
+use Rattle.usb_base.specs.Number.{capped}
+use Rattle.gate_history.specs.declared.errno.TheConstants.{ESHUTDOWN}
 use Rattle.gate_history.specs.state.Ids.{greatest, last_of}
-use Rattle.gate_history.specs.client.Verdict.{Routed}
+use Rattle.gate_history.specs.declared.verdict.Verdict.TheVariants.{Routed}
 use Rattle.gate_history.specs.state.Ups.{lower, is_ended}
 use Rattle.gate_history.specs.state.Flight.{wide_ids}
 use Rattle.gate_history.specs.write.Packets.{stops, route_packets}
 use Rattle.gate_history.specs.state.Calls.{called}
 use Rattle.gate_history.specs.step.Meaning.{drawn_for, submission}
 use Rattle.gate_history.specs.write.Bytes.{host_packet_bytes}
-use Rattle.gate_history.specs.client.Views.{request_view}
 use Rattle.gate_core.specs.inner.Calls.{flying_in, ids_after, with_ids, stops_of, called_of, after_stops, bytes_of}
 use Rattle.gate_parts.specs.state.Rows.{ended_bytes, row_for}
 use Rattle.gate_history.proofs.lemmas.state.Calls.{last-any, route-silent}
@@ -34,7 +33,7 @@ use Rattle.gate_core.proofs.state.kept.Kept.send_route.Goals as goal
 pub returns-clause-ok : goal.returns-clause-ok
 returns-clause-ok c st h sound =
     let old = c.args.self.now in
-    let r = request_view c.args.request in
+    let r = c.args.request in
     let by = c.args.route in
     let v = Routed by in
     let s = submission st r v (drawn_for st r v) in
@@ -95,7 +94,7 @@ returns-in_err-write_ends-clause-err c = on-err c.from_residual.result _ (leaves
 pub returns-in_err-called-clause-err : goal.returns-in_err-called-clause-err
 returns-in_err-called-clause-err c = on-err c.from_residual-in_err-called.result _ (record {
   same = refl;
-  client = record { more = flat_map (ended_bytes (Change c.args.route) eshutdown) c.args.self.now.lives.live; is = c.in_ok-write_ends.ensures.ok };
+  client = record { more = flat_map (ended_bytes (Change c.args.route) ESHUTDOWN) c.args.self.now.lives.live; is = c.in_ok-write_ends.ensures.ok };
   host = c.in_err-called.ensures.err;
   notes = record { more = []; is = sym (append-nil c.args.out.now.notes) };
 })
@@ -103,7 +102,7 @@ returns-in_err-called-clause-err c = on-err c.from_residual-in_err-called.result
 pub returns-in_err-id-clause-err : goal.returns-in_err-id-clause-err
 returns-in_err-id-clause-err c = on-err c.from_residual-in_err-id.result _ (record {
   same = refl;
-  client = record { more = flat_map (ended_bytes (Change c.args.route) eshutdown) c.args.self.now.lives.live; is = c.in_ok-write_ends.ensures.ok };
+  client = record { more = flat_map (ended_bytes (Change c.args.route) ESHUTDOWN) c.args.self.now.lives.live; is = c.in_ok-write_ends.ensures.ok };
   host = record { more = bytes_of c.args.self.now c.args.self.now.last (stops_of c.args.self.now (Some c.args.route)); is = c.in_err-id.ensures.err ∙ c.in_ok-called.ensures.sent };
   notes = record { more = []; is = sym (append-nil c.args.out.now.notes) };
 })
@@ -111,7 +110,7 @@ returns-in_err-id-clause-err c = on-err c.from_residual-in_err-id.result _ (reco
 pub returns-in_err-push-clause-err : goal.returns-in_err-push-clause-err
 returns-in_err-push-clause-err c = on-err c.from_residual-in_err-push.result _ (record {
   same = refl;
-  client = record { more = flat_map (ended_bytes (Change c.args.route) eshutdown) c.args.self.now.lives.live; is = c.in_ok-write_ends.ensures.ok };
+  client = record { more = flat_map (ended_bytes (Change c.args.route) ESHUTDOWN) c.args.self.now.lives.live; is = c.in_ok-write_ends.ensures.ok };
   host = extends-after c.args.out.now.to_host c.write_stops.new.to_host c.ask_route.new.to_host _ c.in_ok-called.ensures.sent (record { more = bytes_of c.args.self.now c.in_ok-called.called.last (route_packets c.args.route); is = c.in_ok-id.ensures.sent });
   notes = record { more = []; is = c.in_err-push.ensures.err ∙ sym (append-nil c.args.out.now.notes) };
 })

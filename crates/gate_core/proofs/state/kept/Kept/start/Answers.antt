@@ -12,7 +12,6 @@ use Rattle.gate_history.specs.state.Ups.{Up, stream_at, raise}
 use Rattle.gate_history.specs.write.Packets.{starts}
 use Rattle.gate_history.specs.state.Calls.{called}
 use Rattle.gate_history.specs.write.Bytes.{host_packet_bytes}
-use Rattle.gate_history.specs.client.Views.{request_view}
 use Rattle.gate_parts.specs.state.Rows.{row_for}
 use Rattle.gate_core.specs.inner.Calls.{ids_after, with_ids, starts_of, called_of, after_starts, bytes_of}
 use Rattle.gate_core.proofs.lemmas.state.Ids.{ids-are, asked-are}
@@ -23,7 +22,7 @@ use Rattle.gate_core.proofs.state.kept.Kept.start.Goals as goal
 pub returns-clause-ok : goal.returns-clause-ok
 returns-clause-ok c st h sound =
     let old = c.args.self.now in
-    let r = request_view c.args.request in
+    let r = c.args.request in
     let row = c.args.row in
     let ep = c.ep-ep.ensures in
     let starting : List RedirPacket = starts_of old r.transfer.ep row in

@@ -3,20 +3,21 @@ use Rattle.std.specs.List.{list_any}
 use Rattle.usb_base.specs.declared.reason.Reason.TheVariants.{NotImported, DuplicateSeq}
 use Rattle.usb_base.specs.declared.side.Side.TheVariants.{Client}
 use Rattle.unlink_race.specs.Searches.{has_number}
-use Rattle.gate_history.specs.step.Items.{capped}
-use Rattle.gate_history.specs.client.Requests.{Request, request_of}
+use Rattle.usbip_urb.specs.declared.client.ClientPacket.TheVariants.{Urb}
+use Rattle.usb_base.specs.Number.{capped}
+use Rattle.gate_history.specs.declared.request.Request.{Request}
+use Rattle.gate_history.specs.client.Requests.{request_of}
 use Rattle.gate_history.specs.step.Marks.{Refuses}
 use Rattle.gate_history.specs.state.State.{State, is_number, submits, change_waits}
-use Rattle.gate_history.specs.step.Meaning.{refused, accepts, verdict_of, urb_meaning}
+use Rattle.gate_history.specs.step.Meaning.{refused, accepts, verdict_of, asked_meaning}
 use Rattle.gate_core.specs.declared.state.kept.Kept.{Kept}
 use Rattle.gate_core.specs.inner.Holds.{Holds}
 use Rattle.gate_core.proofs.lemmas.state.Ids.{number-rows}
 use Rattle.std.specs.Prelude.{FitsSigned}
 use Rattle.std.proofs.lemmas.Int.{to_z-of_z}
-use Rattle.gate_history.specs.client.Verdict.{Now, Wire, Routed, IsoOut}
+use Rattle.gate_history.specs.declared.verdict.Verdict.TheVariants.{Now, Wire, Routed, IsoOut}
 use Rattle.gate_history.specs.state.Flight.{wide_bulk}
 use Rattle.gate_parts.proofs.lemmas.client.Directions.{StatusFits, verdict-fits}
-use Rattle.gate_history.specs.client.Views.{request_view, verdict_view}
 use Rattle.gate_core.proofs.lemmas.client.Accept.{opens}
 use Rattle.gate_core.proofs.lemmas.step.Quiet.{as-effect}
 use Rattle.usbip_urb.specs.declared.packet.Submit.{Submit}
@@ -28,7 +29,7 @@ further at place e = omega (arith, e)
 
 -- one of a client that has imported the device, whose number is free, is accepted
 is-accepted : (old : Kept) (st : State) (at : ℕ) (s : Submit) (r : Request) → Holds old st → r ≡ request_of s → old.imported ≡ true → list_any (has_number s.head.seqnum) old.lives.live ≡ false →
-    accepts st r (verdict_of st r) ≡ urb_meaning st at (SubmitPacket s)
+    accepts st r (verdict_of st r) ≡ asked_meaning st at (Urb (SubmitPacket s))
 is-accepted old st at s r h is imported free =
     let here = sym h.imported ∙ imported in
     let none = sym (ap (list_any (has_number s.head.seqnum)) h.live ∙ number-rows s.head.seqnum st.live) ∙ free in
@@ -58,9 +59,9 @@ send_route-requires-clause-some c = c.in-Routed.ensures.answered.sends
 
 pub returns-in-Now-clause-ok : goal.returns-in-Now-clause-ok
 returns-in-Now-clause-ok c st at place h sound going =
-    let r = request_view c.of-request.result in
+    let r = c.of-request.result in
     let accepted = is-accepted c.args.self.now st at c.args.submit r h c.of-request.ensures.value c.if-not-self.false (sym c.has.ensures ∙ c.if-has.false) in
-    let now : Now c.in-Now.status ≡ verdict_of st r = sym (ap verdict_view c.in-Now.is) ∙ c.verdict.ensures.value st h in
+    let now : Now c.in-Now.status ≡ verdict_of st r = sym (c.in-Now.is) ∙ c.verdict.ensures.value st h in
     let fits : FitsSigned w32 c.in-Now.status = subst StatusFits (sym now) (verdict-fits st.lost (length st.live) (change_waits st) st.facts.table (wide_bulk st.agreed) r) in
     as-effect c.answer_now.result st _ _ c.args.self.now c.answer_now.new.self c.args.out.now c.answer_now.new.out
     (opens st r (Now _) refl ∙ ap (accepts st r) (ap (λ s. Now s) (to_z-of_z w32 c.in-Now.status fits) ∙ now) ∙ accepted)
@@ -68,24 +69,24 @@ returns-in-Now-clause-ok c st at place h sound going =
 
 pub returns-in-Wire-clause-ok : goal.returns-in-Wire-clause-ok
 returns-in-Wire-clause-ok c st at place h sound going =
-    let r = request_view c.of-request.result in
+    let r = c.of-request.result in
     let accepted = is-accepted c.args.self.now st at c.args.submit r h c.of-request.ensures.value c.if-not-self.false (sym c.has.ensures ∙ c.if-has.false) in
-    as-effect c.send.result st _ _ c.args.self.now c.send.new.self c.args.out.now c.send.new.out (opens st r (Wire _) refl ∙ ap (accepts st r) (sym (ap verdict_view c.in-Wire.is) ∙ c.verdict.ensures.value st h) ∙ accepted) (c.send.ensures.ok st h sound)
+    as-effect c.send.result st _ _ c.args.self.now c.send.new.self c.args.out.now c.send.new.out (opens st r (Wire _) refl ∙ ap (accepts st r) (sym (c.in-Wire.is) ∙ c.verdict.ensures.value st h) ∙ accepted) (c.send.ensures.ok st h sound)
 
 pub returns-in-Routed-clause-ok : goal.returns-in-Routed-clause-ok
 returns-in-Routed-clause-ok c st at place h sound going =
-    let r = request_view c.of-request.result in
+    let r = c.of-request.result in
     let accepted = is-accepted c.args.self.now st at c.args.submit r h c.of-request.ensures.value c.if-not-self.false (sym c.has.ensures ∙ c.if-has.false) in
-    as-effect c.send_route.result st _ _ c.args.self.now c.send_route.new.self c.args.out.now c.send_route.new.out (opens st r (Routed _) refl ∙ ap (accepts st r) (sym (ap verdict_view c.in-Routed.is) ∙ c.verdict.ensures.value st h) ∙ accepted) (c.send_route.ensures.ok st h sound)
+    as-effect c.send_route.result st _ _ c.args.self.now c.send_route.new.self c.args.out.now c.send_route.new.out (opens st r (Routed _) refl ∙ ap (accepts st r) (sym (c.in-Routed.is) ∙ c.verdict.ensures.value st h) ∙ accepted) (c.send_route.ensures.ok st h sound)
 
 pub returns-in-IsoOut-clause-ok : goal.returns-in-IsoOut-clause-ok
 returns-in-IsoOut-clause-ok c st at place h sound going =
-    let r = request_view c.of-request.result in
+    let r = c.of-request.result in
     let accepted = is-accepted c.args.self.now st at c.args.submit r h c.of-request.ensures.value c.if-not-self.false (sym c.has.ensures ∙ c.if-has.false) in
-    as-effect c.send_iso.result st _ _ c.args.self.now c.send_iso.new.self c.args.out.now c.send_iso.new.out (opens st r (IsoOut _) refl ∙ ap (accepts st r) (sym (ap verdict_view c.in-IsoOut.is) ∙ c.verdict.ensures.value st h) ∙ accepted) (c.send_iso.ensures.ok st h sound)
+    as-effect c.send_iso.result st _ _ c.args.self.now c.send_iso.new.self c.args.out.now c.send_iso.new.out (opens st r (IsoOut _) refl ∙ ap (accepts st r) (sym (c.in-IsoOut.is) ∙ c.verdict.ensures.value st h) ∙ accepted) (c.send_iso.ensures.ok st h sound)
 
 pub returns-in-Stream-clause-ok : goal.returns-in-Stream-clause-ok
 returns-in-Stream-clause-ok c st at place h sound going =
-    let r = request_view c.of-request.result in
+    let r = c.of-request.result in
     let accepted = is-accepted c.args.self.now st at c.args.submit r h c.of-request.ensures.value c.if-not-self.false (sym c.has.ensures ∙ c.if-has.false) in
-    as-effect c.wait.result st _ _ c.args.self.now c.wait.new.self c.args.out.now c.wait.new.out (ap (accepts st r) (sym (ap verdict_view c.in-Stream.is) ∙ c.verdict.ensures.value st h) ∙ accepted) (c.wait.ensures.ok st h sound)
+    as-effect c.wait.result st _ _ c.args.self.now c.wait.new.self c.args.out.now c.wait.new.out (ap (accepts st r) (sym (c.in-Stream.is) ∙ c.verdict.ensures.value st h) ∙ accepted) (c.wait.ensures.ok st h sound)

@@ -2,10 +2,9 @@ use Rattle.std.proofs.Common.{◌≡◌, ℕ, false, None, OnOk, OnErr, sym, ap,
 use Rattle.usbip_urb.specs.declared.client.ClientPacket.{ClientPacket}
 use Rattle.redir_wire.specs.declared.packet.Caps.{Caps}
 use Rattle.gate_history.specs.state.State.{State}
-use Rattle.gate_history.specs.declared.item.Item.{Item as RawItem}
+use Rattle.gate_history.specs.declared.item.Item.{Item as RawItem, Item}
 use Rattle.gate_history.specs.declared.item.Item.TheVariants as raw
 use Rattle.usb_base.specs.declared.side.Side.TheVariants.{Client, Host}
-use Rattle.gate_history.specs.step.Items.{Item}
 use Rattle.gate_history.specs.state.Sides.{refusal}
 use Rattle.gate_history.specs.step.Marks.{Effect, Refuses}
 use Rattle.gate_history.specs.step.Meaning.{mark_as, mark_of}

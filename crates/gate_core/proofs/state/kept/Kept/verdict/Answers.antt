@@ -5,7 +5,6 @@ use Rattle.std.specs.List.{list_any}
 use Rattle.gate_history.specs.client.Verdict.{verdict}
 use Rattle.gate_history.specs.state.Flight.{wide_bulk}
 use Rattle.gate_history.specs.write.Packets.{HasRoute}
-use Rattle.gate_history.specs.client.Views.{request_view, verdict_view}
 use Rattle.gate_parts.specs.state.Rows.{row}
 use Rattle.gate_core.proofs.lemmas.state.Ids.{change-rows}
 use Rattle.gate_parts.proofs.lemmas.client.Directions.{not-stream}
@@ -18,15 +17,15 @@ returns-clause-value c st h =
     let live = c.len.ensures.len ∙ ap length h.live ∙ length-map st.live row in
     let changing = c.change_waits-changing.ensures ∙ ap (list_any changes) h.live ∙ change-rows st.live in
     let wide = c.has-wide.ensures ∙ ap wide_bulk h.caps in
-    c.decide.ensures.value ∙ (λ i. verdict (h.lost i) (live i) (changing i) (h.facts i).table (wide i) (request_view c.args.request.now))
+    c.decide.ensures.value ∙ (λ i. verdict (h.lost i) (live i) (changing i) (h.facts i).table (wide i) c.args.request.now)
 
 pub returns-clause-answered : goal.returns-clause-answered
 returns-clause-answered c =
     let t = c.args.self.now in
-    let r = request_view c.args.request.now in
+    let r = c.args.request.now in
     let w = c.requires.whole in
     record {
-      answered = λ by. record { packets = record { few = w.few_packets; counted = w.descs }; few_bytes = w.few_bytes; read = c.decide.ensures.reads w by; by_id = not-stream (verdict_view c.decide.result) r.transfer.ep by };
+      answered = λ by. record { packets = record { few = w.few_packets; counted = w.descs }; few_bytes = w.few_bytes; read = c.decide.ensures.reads w by; by_id = not-stream c.decide.result r.transfer.ep by };
       room = λ by. omega (arith, c.decide.ensures.room by, c.len.ensures.len);
       waits = λ waits. (record { packets = record { few = w.few_packets; counted = w.descs }; few_bytes = w.few_bytes; lies = c.decide.ensures.lies waits }, omega (arith, c.decide.ensures.waits waits, c.len.ensures.len));
       sends = subst HasRoute (sym c.decide.ensures.value) (verdict-sends t.lost c.len.result c.change_waits-changing.result t.facts.table c.has-wide.result r);

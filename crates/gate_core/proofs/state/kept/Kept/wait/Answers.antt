@@ -3,9 +3,8 @@ use Rattle.std.specs.Prelude.{slice_set}
 use Rattle.usb_base.specs.Endpoint.{endpoint_index}
 use Rattle.gate_core.specs.declared.state.kept.Kept.{Kept}
 use Rattle.gate_history.specs.state.Ups.{Up, stream_at}
-use Rattle.gate_history.specs.client.Verdict.{Stream}
+use Rattle.gate_history.specs.declared.verdict.Verdict.TheVariants.{Stream}
 use Rattle.gate_history.specs.step.Meaning.{mark_as, accepts}
-use Rattle.gate_history.specs.client.Views.{request_view}
 use Rattle.gate_core.specs.inner.Holds.{Holds, Does}
 use Rattle.gate_parts.proofs.lemmas.state.Places.{set-back}
 use Rattle.gate_core.proofs.lemmas.host.Arrive.{on-ok, puts-back}
@@ -15,7 +14,7 @@ use Rattle.gate_core.proofs.state.kept.Kept.wait.Goals as goal
 pub returns-in_default-clause-ok : goal.returns-in_default-clause-ok
 returns-in_default-clause-ok c st h sound =
     let old = c.args.self.now in
-    let r = request_view c.args.request in
+    let r = c.args.request in
     let at : stream_at old.streams r.transfer.ep ≡ None = ap (stream_at old.streams) (sym c.ep-ep.ensures) ∙ sym c.in_default.ensures.up in
     let same : c.take.new.self ≡ old.streams =
     c.in_default.ensures.rest ∙ (λ i. slice_set old.streams (endpoint_index (c.ep-ep.ensures i)) (sym at i)) ∙ set-back old.streams (endpoint_index r.transfer.ep) None in
@@ -26,7 +25,7 @@ returns-in_default-clause-ok c st h sound =
 pub returns-clause-ok : goal.returns-clause-ok
 returns-clause-ok c st h sound =
     let old = c.args.self.now in
-    let r = request_view c.args.request in
+    let r = c.args.request in
     let ep = c.ep-ep.ensures in
     let emptied : Kept = record old { streams = c.take.new.self } in
     let up = c.in-Some.up in

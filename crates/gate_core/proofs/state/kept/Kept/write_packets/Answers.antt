@@ -1,3 +1,5 @@
+use Rattle.usbip_urb.specs.declared.packet.IsoDesc.{IsoDesc}
+use Rattle.usb_base.specs.Number.{part}
 use Rattle.std.proofs.Common.{◌≡◌, ◌+◌, ◌<◌, ◌++◌, ℕ, true, List, [], ◌∷◌, length, get_or, take, refl, sym, ap, subst, ◌∙◌, append_assoc, arith}
 use Rattle.std.proofs.lemmas.List.{append-nil, take_all, length-map}
 use Rattle.usbip_urb.specs.Buffers.{laid}
@@ -6,9 +8,8 @@ use Rattle.redir_data.specs.declared.packet.RedirData.TheVariants as data_packet
 use Rattle.redir_data.specs.declared.packet.RedirPacket.TheVariants.{Carrying}
 use Rattle.gate_history.specs.state.Ids.{draw, greatest, last_of}
 use Rattle.gate_history.specs.state.Flight.{wide_ids}
-use Rattle.gate_history.specs.write.Packets.{iso_packet, iso_packets}
+use Rattle.gate_history.specs.write.Packets.{iso_packets}
 use Rattle.gate_history.specs.write.Bytes.{host_packet_bytes}
-use Rattle.gate_history.specs.client.Views.{request_view}
 use Rattle.gate_core.specs.inner.Calls.{flying_in, ids_after, bytes_of}
 use Rattle.gate_history.proofs.lemmas.write.Laid.{no_desc, few-stretch, stretch-packet, next-iso}
 use Rattle.gate_core.proofs.lemmas.write.InTurn.{last-more, bytes-more}
@@ -34,9 +35,9 @@ loop-place-preserved c =
     let ep = r.transfer.ep in
     let here : k < length r.descs = omega (arith, c.len-place-end.ensures) in
     let lies : laid r.descs (length r.transfer.body) ≡ true = subst (λ (n : ℕ). laid r.descs n ≡ true) (sym c.requires.laid.whole) c.requires.laid.lies in
-    let p : RedirPacket = iso_packet ep r.transfer.body (get_or r.descs k no_desc) in
-    let before : List RedirPacket = take k (iso_packets (request_view r)) in
-    let next : take (k + 1) (iso_packets (request_view r)) ≡ before ++ p ∷ [] = next-iso (iso_packet ep r.transfer.body) r.descs k here in
+    let p : RedirPacket = Carrying (data_packet.Iso ep 0 (get_or r.descs k no_desc).length (part (get_or r.descs k no_desc).offset (get_or r.descs k no_desc).length r.transfer.body)) in
+    let before : List RedirPacket = take k (iso_packets r) in
+    let next : take (k + 1) (iso_packets r) ≡ before ++ p ∷ [] = next-iso (λ (d : IsoDesc). Carrying (data_packet.Iso ep 0 d.length (part d.offset d.length r.transfer.body))) r.descs k here in
     let same : ◌≡◌ {A = RedirPacket} (Carrying (data_packet.Iso ep 0 (length c.part-data.result.now) c.part-data.result.now)) p = stretch-packet ep r.descs r.transfer.body c.as_slice-body.result.now c.part-data.result.now k lies here c.as_slice-body.ensures c.part-data.ensures in
     let id = c.draw-id.ensures.value ∙ ap (draw m f) c.loop-place.invariant.last in
     record {
@@ -49,11 +50,11 @@ loop-place-preserved c =
 pub returns-clause-sent : goal.returns-clause-sent
 returns-clause-sent c =
     let r = c.args.request.now in
-    let all = take_all c.loop-place.place (iso_packets (request_view r)) (omega (arith, length-map r.descs (iso_packet r.transfer.ep r.transfer.body), c.len-place-end.ensures)) in
+    let all = take_all c.loop-place.place (iso_packets r) (omega (arith, length-map r.descs (λ (d : IsoDesc). Carrying (data_packet.Iso r.transfer.ep 0 d.length (part d.offset d.length r.transfer.body))), c.len-place-end.ensures)) in
     c.loop-place.invariant.sent ∙ ap (λ (ps : List RedirPacket). c.args.to_host.now ++ bytes_of c.args.self.now c.args.last ps) all
 
 pub returns-clause-last : goal.returns-clause-last
 returns-clause-last c =
     let r = c.args.request.now in
-    let all = take_all c.loop-place.place (iso_packets (request_view r)) (omega (arith, length-map r.descs (iso_packet r.transfer.ep r.transfer.body), c.len-place-end.ensures)) in
+    let all = take_all c.loop-place.place (iso_packets r) (omega (arith, length-map r.descs (λ (d : IsoDesc). Carrying (data_packet.Iso r.transfer.ep 0 d.length (part d.offset d.length r.transfer.body))), c.len-place-end.ensures)) in
     c.loop-place.invariant.last ∙ ap (λ (ps : List RedirPacket). last_of c.args.last (ids_after c.args.self.now c.args.last (length ps))) all

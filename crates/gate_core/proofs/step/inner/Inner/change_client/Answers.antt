@@ -1,6 +1,6 @@
 use Rattle.std.proofs.Common.{inr, refl}
 use Rattle.gate_history.specs.step.Events.{ClientEnd}
-use Rattle.gate_history.specs.step.Items.{ClientLeft}
+use Rattle.gate_history.specs.declared.item.Item.TheVariants.{ClientLeft}
 use Rattle.gate_history.specs.state.State.{state_of}
 use Rattle.gate_history.specs.step.History.{arrivals, history}
 use Rattle.gate_history.proofs.lemmas.state.Sound.{state-sound}
