@@ -15,6 +15,7 @@ use Rattle.redir_host.proofs.lemmas.write.Facts.{no_id}
 use Rattle.usb_base.specs.declared.reason.Reason.{Reason}
 use Rattle.redir_wire.specs.Capability.{no_caps}
 use Rattle.redir_wire.specs.Spelling as wire
+use Rattle.redir_wire.proofs.Says.{header_says}
 use Rattle.redir_wire.proofs.Plain.{packet_written}
 use Rattle.redir_data.specs.declared.packet.RedirPacket.{RedirPacket}
 use Rattle.redir_data.specs.declared.packet.RedirPacket.TheVariants.{Plain, Carrying}
@@ -78,7 +79,7 @@ turned true e = absurd cc
 turned false e = refl
 
 pub no-hello : (caps : Caps) (way : Way) (p : ℕ × RedirPacket) → CanBeRead way caps p → is_hello p.1 ≡ false
-no-hello caps way (id, Plain p) fits = turned (wire.number_of p == 0) fits.header.in_turn
+no-hello caps way (id, Plain p) fits = turned (wire.number_of p == 0) (header_says fits.header).in_turn
 no-hello caps way (id, Carrying d) fits = refl
 
 -- so it changes nothing of how the next is read
