@@ -25,34 +25,15 @@ pub fn spend<D: Doors, K: Sink>(
     requires budget { 1 ≤ budget }
 {
     match words {
-        ["serve"] => serve_to_budget(alloc, budget, doors, out),
-        ["host"] => lend(alloc, budget, doors, out),
+        ["serve"] => {
+            let keep = AfterLoss::Keep;
+            let tape = &mut NoTape;
+            ended_as(serve(alloc, "a:1", "b:2", 5, budget, 1, keep, doors, out, tape))
+        }
+        ["host"] => match Loopback::make(alloc) {
+            Ok(device) => ended_as(serve_host(alloc, device, "b:1", 5, budget, doors, out)),
+            Err(_) => Status::OutOfMemory,
+        },
         _ => Status::Usage,
-    }
-}
-
-fn serve_to_budget<D: Doors, K: Sink>(
-    alloc: Global,
-    budget: u64,
-    doors: &mut D,
-    out: &mut K,
-) -> Status
-    requires client_down { (D.link doors.old Client).up ≡ false }
-    requires host_down { (D.link doors.old Host).up ≡ false }
-    requires budget { 1 ≤ budget }
-{
-    let keep = AfterLoss::Keep;
-    let tape = &mut NoTape;
-    ended_as(serve(alloc, "a:1", "b:2", 5, budget, 1, keep, doors, out, tape))
-}
-
-fn lend<D: Doors, K: Sink>(alloc: Global, budget: u64, doors: &mut D, out: &mut K) -> Status
-    requires client_down { (D.link doors.old Client).up ≡ false }
-    requires host_down { (D.link doors.old Host).up ≡ false }
-    requires budget { 1 ≤ budget }
-{
-    match Loopback::make(alloc) {
-        Ok(device) => ended_as(serve_host(alloc, device, "b:1", 5, budget, doors, out)),
-        Err(_) => Status::OutOfMemory,
     }
 }
