@@ -1,6 +1,7 @@
 use Rattle.std.proofs.Common.{if◌then◌else◌}
 use Rattle.redir_wire.specs.Capability.{has}
-use Rattle.redir_wire.specs.Words.{AreHalves}
+use Rattle.std.specs.Int.{w16}
+use Rattle.redir_wire.specs.Words.{AreNumbers}
 use Rattle.redir_host.specs.device.Facts.{kind_byte}
 use Rattle.redir_host.proofs.lemmas.device.Columns.{IsColumn}
 use Rattle.redir_host.proofs.facts.ep_info.Given as goal
@@ -11,5 +12,5 @@ invariant-loop-index l = record {
   intervals : IsColumn (λ r. r.interval) l.table l.index l.info.interval;
   interfaces : IsColumn (λ r. r.interface) l.table l.index l.info.interface;
   max_packets : IsColumn (λ r. if has l.caps 4 then r.max_packet else 0) l.table l.index l.info.max_packet;
-  halves : AreHalves l.info.max_packet;
+  halves : AreNumbers w16 l.info.max_packet;
 }

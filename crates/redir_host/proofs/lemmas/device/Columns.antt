@@ -5,7 +5,8 @@ use Rattle.std.proofs.lemmas.List.{take_all, length-set}
 use Rattle.usb_base.specs.Endpoint.{no_endpoint}
 use Rattle.usb_base.specs.declared.endpoint.EpRow.{EpRow}
 use Rattle.usb_base.specs.declared.endpoint.EpTable.{EpTable}
-use Rattle.redir_wire.specs.Words.{AreHalves}
+use Rattle.std.specs.Int.{w16}
+use Rattle.redir_wire.specs.Words.{AreNumbers}
 use Rattle.redir_host.specs.device.Facts.{column}
 
 -- its first n cells are filled
@@ -33,11 +34,11 @@ whole_column f t n cells is h = sym (take_all n cells (omega (arith, h.long))) �
 
 -- ---- numbers of 16 bits
 
-pub zero_halves : (n : ℕ) → AreHalves (replicate n 0)
+pub zero_halves : (n : ℕ) → AreNumbers w16 (replicate n 0)
 zero_halves zero = tt
 zero_halves (suc n) = (lit< tt, zero_halves n)
 
-pub set_halves : (cells : List ℕ) (n cell : ℕ) → AreHalves cells → cell < 2 ^ 16 → AreHalves (set cells n cell)
+pub set_halves : (cells : List ℕ) (n cell : ℕ) → AreNumbers w16 cells → cell < 2 ^ 16 → AreNumbers w16 (set cells n cell)
 set_halves [] n cell are fits = tt
 set_halves (x ∷ xs) zero cell are fits = (fits, are.1)
 set_halves (x ∷ xs) (suc n) cell are fits = (are.0, set_halves xs n cell are.1 fits)

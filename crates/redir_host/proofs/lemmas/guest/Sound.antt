@@ -12,7 +12,8 @@ use Rattle.redir_wire.specs.declared.packet.Header.{Header}
 use Rattle.redir_wire.specs.declared.packet.RedirControl.{RedirControl}
 use Rattle.redir_wire.specs.declared.packet.RedirControl.TheVariants as plain
 use Rattle.redir_wire.specs.declared.packet.Way.TheVariants.{ToHost}
-use Rattle.redir_wire.specs.Header.{IdFits, is_in_turn, is_wide}
+use Rattle.redir_wire.specs.Header.{IdFits, is_wide}
+use Rattle.redir_wire.proofs.Says.{is_in_turn, header_says}
 use Rattle.redir_data.specs.declared.packet.RedirData.{RedirData}
 use Rattle.redir_data.specs.declared.packet.RedirData.TheVariants as moving
 use Rattle.redir_data.specs.declared.packet.RedirPacket.{RedirPacket}
@@ -241,7 +242,7 @@ hello-sound h guest sound first = record {
 
 later-plain : {S : Type 0} (m : Meaning S) (h : Host S) (header : Header) (c : RedirControl) (number : ℕ) → IsSound h → IsTaken h.guest header (Plain c) → header.kind ≡ number → (number == 0) ≡ false → Keeps h (cond h.unplugged (quiet h) (plain_move m h header.id c)).host
 later-plain m h header c number sound is kind other =
-    let greeted = later h.guest.first header.kind number is.header.in_turn kind other in
+    let greeted = later h.guest.first header.kind number (header_says is.header).in_turn kind other in
     keeps-all h (plain_move m h header.id c) h.unplugged sound
     (plain-keeps m h header.id c sound greeted (subst (λ (b : Bool). IdFits (is_wide b h.guest.caps) header.id) greeted is.header.id_fits))
 
@@ -255,7 +256,7 @@ carried (moving.Interrupt ep status told body) number e = ap (λ (n : ℕ). n ==
 pub keeps-packet : {S : Type 0} (m : Meaning S) (h : Host S) (header : Header) (p : RedirPacket) → IsSound h → IsTaken h.guest header p → Keeps (record h { guest = advanced h.guest p }) (packet_move m h header.id p).host
 keeps-packet {S = S} m h header (Plain (plain.Hello x)) sound is =
     let g : Host S = record h { guest = advanced h.guest (Plain (plain.Hello x)) } in
-    let known = hello-sound h (advanced h.guest (Plain (plain.Hello x))) sound (earlier h.guest.first header.kind is.header.in_turn is.kind) in
+    let known = hello-sound h (advanced h.guest (Plain (plain.Hello x))) sound (earlier h.guest.first header.kind (header_says is.header).in_turn is.kind) in
     keeps-all g (plain_move m g header.id (plain.Hello x)) h.unplugged known (record { guest = refl; sound = known })
 keeps-packet m h header (Plain (plain.Connect x)) sound is = later-plain m h header (plain.Connect x) 1 sound is is.kind refl
 keeps-packet m h header (Plain plain.Disconnect) sound is = later-plain m h header plain.Disconnect 2 sound is is.kind refl
@@ -277,6 +278,6 @@ keeps-packet m h header (Plain (plain.InterruptStatus status ep)) sound is = lat
 keeps-packet m h header (Plain plain.Cancel) sound is = later-plain m h header plain.Cancel 21 sound is is.kind refl
 keeps-packet m h header (Plain plain.DisconnectAck) sound is = later-plain m h header plain.DisconnectAck 24 sound is is.kind refl
 keeps-packet m h header (Carrying d) sound is =
-    let greeted = later h.guest.first header.kind header.kind is.header.in_turn refl (carried d header.kind is.kind) in
+    let greeted = later h.guest.first header.kind header.kind (header_says is.header).in_turn refl (carried d header.kind is.kind) in
     keeps-all h (data_move h header.id (asking_of d)) h.unplugged sound
     (data-keeps h header.id d sound greeted (subst (λ (b : Bool). IdFits (is_wide b h.guest.caps) header.id) greeted is.header.id_fits) is.fits)

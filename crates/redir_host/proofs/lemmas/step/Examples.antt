@@ -3,6 +3,7 @@ use Rattle.std.proofs.Common.{◌≡◌, ℕ, List, [], ◌∷◌, ◌++◌, tak
 use Rattle.usb_base.specs.Number.{le, le_at}
 use Rattle.usb_base.specs.declared.reason.Reason.TheVariants.{UnknownType}
 use Rattle.packet_stream.specs.Split.{split}
+use Rattle.redir_wire.specs.Words.{numbers_of}
 use Rattle.redir_wire.specs.Table.{plain_numbered, data_numbered}
 use Rattle.control_route.specs.Routes.{route_of}
 use Rattle.model_device.specs.Device.{meaning_of, first_state}
@@ -66,16 +67,16 @@ unfolding sent loopback le
 none = refl
 
 hello : sent (Piece gh ∷ []) ≡ hg ++ epu ++ iiu ++ dc10
-unfolding sent loopback le le_at split column plain_numbered data_numbered
+unfolding sent loopback le le_at split column plain_numbered data_numbered numbers_of
 hello = refl
 
 -- the packets come whole however their bytes are cut
 cut : more (Piece (take 20 gh) ∷ []) (Piece (drop 20 gh)) ≡ epu ++ iiu ++ dc10
-unfolding more loopback le le_at split column plain_numbered data_numbered
+unfolding more loopback le le_at split column plain_numbered data_numbered numbers_of
 cut = refl
 
 wrong : told (Piece gh ∷ []) (Piece (head 30 0 7)) ≡ Refused 80 UnknownType ∷ []
-unfolding told loopback le le_at split column plain_numbered data_numbered
+unfolding told loopback le le_at split column plain_numbered data_numbered numbers_of
 wrong = refl
 
 -- set_configuration 1
@@ -86,7 +87,7 @@ abbrev configured : List Act
 configured = Perform 0 ∷ configures
 
 set : more configures (Perform 0x80) ≡ epl ++ ii8 ++ head 8 2 1 ++ 0 ∷ 1 ∷ []
-unfolding more loopback le le_at split column plain_numbered data_numbered route_of
+unfolding more loopback le le_at split column plain_numbered data_numbered numbers_of route_of
 set = refl
 
 -- four bytes to endpoint 1
@@ -94,11 +95,11 @@ abbrev gives : List Act
 gives = Piece (head 0x65 14 2 ++ 1 ∷ 0 ∷ 4 ∷ replicate 7 0 ++ 0xa1 ∷ 0xa2 ∷ 0xa3 ∷ 0xa4 ∷ []) ∷ configured
 
 given : more gives (Perform 1) ≡ head 0x65 10 2 ++ 1 ∷ 0 ∷ 4 ∷ replicate 7 0
-unfolding more loopback le le_at split column plain_numbered data_numbered route_of
+unfolding more loopback le le_at split column plain_numbered data_numbered numbers_of route_of
 given = refl
 
 unplugged : more (Perform 1 ∷ gives) Unplug ≡ head 2 0 0
-unfolding more loopback le le_at split column plain_numbered data_numbered route_of
+unfolding more loopback le le_at split column plain_numbered data_numbered numbers_of route_of
 unplugged = refl
 
 -- four bytes of endpoint 0x81, which the loop doesn't have yet
@@ -106,16 +107,16 @@ abbrev wants : List Act
 wants = Piece (head 0x65 10 3 ++ 0x81 ∷ 0 ∷ 4 ∷ replicate 7 0) ∷ configured
 
 cancelled : more wants (Piece (head 0x15 0 3)) ≡ head 0x65 10 3 ++ 0x81 ∷ 1 ∷ replicate 8 0
-unfolding more loopback le le_at split column plain_numbered data_numbered route_of
+unfolding more loopback le le_at split column plain_numbered data_numbered numbers_of route_of
 cancelled = refl
 
 noted : told wants (Piece (head 0x15 0 3)) ≡ Cancelled 3 ∷ []
-unfolding told loopback le le_at split column plain_numbered data_numbered route_of
+unfolding told loopback le le_at split column plain_numbered data_numbered numbers_of route_of
 noted = refl
 
 -- a reset and a get_configuration: the reset alone is performed, and flushes what waits
 reset : more (Piece (head 3 0 4 ++ head 7 0 5) ∷ wants) (Perform 0) ≡ head 0x65 10 3 ++ 0x81 ∷ 1 ∷ replicate 8 0 ++ epu ++ iiu ++ head 8 2 5 ++ 0 ∷ 0 ∷ []
-unfolding more loopback le le_at split column plain_numbered data_numbered route_of
+unfolding more loopback le le_at split column plain_numbered data_numbered numbers_of route_of
 reset = refl
 
 -- ---- a host of the keyboard
@@ -125,9 +126,9 @@ unfolding keyboard
 types acts a = act_bytes (meaning_of keyboard) (first_state keyboard) acts a
 
 started : types configured (Piece (head 0x0f 1 2 ++ 0x81 ∷ [])) ≡ head 0x11 2 2 ++ 0 ∷ 0x81 ∷ []
-unfolding types keyboard le le_at split column plain_numbered data_numbered route_of
+unfolding types keyboard le le_at split column plain_numbered data_numbered numbers_of route_of
 started = refl
 
 offered : types (Piece (head 0x0f 1 2 ++ 0x81 ∷ []) ∷ configured) (Offer 0x81) ≡ head 0x67 12 0 ++ 0x81 ∷ 0 ∷ 8 ∷ 0 ∷ 0 ∷ 0 ∷ 4 ∷ replicate 5 0
-unfolding types keyboard le le_at split column plain_numbered data_numbered route_of
+unfolding types keyboard le le_at split column plain_numbered data_numbered numbers_of route_of
 offered = refl

@@ -14,6 +14,7 @@ use Rattle.redir_wire.specs.declared.packet.RedirControl.TheVariants as plain
 use Rattle.redir_wire.specs.declared.packet.Way.TheVariants.{ToGuest, ToHost}
 use Rattle.redir_wire.specs.Header.{IdFits, is_wide}
 use Rattle.redir_wire.specs.Spelling.{is_hello}
+use Rattle.redir_wire.proofs.Says.{header_says}
 use Rattle.redir_data.specs.declared.packet.RedirData.{RedirData}
 use Rattle.redir_data.specs.declared.packet.RedirData.TheVariants as moving
 use Rattle.redir_data.specs.declared.packet.RedirPacket.{RedirPacket}
@@ -123,7 +124,7 @@ hello-read {S = S} m lawful h g xs first greeted before b fit = subst (λ (l : L
 later-read : {S : Type 0} (m : Meaning S) (h : Host S) (header : Header) (c : RedirControl) (number : ℕ) (xs : List (ℕ × RedirPacket)) → IsSound h → IsTaken h.guest header (Plain c) → header.kind ≡ number → (number == 0) ≡ false → is_hello c ≡ false → AreRead h.guest xs →
     AreRead h.guest (xs ++ (cond h.unplugged (quiet h) (plain_move m h header.id c)).sent)
 later-read m h header c number xs sound is kind other same before =
-    let greeted = later h.guest.first header.kind number is.header.in_turn kind other in
+    let greeted = later h.guest.first header.kind number (header_says is.header).in_turn kind other in
     read-more h.guest xs (cond h.unplugged (quiet h) (plain_move m h header.id c)).sent before
     (read-all h (plain_move m h header.id c) h.unplugged greeted (plain-read m h header.id c same sound (subst (λ (b : Bool). IdFits (is_wide b h.guest.caps) header.id) greeted is.header.id_fits)))
 
@@ -131,7 +132,7 @@ pub packet-read : {S : Type 0} (m : Meaning S) → IsGadget m → (h : Host S) (
     AreRead (advanced h.guest p) (xs ++ (packet_move m h header.id p).sent)
 packet-read {S = S} m lawful h header (Plain (plain.Hello x)) xs sound is fit before =
     let g : Host S = record h { guest = advanced h.guest (Plain (plain.Hello x)) } in
-    hello-read m lawful h g xs (earlier h.guest.first header.kind is.header.in_turn is.kind) refl before h.unplugged fit
+    hello-read m lawful h g xs (earlier h.guest.first header.kind (header_says is.header).in_turn is.kind) refl before h.unplugged fit
 packet-read m lawful h header (Plain (plain.Connect x)) xs sound is fit before = later-read m h header (plain.Connect x) 1 xs sound is is.kind refl refl before
 packet-read m lawful h header (Plain plain.Disconnect) xs sound is fit before = later-read m h header plain.Disconnect 2 xs sound is is.kind refl refl before
 packet-read m lawful h header (Plain plain.Reset) xs sound is fit before = later-read m h header plain.Reset 3 xs sound is is.kind refl refl before
@@ -152,6 +153,6 @@ packet-read m lawful h header (Plain (plain.InterruptStatus status ep)) xs sound
 packet-read m lawful h header (Plain plain.Cancel) xs sound is fit before = later-read m h header plain.Cancel 21 xs sound is is.kind refl refl before
 packet-read m lawful h header (Plain plain.DisconnectAck) xs sound is fit before = later-read m h header plain.DisconnectAck 24 xs sound is is.kind refl refl before
 packet-read m lawful h header (Carrying d) xs sound is fit before =
-    let greeted = later h.guest.first header.kind header.kind is.header.in_turn refl (carried d header.kind is.kind) in
+    let greeted = later h.guest.first header.kind header.kind (header_says is.header).in_turn refl (carried d header.kind is.kind) in
     read-more h.guest xs (cond h.unplugged (quiet h) (data_move h header.id (asking_of d))).sent before
     (read-all h (data_move h header.id (asking_of d)) h.unplugged greeted (data-read h header.id d (subst (λ (b : Bool). IdFits (is_wide b h.guest.caps) header.id) greeted is.header.id_fits) is.fits))
