@@ -1,4 +1,5 @@
 -- The gateway reads a packet of a stream: it is held, or lost, and what is held fills those that wait.
+use Rattle.std.specs.Bool.{beq}
 use Rattle.std.proofs.Common.{◌≡◌, ℕ, suc, ◌≤◌, ◌==◌, ◌&&◌, not, nat_lt, Bool, true, false, cond, List, [], ◌∷◌, ◌++◌, map, filter, Option, Some, None, is_none, refl, sym, ap, ◌∙◌, arith, append-nil}
 use Rattle.std.specs.Option.{option_map}
 use Rattle.std.specs.List.{flat_map}
@@ -82,9 +83,14 @@ arrives-as st k ep p up kind = held k kind ∙ by (is_full up.held)
     full : Bool → Effect
     full b = Arrives ep (cond (not b) (fill up.row.max_packet (waiting st ep) (up.held ++ p ∷ [])) (none_filled up.held))
 
+    alike : (k : StreamKind) (b : Bool) → beq (kind_iso k) b ≡ is_kind k b
+    alike Iso true = refl
+    alike Iso false = refl
+    alike Interrupt true = refl
+    alike Interrupt false = refl
+
     held : (k : StreamKind) → is_kind k (is_iso up.row.kind) ≡ true → arrives st ep (kind_iso k) p (Some up) ≡ Arrives ep (cond (not (is_full up.held)) (fill up.row.max_packet (waiting st ep) (up.held ++ p ∷ [])) (none_filled up.held))
-    held Iso e = λ i. Arrives ep (cond (e i && not (is_full up.held)) (fill up.row.max_packet (waiting st ep) (up.held ++ p ∷ [])) (none_filled up.held))
-    held Interrupt e = λ i. Arrives ep (cond (e i && not (is_full up.held)) (fill up.row.max_packet (waiting st ep) (up.held ++ p ∷ [])) (none_filled up.held))
+    held k e = ap (λ (b : Bool). Arrives ep (cond (b && not (is_full up.held)) (fill up.row.max_packet (waiting st ep) (up.held ++ p ∷ [])) (none_filled up.held))) (alike k (is_iso up.row.kind) ∙ e)
 
     by : (b : Bool) → Arrives ep (cond (not b) (fill up.row.max_packet (waiting st ep) (up.held ++ p ∷ [])) (none_filled up.held)) ≡ Arrives ep (filling_of st ep p up b)
     by true = refl
