@@ -1,4 +1,4 @@
-//! The streams of packets, one a way.
+//! The streams of packets, of either sender.
 
 ghost use Rattle.std.specs.Prelude.{◌≡◌};
 ghost use Rattle.redir_wire.specs.declared.packet.Way.TheVariants.{ToGuest, ToHost};
@@ -13,6 +13,7 @@ use crate::state::RedirState;
 use packet_stream::{PacketFormat, Read, ReadError};
 use redir_wire::{ANNOUNCED, Caps, Header, RedirControl, Way};
 use std::alloc::Global;
+use std::marker::PhantomData;
 use usb_base::Bytes;
 
 impl RedirState {
@@ -39,48 +40,50 @@ impl RedirState {
     }
 }
 
-/// What a host sends, as its guest reads it.
-pub struct FromHost;
+/// Whose packets a stream has: which way they go.
+pub trait Sender {
+    ghost use Rattle.redir_wire.specs.declared.packet.Way.{Way as AWay};
 
-impl PacketFormat for FromHost {
-    type State = RedirState;
+    ghost WAY: { AWay };
 
-    type Packet = (Header, RedirPacket);
-
-    ghost format = { stream_format ToGuest };
-
-    ghost after = { after_packet };
-
-    ghost takes_memory = { packet_takes_memory };
-
-    fn take(
-        alloc: Global,
-        state: &RedirState,
-        bytes: &mut Bytes,
-    ) -> Result<Read<(Header, RedirPacket)>, ReadError> {
-        take_redir(alloc, state.first, state.caps, Way::ToGuest, bytes)
-    }
-
-    fn awaited(state: &RedirState, bytes: &[u8]) -> usize {
-        next_redir(state.first, state.caps, Way::ToGuest, bytes)
-    }
-
-    fn next(state: &mut RedirState, packet: &(Header, RedirPacket)) {
-        state.advance(&packet.1);
-    }
-
-    ghost sound = { stream_sound ToGuest };
+    const WAY: Way;
 }
 
-/// What a guest sends, as its host reads it.
-pub struct FromGuest;
+/// A host, whose packets its guest reads.
+pub struct Host;
 
-impl PacketFormat for FromGuest {
+impl Sender for Host {
+    ghost WAY = { ToGuest };
+
+    const WAY: Way = Way::ToGuest;
+}
+
+/// A guest, whose packets its host reads.
+pub struct Guest;
+
+impl Sender for Guest {
+    ghost WAY = { ToHost };
+
+    const WAY: Way = Way::ToHost;
+}
+
+/// What this sender's stream has: a hello, and then packets with the capabilities that are agreed.
+pub struct SentBy<S: Sender> {
+    sender: PhantomData<S>,
+}
+
+/// What a host sends, as its guest reads it.
+pub type FromHost = SentBy<Host>;
+
+/// What a guest sends, as its host reads it.
+pub type FromGuest = SentBy<Guest>;
+
+impl<S: Sender> PacketFormat for SentBy<S> {
     type State = RedirState;
 
     type Packet = (Header, RedirPacket);
 
-    ghost format = { stream_format ToHost };
+    ghost format = { stream_format S.WAY };
 
     ghost after = { after_packet };
 
@@ -91,16 +94,16 @@ impl PacketFormat for FromGuest {
         state: &RedirState,
         bytes: &mut Bytes,
     ) -> Result<Read<(Header, RedirPacket)>, ReadError> {
-        take_redir(alloc, state.first, state.caps, Way::ToHost, bytes)
+        take_redir(alloc, state.first, state.caps, S::WAY, bytes)
     }
 
     fn awaited(state: &RedirState, bytes: &[u8]) -> usize {
-        next_redir(state.first, state.caps, Way::ToHost, bytes)
+        next_redir(state.first, state.caps, S::WAY, bytes)
     }
 
     fn next(state: &mut RedirState, packet: &(Header, RedirPacket)) {
         state.advance(&packet.1);
     }
 
-    ghost sound = { stream_sound ToHost };
+    ghost sound = { stream_sound S.WAY };
 }
