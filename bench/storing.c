@@ -3,9 +3,9 @@
        storing FAR NEAR
 
    listens at port NEAR of 127.0.0.1 for one USB/IP client, behind whom a server is dialled at port FAR, and ends with
-   either link. It knows of a packet how long it is, and nothing else: so it shows what storing alone costs. A read brings
-   65,536 bytes at most, straight into the memory in which packets lie; those that are whole go out in one call, and what
-   is behind them is moved to the front. */
+   either link. It knows of a packet how long it is, and nothing else: so it shows what storing alone costs. A read
+   brings 65,536 bytes at most, straight into the memory in which packets lie; those that are whole go out in one call,
+   and what is behind them is moved to the front. */
 #define _GNU_SOURCE
 #include <arpa/inet.h>
 #include <endian.h>
