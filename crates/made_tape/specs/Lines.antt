@@ -5,24 +5,19 @@ use Rattle.std.specs.Fmt.{decimal}
 use Rattle.hex.specs.Hex.{encode_lower}
 use Rattle.packet_show.specs.declared.tape.TapeLine.{TapeLine}
 use Rattle.packet_show.specs.declared.tape.TapeLine.TheVariants as line
-use Rattle.packet_show.specs.Line.{LF, SPACE}
-use Rattle.packet_show.specs.Tape.{LETTER_C, LETTER_G, LETTER_H, LETTER_O, LETTER_P}
-
--- a letter and, behind a space, what is said
-abbrev pub lettered : ℕ → List ℕ → List ℕ
-lettered letter text = letter ∷ SPACE ∷ text
+use Rattle.packet_show.specs.Line.{LF}
 
 -- a line without its LF: bytes are in lower-case hexadecimal, numbers in decimal
 abbrev pub words_of : TapeLine → List ℕ
 words_of line.Skip = []
-words_of (line.Client bytes) = lettered LETTER_C (encode_lower bytes)
+words_of (line.Client bytes) = codes "c " ++ encode_lower bytes
 words_of line.ClientEnd = codes "c."
-words_of (line.Host bytes) = lettered LETTER_H (encode_lower bytes)
+words_of (line.Host bytes) = codes "h " ++ encode_lower bytes
 words_of line.HostEnd = codes "h."
-words_of (line.ToHost n) = lettered LETTER_G (decimal n)
-words_of (line.ToGate n) = lettered LETTER_H (decimal n)
-words_of (line.Perform ep) = lettered LETTER_P (encode_lower (ep ∷ []))
-words_of (line.Offer ep) = lettered LETTER_O (encode_lower (ep ∷ []))
+words_of (line.ToHost n) = codes "g " ++ decimal n
+words_of (line.ToGate n) = codes "h " ++ decimal n
+words_of (line.Perform ep) = codes "p " ++ encode_lower (ep ∷ [])
+words_of (line.Offer ep) = codes "o " ++ encode_lower (ep ∷ [])
 words_of line.Unplug = codes "x"
 
 abbrev pub line_of : TapeLine → List ℕ

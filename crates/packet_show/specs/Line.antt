@@ -1,5 +1,5 @@
 -- A line that shows a packet: its place in its stream, its name and its fields, a space between two words, and LF.
-use Rattle.std.specs.Prelude.{ℕ, List, [], ◌∷◌, ◌++◌, map, codes}
+use Rattle.std.specs.Prelude.{ℕ, List, [], ◌∷◌, ◌++◌, map, codes, slice_index}
 use Rattle.std.specs.List.{join_with_byte}
 pub use Rattle.std.specs.Fmt.{decimal}
 use Rattle.hex.specs.Hex.{encode_lower}
@@ -9,6 +9,10 @@ LF = 10
 
 abbrev pub SPACE : ℕ
 SPACE = 32
+
+-- the byte that this text of one letter has
+abbrev pub letter : List ℕ → ℕ
+letter text = slice_index text 0
 
 -- numbers in decimal
 abbrev pub numbers : List ℕ → List (List ℕ)

@@ -2,7 +2,7 @@
 -- `c HEX` and `h HEX`, pieces of the client's and the host's stream, and `c.` and `h.`, their ends. A tape for a
 -- modelled host has `c HEX` and `c.`, `g N` and `h N`, bytes that go to the host and to the gateway, `p EP` and `o EP`,
 -- a transfer that is performed and a packet that is offered, and `x`, the unplugging.
-use Rattle.std.specs.Prelude.{ℕ, ◌%◌, ◌==◌, nat_lt, Bool, true, false, if◌then◌else◌, List, [], ◌∷◌, Option, Some, None, option_map, Result, Ok, Err}
+use Rattle.std.specs.Prelude.{ℕ, ◌%◌, ◌==◌, nat_lt, Bool, true, false, if◌then◌else◌, List, [], ◌∷◌, Option, Some, None, option_map, Result, Ok, Err, codes}
 use Rattle.hex.specs.Hex.{decode_of, decode_sized}
 use Rattle.usb_base.specs.declared.memory.Memory.{Memory}
 use Rattle.hex.specs.declared.error.FromHexError.{FromHexError}
@@ -10,51 +10,23 @@ use Rattle.packet_show.specs.declared.tape.TapeKind.{TapeKind}
 use Rattle.packet_show.specs.declared.tape.TapeKind.TheVariants.{Replay, Model}
 use Rattle.packet_show.specs.declared.tape.TapeLine.{TapeLine}
 use Rattle.packet_show.specs.declared.tape.TapeLine.TheVariants.{Skip, Client, ClientEnd, Host, HostEnd, ToHost, ToGate, Perform, Offer, Unplug}
-use Rattle.packet_show.specs.Line.{SPACE}
+use Rattle.packet_show.specs.Line.{SPACE, letter}
 use Rattle.packet_show.specs.Number.{number_of}
-
--- ---- the bytes with a meaning, by ASCII
-
-abbrev pub HASH : ℕ
-HASH = 35
-
-abbrev pub DOT : ℕ
-DOT = 46
-
-abbrev pub LETTER_C : ℕ
-LETTER_C = 99
-
-abbrev pub LETTER_G : ℕ
-LETTER_G = 103
-
-abbrev pub LETTER_H : ℕ
-LETTER_H = 104
-
-abbrev pub LETTER_O : ℕ
-LETTER_O = 111
-
-abbrev pub LETTER_P : ℕ
-LETTER_P = 112
-
-abbrev pub LETTER_X : ℕ
-LETTER_X = 120
 
 -- ---- what stands behind a letter
 
 -- HEX: the hexadecimal digits, of either case, of a byte at least
 abbrev pub some_bytes : Result (List ℕ) FromHexError → Option (List ℕ)
-some_bytes (Ok []) = None
 some_bytes (Ok (b ∷ bs)) = Some (b ∷ bs)
-some_bytes (Err e) = None
+some_bytes _ = None
 
 abbrev pub bytes_of : List ℕ → Option (List ℕ)
 bytes_of digits = some_bytes (decode_of digits)
 
 -- EP: the two hexadecimal digits of an endpoint's address, whose bits 4 to 6 are all 0
 abbrev pub address : Result (List ℕ) FromHexError → Option ℕ
-address (Ok []) = None
 address (Ok (byte ∷ bytes)) = if nat_lt (byte % 128) 16 then Some byte else None
-address (Err e) = None
+address _ = None
 
 abbrev pub endpoint_of : List ℕ → Option ℕ
 endpoint_of digits = address (decode_sized digits 1)
@@ -72,22 +44,22 @@ with_argument line (b ∷ bs) = if b == SPACE then line bs else None
 -- a space and a piece of a stream, or a `.` and nothing
 abbrev pub of_stream : (List ℕ → TapeLine) → TapeLine → List ℕ → Option TapeLine
 of_stream piece end [] = None
-of_stream piece end (b ∷ bs) = if b == SPACE then option_map piece (bytes_of bs) else if b == DOT then alone end bs else None
+of_stream piece end (b ∷ bs) = if b == SPACE then option_map piece (bytes_of bs) else if b == letter (codes ".") then alone end bs else None
 
 -- ---- the lines that only one kind of tape has
 
 abbrev pub replay_line : List ℕ → Option TapeLine
 replay_line [] = None
-replay_line (b ∷ bs) = if b == LETTER_H then of_stream Host HostEnd bs else None
+replay_line (b ∷ bs) = if b == letter (codes "h") then of_stream Host HostEnd bs else None
 
 abbrev pub model_line : List ℕ → Option TapeLine
 model_line [] = None
 model_line (b ∷ bs) =
-    if b == LETTER_G then with_argument (λ text. option_map ToHost (number_of text)) bs
-    else if b == LETTER_H then with_argument (λ text. option_map ToGate (number_of text)) bs
-    else if b == LETTER_P then with_argument (λ digits. option_map Perform (endpoint_of digits)) bs
-    else if b == LETTER_O then with_argument (λ digits. option_map Offer (endpoint_of digits)) bs
-    else if b == LETTER_X then alone Unplug bs
+    if b == letter (codes "g") then with_argument (λ text. option_map ToHost (number_of text)) bs
+    else if b == letter (codes "h") then with_argument (λ text. option_map ToGate (number_of text)) bs
+    else if b == letter (codes "p") then with_argument (λ digits. option_map Perform (endpoint_of digits)) bs
+    else if b == letter (codes "o") then with_argument (λ digits. option_map Offer (endpoint_of digits)) bs
+    else if b == letter (codes "x") then alone Unplug bs
     else None
 
 abbrev pub kind_line : TapeKind → List ℕ → Option TapeLine
@@ -98,20 +70,13 @@ kind_line Model line = model_line line
 
 abbrev pub tape_line : TapeKind → List ℕ → Option TapeLine
 tape_line kind [] = Some Skip
-tape_line kind (b ∷ bs) = if b == HASH then Some Skip else if b == LETTER_C then of_stream Client ClientEnd bs else kind_line kind (b ∷ bs)
+tape_line kind (b ∷ bs) = if b == letter (codes "#") then Some Skip else if b == letter (codes "c") then of_stream Client ClientEnd bs else kind_line kind (b ∷ bs)
 
 -- the line brings bytes, for which memory is needed
 abbrev pub has_bytes : TapeLine → Bool
-has_bytes Skip = false
 has_bytes (Client bytes) = true
-has_bytes ClientEnd = false
 has_bytes (Host bytes) = true
-has_bytes HostEnd = false
-has_bytes (ToHost n) = false
-has_bytes (ToGate n) = false
-has_bytes (Perform ep) = false
-has_bytes (Offer ep) = false
-has_bytes Unplug = false
+has_bytes _ = false
 
 abbrev pub takes_memory : Option TapeLine → Bool
 takes_memory None = false

@@ -1,14 +1,14 @@
 //! The line of a URB request.
 
-ghost use Rattle.std.specs.Prelude.{◌≡◌, ◌++◌, IfOk, map, string_bytes};
+ghost use Rattle.std.specs.Prelude.{◌≡◌, ◌++◌, ◌∷◌, IfOk, map, string_bytes};
 ghost use Rattle.packet_stream.specs.Writes.{Appends, AppendsSome};
-ghost use Rattle.packet_show.specs.Line.{decimal, spaced_words};
+ghost use Rattle.packet_show.specs.Line.{decimal, numbers, spaced_words};
 ghost use Rattle.packet_show.specs.Urb.{IsRequest, urb_line, urb_words, submit_words, unlink_words, desc_word};
 
 use crate::line::{end_line, push_begin, push_bytes, push_numbers, push_word};
 use std::alloc::Global;
 use usb_base::{Bytes, Memory};
-use usbip_urb::{IsoDesc, Submit, Unlink, UrbPacket};
+use usbip_urb::{Head, IsoDesc, Submit, Unlink, UrbPacket};
 
 /// Appends the line of a request, whose first byte stands at `place` of its stream. For want of memory `out`
 /// stands.
@@ -48,22 +48,14 @@ fn push_request(
 fn push_submit(alloc: Global, place: u64, submit: &Submit, out: &mut Bytes) -> Result<(), Memory>
     ensures { AppendsSome result out.old out.new (decimal place ++ spaced_words (submit_words submit.now)) }
 {
-    let head = &submit.head;
-    push_begin(place, "SUBMIT", out)?;
-    push_numbers(
-        &[
-            head.seqnum,
-            head.devid,
-            head.direction,
-            head.ep,
-            submit.flags,
-            submit.length,
-            submit.start_frame,
-            submit.packets,
-            submit.interval,
-        ],
-        out,
-    )?;
+    let fields = [
+        submit.flags,
+        submit.length,
+        submit.start_frame,
+        submit.packets,
+        submit.interval,
+    ];
+    push_head(place, "SUBMIT", &submit.head, &fields, out)?;
     push_bytes(alloc, &submit.setup, out)?;
     push_bytes(alloc, submit.body.as_slice(), out)?;
     push_descs(alloc, submit.descs.as_slice(), out)?;
@@ -74,19 +66,24 @@ fn push_submit(alloc: Global, place: u64, submit: &Submit, out: &mut Bytes) -> R
 fn push_unlink(alloc: Global, place: u64, unlink: &Unlink, out: &mut Bytes) -> Result<(), Memory>
     ensures { AppendsSome result out.old out.new (decimal place ++ spaced_words (unlink_words unlink.now)) }
 {
-    let head = &unlink.head;
-    push_begin(place, "UNLINK", out)?;
-    push_numbers(
-        &[
-            head.seqnum,
-            head.devid,
-            head.direction,
-            head.ep,
-            unlink.target,
-        ],
-        out,
-    )?;
+    push_head(place, "UNLINK", &unlink.head, &[unlink.target], out)?;
     push_bytes(alloc, &unlink.pad, out)?;
+    Ok(())
+}
+
+/// Appends what a request's line begins with: its place, its name, the numbers of its head, and those behind them.
+fn push_head(
+    place: u64,
+    name: &str,
+    head: &Head,
+    fields: &[u32],
+    out: &mut Bytes,
+) -> Result<(), Memory>
+    ensures { AppendsSome result out.old out.new (decimal place ++ spaced_words (name.now ∷ numbers (head.now.seqnum ∷ head.now.devid ∷ head.now.direction ∷ head.now.ep ∷ fields.now))) }
+{
+    push_begin(place, name, out)?;
+    push_numbers(&[head.seqnum, head.devid, head.direction, head.ep], out)?;
+    push_numbers(fields, out)?;
     Ok(())
 }
 

@@ -3,9 +3,10 @@ use Rattle.std.specs.Prelude.{◌≡◌, ◌<◌, ◌^◌, ℕ, Bool, true, fals
 use Rattle.redir_wire.specs.declared.packet.Caps.{Caps}
 use Rattle.redir_wire.specs.declared.packet.Way.{Way}
 use Rattle.redir_wire.specs.Capability.{has}
+use Rattle.redir_wire.specs.Field.{AreInRange}
 use Rattle.redir_data.specs.declared.packet.RedirData.{RedirData}
 use Rattle.redir_data.specs.declared.packet.RedirData.TheVariants as moving
-use Rattle.redir_data.specs.Spelling.{form_of, data_count}
+use Rattle.redir_data.specs.Spelling.{form_of, data_count, fixed_of}
 
 -- ---- what a sender keeps to, beside the ranges that the types of the code have
 
@@ -24,20 +25,9 @@ HasItsData way d = length (form_of d).body ≡ data_count way (form_of d).endpoi
 
 -- ---- the ranges of the types
 
-pub record ControlRanges (value index told : ℕ) : Type 0 where
-  pub value_fits : value < 2 ^ 16
-  pub index_fits : index < 2 ^ 16
-  pub length_fits : told < 2 ^ 16
-
-pub record BulkRanges (told stream : ℕ) : Type 0 where
-  pub length_fits : told < 2 ^ 32
-  pub stream_fits : stream < 2 ^ 32
-
+-- those of its fields, where all are there
 abbrev pub Ranges : RedirData → Type 0
-Ranges (moving.Control endpoint request kind status value index told body) = ControlRanges value index told
-Ranges (moving.Bulk endpoint status told stream body) = BulkRanges told stream
-Ranges (moving.Iso endpoint status told body) = told < 2 ^ 16
-Ranges (moving.Interrupt endpoint status told body) = told < 2 ^ 16
+Ranges d = AreInRange (fixed_of true d)
 
 pub record IsData (caps : Caps) (way : Way) (d : RedirData) : Type 0 where
   pub ranges : Ranges d

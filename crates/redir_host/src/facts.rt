@@ -4,7 +4,7 @@ ghost use Rattle.std.specs.Prelude.{◌≡◌, ◌++◌, ◌≤◌, ◌<◌, ◌
 ghost use Rattle.usb_base.specs.Endpoint.{no_endpoint};
 ghost use Rattle.redir_wire.specs.Begins.{Begins};
 ghost use Rattle.redir_wire.specs.Capability.{has};
-ghost use Rattle.redir_wire.specs.Ranges.{ConnectRanges, EpRanges, InterfaceRanges};
+ghost use Rattle.redir_wire.specs.Ranges.{Ranges};
 ghost use Rattle.redir_host.specs.device.Facts.{connect_of, ep_info_of, kind_byte};
 ghost use Rattle.redir_host.specs.write.Told.{facts_bytes, connect_bytes};
 
@@ -24,7 +24,7 @@ pub fn write_facts(
 ) -> Result<(), Memory>
     requires { interfaces.count ≤ 32 }
     ensures ok { OnOk result (out.new ≡ out.old ++ facts_bytes caps table.now interfaces) }
-    ensures ranges { OnOk result (EpRanges (ep_info_of caps table.now) × InterfaceRanges interfaces) }
+    ensures ranges { OnOk result (Ranges (RedirControl.EpInfo (ep_info_of caps table.now)) × Ranges (RedirControl.InterfaceInfo interfaces)) }
     ensures err { OnErr result (Begins out.old out.new) }
 {
     let endpoints = RedirPacket::Plain(RedirControl::EpInfo(ep_info(table, caps)));
@@ -37,7 +37,7 @@ pub fn write_facts(
 /// Appends what the device tells as it is plugged in. For want of memory `out` stands.
 pub fn write_connect(identity: Connect, caps: Caps, out: &mut Bytes) -> Result<(), Memory>
     ensures ok { OnOk result (out.new ≡ out.old ++ connect_bytes caps identity) }
-    ensures ranges { OnOk result (ConnectRanges (connect_of caps identity)) }
+    ensures ranges { OnOk result (Ranges (RedirControl.Connect (connect_of caps identity))) }
     ensures err { OnErr result (out.new ≡ out.old) }
 {
     let connect = RedirPacket::Plain(RedirControl::Connect(connect_of(identity, caps)));
@@ -47,7 +47,7 @@ pub fn write_connect(identity: Connect, caps: Caps, out: &mut Bytes) -> Result<(
 /// What the guest is told of the endpoints.
 fn ep_info(table: &EpTable, caps: Caps) -> EpInfo
     ensures info { result ≡ ep_info_of caps table.now }
-    ensures ranges { EpRanges result }
+    ensures ranges { Ranges (RedirControl.EpInfo result) }
 {
     let mut info = EpInfo {
         kinds: [0; 32],

@@ -7,7 +7,7 @@ use Rattle.std.proofs.lemmas.Grind.{common_steps}
 use Rattle.std.proofs.lemmas.List.{append-nil, drop-drop, take_at, drop_at}
 use Rattle.std.proofs.lemmas.Nat.{from_le_bytes-to_le_bytes_2, from_le_bytes-to_le_bytes_4}
 use Rattle.usb_base.specs.Number.{le, le_at, byte_at, part, AreBytes}
-use Rattle.usb_base.proofs.Numbers.{AreBytes-drop, length-part, part_past, then, join, le_spelled_16, le_spelled_32, le_at-below_16}
+use Rattle.usb_base.proofs.Numbers.{AreBytes-drop, length-part, part_past, then, join, le_spelled_16, le_spelled_32, le_at-below_16, le_at-below_32}
 use Rattle.redir_wire.specs.declared.packet.Caps.{Caps}
 use Rattle.redir_wire.specs.declared.packet.Hello.{Hello}
 use Rattle.redir_wire.specs.declared.packet.Connect.{Connect}
@@ -22,7 +22,7 @@ use Rattle.redir_wire.specs.Table.{plain_row, has_length}
 use Rattle.redir_wire.specs.Words.{numbers, numbers_of}
 use Rattle.redir_wire.specs.Field.{wire_bytes}
 use Rattle.redir_wire.specs.Spelling.{kind_of, number_of, fields}
-use Rattle.redir_wire.specs.Ranges.{IsSent, IsWritable, Ranges, HelloRanges, ConnectRanges, InterfaceRanges, EpRanges, IsControl}
+use Rattle.redir_wire.specs.Ranges.{IsSent, IsWritable, Ranges, IsControl}
 use Rattle.redir_wire.specs.Places.{hello_at, connect_at, interface_info_at, ep_info_at}
 use Rattle.redir_wire.specs.Table.{fields_at}
 use Rattle.redir_wire.proofs.Lengths.{connect_fields, interface_fields, endpoint_fields, length_fields}
@@ -57,21 +57,18 @@ connect_spelled false b are there =
     let numbers = join 4 2 2 b _ _ (le_spelled_16 4 b are (omega arith)) (join 6 2 0 b _ _ (le_spelled_16 6 b are (omega arith)) refl) in
     join 0 4 4 b _ _ (bytes_there 4 b (omega arith)) (join 4 4 0 b _ _ numbers refl)
 
-connect_ranges : (sent : Bool) (b : List ℕ) → AreBytes b → ConnectRanges (connect_at sent b)
-connect_ranges sent b are = record { vendor = le_at-below_16 4 b are; product = le_at-below_16 6 b are; version = (version_range sent b are).0 }
+connect_ranges : (sent : Bool) (b : List ℕ) → AreBytes b → Ranges (controls.Connect (connect_at sent b))
+connect_ranges sent b are = ((le_at-below_16 4 b are, (le_at-below_16 6 b are, tt)), (((version_range sent b are).0, tt), tt))
 
 interface_spelled : (b : List ℕ) → AreBytes b → 132 ≤ length b → wire_bytes (interface_fields (interface_info_at b)) ≡ take 132 b
 interface_spelled b are there =
     let count = join 0 4 0 b _ _ (le_spelled_32 0 b are (omega arith)) refl in
     join 0 4 128 b _ _ count (join 4 32 96 b _ _ refl (join 36 32 64 b _ _ refl (join 68 32 32 b _ _ refl (join 100 32 0 b _ _ refl refl))))
 
-interface_ranges : (b : List ℕ) → 132 ≤ length b → InterfaceRanges (interface_info_at b)
-interface_ranges b there = record {
-  interface = length-part 4 32 b (omega arith);
-  class = length-part 36 32 b (omega arith);
-  subclass = length-part 68 32 b (omega arith);
-  protocol = length-part 100 32 b (omega arith);
-}
+interface_ranges : (b : List ℕ) → AreBytes b → 132 ≤ length b → Ranges (controls.InterfaceInfo (interface_info_at b))
+interface_ranges b are there =
+    let table : (place : ℕ) → place ≤ 100 → length (part place 32 b) ≡ 32 = λ place early. length-part place 32 b (omega arith) in
+    ((le_at-below_32 0 b are, tt), (table 4 (omega arith), (table 36 (omega arith), (table 68 (omega arith), (table 100 (omega arith), tt)))))
 
 ep_spelled : (sent : Bool) (b : List ℕ) → AreBytes b → 96 + cond sent 64 0 ≤ length b → wire_bytes (endpoint_fields sent (ep_info_at sent b)) ≡ take (96 + cond sent 64 0) b
 ep_spelled true b are there =
@@ -79,27 +76,12 @@ ep_spelled true b are there =
     join 0 32 128 b _ _ refl (join 32 32 96 b _ _ refl (join 64 32 64 b _ _ refl (join 96 64 0 b _ _ sizes refl)))
 ep_spelled false b are there = join 0 32 64 b _ _ refl (join 32 32 32 b _ _ refl (join 64 32 0 b _ _ refl refl))
 
-ep_ranges : (sent : Bool) (b : List ℕ) → AreBytes b → 96 + cond sent 64 0 ≤ length b → EpRanges (ep_info_at sent b) × IsSent sent (replicate 32 0) (ep_info_at sent b).max_packet
-ep_ranges true b are there = (
-  record {
-    kinds = length-part 0 32 b (omega arith);
-    interval = length-part 32 32 b (omega arith);
-    interface = length-part 64 32 b (omega arith);
-    max_packet_count = length-numbers_of w16 32 (drop 96 b);
-    max_packet = numbers_ranges w16 halves_exact 32 (drop 96 b) (AreBytes-drop 96 b are);
-  },
-  tt,
-)
-ep_ranges false b are there = (
-  record {
-    kinds = length-part 0 32 b (omega arith);
-    interval = length-part 32 32 b (omega arith);
-    interface = length-part 64 32 b (omega arith);
-    max_packet_count = refl;
-    max_packet = zeros_fit 32;
-  },
-  refl,
-)
+ep_ranges : (sent : Bool) (b : List ℕ) → AreBytes b → 96 + cond sent 64 0 ≤ length b → Ranges (controls.EpInfo (ep_info_at sent b)) × IsSent sent (replicate 32 0) (ep_info_at sent b).max_packet
+ep_ranges true b are there =
+    let sizes = numbers_ranges w16 halves_exact 32 (drop 96 b) (AreBytes-drop 96 b are) in
+    ((length-part 0 32 b (omega arith), (length-part 32 32 b (omega arith), (length-part 64 32 b (omega arith), (length-numbers_of w16 32 (drop 96 b), sizes, tt)))), tt)
+ep_ranges false b are there =
+    ((length-part 0 32 b (omega arith), (length-part 32 32 b (omega arith), (length-part 64 32 b (omega arith), (refl, zeros_fit 32, tt)))), refl)
 
 -- how many words a hello of this length has
 abbrev word_count : ℕ → ℕ
@@ -131,7 +113,7 @@ hello_found caps n b are h there =
           ∙ ap (λ (m : ℕ). take m b) is;
       kind = refl;
       fits = record {
-        ranges = record { version = length-part 0 64 b (omega (arith, h.least)); words = numbers_ranges w32 words_exact count (drop 64 b) (AreBytes-drop 64 b are) };
+        ranges = (length-part 0 64 b (omega (arith, h.least)), numbers_ranges w32 words_exact count (drop 64 b) (AreBytes-drop 64 b are));
         writable = omega (arith, length-numbers_of w32 count (drop 64 b), h.most);
       };
     }
@@ -158,7 +140,7 @@ found_as caps n plain.InterfaceInfo b are e there few =
     record {
       spelled = interface_spelled b are (omega arith) ∙ ap (λ (m : ℕ). take m b) (sym is);
       kind = refl;
-      fits = record { ranges = interface_ranges b (omega arith); writable = few refl (omega arith) };
+      fits = record { ranges = interface_ranges b are (omega arith); writable = few refl (omega arith) };
     }
 found_as caps n plain.EpInfo b are e there few =
     let is = eqb-true n (96 + cond (has caps 4) 64 0) e in
@@ -175,12 +157,12 @@ found_as caps n k b are e there few = record { spelled = of_length n _ b _ e the
 count_of_length : (n : ℕ) → word_count (64 + n * 4) ≡ n
 count_of_length n = omega arith
 
-hello_again : (x : Hello) (more : List ℕ) (n : ℕ) → HelloRanges x → n ≡ 64 + length x.words * 4 → hello_at (word_count n) ((x.version ++ (numbers w32 x.words ++ [])) ++ more) ≡ x
+hello_again : (x : Hello) (more : List ℕ) (n : ℕ) → Ranges (controls.Hello x) → n ≡ 64 + length x.words * 4 → hello_at (word_count n) ((x.version ++ (numbers w32 x.words ++ [])) ++ more) ≡ x
 hello_again x more n r e =
     let all = append_assoc x.version (numbers w32 x.words ++ []) more ∙ ap (λ (l : List ℕ). x.version ++ (l ++ more)) (append-nil (numbers w32 x.words)) in
-    let version = ap (take 64) all ∙ take_at x.version (numbers w32 x.words ++ more) 64 r.version in
-    let behind = ap (drop 64) all ∙ drop_at x.version (numbers w32 x.words ++ more) 64 r.version in
-    let found = (λ i. numbers_of w32 ((ap word_count e ∙ count_of_length (length x.words)) i) (behind i)) ∙ numbers_again w32 words_exact x.words more r.words in
+    let version = ap (take 64) all ∙ take_at x.version (numbers w32 x.words ++ more) 64 r.0 in
+    let behind = ap (drop 64) all ∙ drop_at x.version (numbers w32 x.words ++ more) 64 r.0 in
+    let found = (λ i. numbers_of w32 ((ap word_count e ∙ count_of_length (length x.words)) i) (behind i)) ∙ numbers_again w32 words_exact x.words more r.1 in
     λ i. record { version = version i; words = found i }
 
 version_again : (sent : Bool) (c : Connect) (more : List ℕ) → c.version < 2 ^ 16 → IsSent sent 0 c.version → cond sent (le_at w16 8 (wire_bytes (connect_fields sent c) ++ more)) 0 ≡ c.version
@@ -198,11 +180,11 @@ unfolding le le_at
 product_again true c more fits = from_le_bytes-to_le_bytes_2 c.product fits
 product_again false c more fits = from_le_bytes-to_le_bytes_2 c.product fits
 
-connect_again : (sent : Bool) (c : Connect) (more : List ℕ) → ConnectRanges c → IsSent sent 0 c.version → connect_at sent (wire_bytes (connect_fields sent c) ++ more) ≡ c
+connect_again : (sent : Bool) (c : Connect) (more : List ℕ) → Ranges (controls.Connect c) → IsSent sent 0 c.version → connect_at sent (wire_bytes (connect_fields sent c) ++ more) ≡ c
 connect_again sent c more r is =
-    let vendor = vendor_again sent c more r.vendor in
-    let product = product_again sent c more r.product in
-    let version = version_again sent c more r.version is in
+    let vendor = vendor_again sent c more r.0.0 in
+    let product = product_again sent c more r.0.1.0 in
+    let version = version_again sent c more r.1.0.0 is in
     λ i. record { speed = c.speed; class = c.class; subclass = c.subclass; protocol = c.protocol; vendor = vendor i; product = product i; version = version i }
 
 -- fields behind others
@@ -219,42 +201,42 @@ count_again : (x : InterfaceInfo) (more : List ℕ) → x.count < 2 ^ 32 → le_
 unfolding le le_at
 count_again x more fits = from_le_bytes-to_le_bytes_4 x.count fits
 
-interface_again : (x : InterfaceInfo) (more : List ℕ) → InterfaceRanges x → x.count ≤ 32 → interface_info_at (wire_bytes (interface_fields x) ++ more) ≡ x
+interface_again : (x : InterfaceInfo) (more : List ℕ) → Ranges (controls.InterfaceInfo x) → x.count ≤ 32 → interface_info_at (wire_bytes (interface_fields x) ++ more) ≡ x
 unfolding le
 interface_again x more r few =
     let protocol = x.protocol ++ [] in
     let subclass = x.subclass ++ protocol in
     let class = x.class ++ subclass in
     let count_is = count_again x more (omega arith) in
-    let interface_is = front x.interface class more 32 r.interface in
-    let class_is = past 32 0 32 x.interface class more r.interface ∙ front x.class subclass more 32 r.class in
-    let subclass_is = past 32 32 32 x.interface class more r.interface ∙ past 32 0 32 x.class subclass more r.class ∙ front x.subclass protocol more 32 r.subclass in
+    let interface_is = front x.interface class more 32 r.1.0 in
+    let class_is = past 32 0 32 x.interface class more r.1.0 ∙ front x.class subclass more 32 r.1.1.0 in
+    let subclass_is = past 32 32 32 x.interface class more r.1.0 ∙ past 32 0 32 x.class subclass more r.1.1.0 ∙ front x.subclass protocol more 32 r.1.1.1.0 in
     let protocol_is =
-    past 32 64 32 x.interface class more r.interface ∙ past 32 32 32 x.class subclass more r.class ∙ past 32 0 32 x.subclass protocol more r.subclass ∙ front x.protocol [] more 32 r.protocol in
+    past 32 64 32 x.interface class more r.1.0 ∙ past 32 32 32 x.class subclass more r.1.1.0 ∙ past 32 0 32 x.subclass protocol more r.1.1.1.0 ∙ front x.protocol [] more 32 r.1.1.1.1.0 in
     λ i. record { count = count_is i; interface = interface_is i; class = class_is i; subclass = subclass_is i; protocol = protocol_is i }
 
-sizes_again : (x : EpInfo) (more : List ℕ) → EpRanges x → numbers_of w16 32 (drop 96 (wire_bytes (endpoint_fields true x) ++ more)) ≡ x.max_packet
+sizes_again : (x : EpInfo) (more : List ℕ) → Ranges (controls.EpInfo x) → numbers_of w16 32 (drop 96 (wire_bytes (endpoint_fields true x) ++ more)) ≡ x.max_packet
 sizes_again x more r =
     let sizes = numbers w16 x.max_packet ++ [] in
     let interface = x.interface ++ sizes in
     let interval = x.interval ++ interface in
-    let behind = drop_past 32 64 x.kinds interval more r.kinds ∙ drop_past 32 32 x.interval interface more r.interval ∙ drop_past 32 0 x.interface sizes more r.interface in
+    let behind = drop_past 32 64 x.kinds interval more r.0 ∙ drop_past 32 32 x.interval interface more r.1.0 ∙ drop_past 32 0 x.interface sizes more r.1.1.0 in
     ap (numbers_of w16 32) (behind ∙ ap (λ (l : List ℕ). l ++ more) (append-nil (numbers w16 x.max_packet)))
-    ∙ ap (λ (n : ℕ). numbers_of w16 n (numbers w16 x.max_packet ++ more)) (sym r.max_packet_count)
-    ∙ numbers_again w16 halves_exact x.max_packet more r.max_packet
+    ∙ ap (λ (n : ℕ). numbers_of w16 n (numbers w16 x.max_packet ++ more)) (sym r.1.1.1.0)
+    ∙ numbers_again w16 halves_exact x.max_packet more r.1.1.1.1
 
-max_packet_again : (sent : Bool) (x : EpInfo) (more : List ℕ) → EpRanges x → IsSent sent (replicate 32 0) x.max_packet → (ep_info_at sent (wire_bytes (endpoint_fields sent x) ++ more)).max_packet ≡ x.max_packet
+max_packet_again : (sent : Bool) (x : EpInfo) (more : List ℕ) → Ranges (controls.EpInfo x) → IsSent sent (replicate 32 0) x.max_packet → (ep_info_at sent (wire_bytes (endpoint_fields sent x) ++ more)).max_packet ≡ x.max_packet
 max_packet_again true x more r is = sizes_again x more r
 max_packet_again false x more r is = sym is
 
-ep_again : (sent : Bool) (x : EpInfo) (more : List ℕ) → EpRanges x → IsSent sent (replicate 32 0) x.max_packet → ep_info_at sent (wire_bytes (endpoint_fields sent x) ++ more) ≡ x
+ep_again : (sent : Bool) (x : EpInfo) (more : List ℕ) → Ranges (controls.EpInfo x) → IsSent sent (replicate 32 0) x.max_packet → ep_info_at sent (wire_bytes (endpoint_fields sent x) ++ more) ≡ x
 ep_again sent x more r is =
     let sizes = numbers w16 (cond sent x.max_packet []) ++ [] in
     let interface = x.interface ++ sizes in
     let interval = x.interval ++ interface in
-    let kinds_are = front x.kinds interval more 32 r.kinds in
-    let intervals_are = past 32 0 32 x.kinds interval more r.kinds ∙ front x.interval interface more 32 r.interval in
-    let interfaces_are = past 32 32 32 x.kinds interval more r.kinds ∙ past 32 0 32 x.interval interface more r.interval ∙ front x.interface sizes more 32 r.interface in
+    let kinds_are = front x.kinds interval more 32 r.0 in
+    let intervals_are = past 32 0 32 x.kinds interval more r.0 ∙ front x.interval interface more 32 r.1.0 in
+    let interfaces_are = past 32 32 32 x.kinds interval more r.0 ∙ past 32 0 32 x.interval interface more r.1.0 ∙ front x.interface sizes more 32 r.1.1.0 in
     let sizes_are = max_packet_again sent x more r is in
     λ i. record { kinds = kinds_are i; interval = intervals_are i; interface = interfaces_are i; max_packet = sizes_are i }
 

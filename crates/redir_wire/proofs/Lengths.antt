@@ -13,7 +13,7 @@ use Rattle.redir_wire.specs.Capability.{has}
 use Rattle.redir_wire.specs.Field.{Field, Bytes, Shorts, Longs, ByteTable, ShortTable, Lower, Upper, field_bytes, wire_bytes}
 use Rattle.redir_wire.specs.Table.{plain_row, has_more}
 use Rattle.redir_wire.specs.Spelling.{kind_of, length_of, fields_of, fields}
-use Rattle.redir_wire.specs.Ranges.{Ranges, EpRanges}
+use Rattle.redir_wire.specs.Ranges.{Ranges}
 use Rattle.redir_wire.proofs.Words.{length-numbers}
 
 -- ---- of any fields
@@ -59,15 +59,15 @@ size_connect : (sent : Bool) (c : Connect) → size_of (connect_fields sent c) �
 size_connect true c = refl
 size_connect false c = refl
 
-size_endpoints : (sent : Bool) (e : EpInfo) → EpRanges e → size_of (endpoint_fields sent e) ≡ 96 + cond sent 64 0
-size_endpoints true e r = omega (arith, r.max_packet_count, r.kinds, r.interval, r.interface)
-size_endpoints false e r = omega (arith, r.kinds, r.interval, r.interface)
+size_endpoints : (sent : Bool) (e : EpInfo) → Ranges (controls.EpInfo e) → size_of (endpoint_fields sent e) ≡ 96 + cond sent 64 0
+size_endpoints true e r = omega (arith, r.1.1.1.0, r.0, r.1.0, r.1.1.0)
+size_endpoints false e r = omega (arith, r.0, r.1.0, r.1.1.0)
 
 -- as many as the table says, and a hello's words
 size_fields : (caps : Caps) (p : RedirControl) → Ranges p → size_of (fields_of (has_more caps (plain_row (kind_of p))) p) ≡ length_of caps p
-size_fields caps (controls.Hello h) r = omega (arith, r.version)
+size_fields caps (controls.Hello h) r = omega (arith, r.0)
 size_fields caps (controls.Connect c) r = size_connect (has caps 1) c ∙ omega arith
-size_fields caps (controls.InterfaceInfo i) r = omega (arith, r.interface, r.class, r.subclass, r.protocol)
+size_fields caps (controls.InterfaceInfo i) r = omega (arith, r.1.0, r.1.1.0, r.1.1.1.0, r.1.1.1.1.0)
 size_fields caps (controls.EpInfo e) r = size_endpoints (has caps 4) e r ∙ omega arith
 size_fields caps p r = refl
 

@@ -1,8 +1,8 @@
--- The kinds of fields that packets have, and their bytes on the wire: numbers little-endian.
-use Rattle.std.specs.Prelude.{ℕ, ◌/◌, ◌%◌, List, flat_map}
+-- The kinds of fields that packets have, their bytes on the wire, numbers little-endian, and their ranges.
+use Rattle.std.specs.Prelude.{◌≡◌, ℕ, ◌<◌, ◌/◌, ◌%◌, ◌^◌, List, [], ◌∷◌, length, flat_map}
 use Rattle.std.specs.Int.{w16, w32}
 use Rattle.usb_base.specs.Number.{le}
-use Rattle.redir_wire.specs.Words.{numbers}
+use Rattle.redir_wire.specs.Words.{numbers, AreNumbers}
 
 pub data Field : Type 0 where
   -- numbers of 8, of 16 or of 32 bits, one behind another
@@ -28,3 +28,14 @@ field_bytes (Upper n) = le w16 (n / 65536)
 -- the bytes of fields, one behind another
 abbrev pub wire_bytes : List Field → List ℕ
 wire_bytes fs = flat_map field_bytes fs
+
+-- the ranges that the types of the code have, beside those of bytes: each number has its width, and a table has 32 rows
+abbrev pub AreInRange : List Field → Type 0
+AreInRange [] = Unit {0}
+AreInRange (Bytes ns ∷ fs) = AreInRange fs
+AreInRange (Shorts ns ∷ fs) = AreNumbers w16 ns × AreInRange fs
+AreInRange (Longs ns ∷ fs) = AreNumbers w32 ns × AreInRange fs
+AreInRange (ByteTable ns ∷ fs) = (length ns ≡ 32) × AreInRange fs
+AreInRange (ShortTable ns ∷ fs) = (length ns ≡ 32) × AreNumbers w16 ns × AreInRange fs
+AreInRange (Lower n ∷ fs) = AreInRange fs
+AreInRange (Upper n ∷ fs) = (n < 2 ^ 32) × AreInRange fs

@@ -1,5 +1,5 @@
 -- The first element that passes a test: `position`, `find`, `without_first` and `change_first` together.
-use Rattle.std.proofs.Common.{◌≡◌, ℕ, suc, ◌+◌, ◌<◌, ◌≤◌, Bool, true, false, cond, not, ltb, List, [], ◌∷◌, length, map, filter, count_by, set, Some, None, is_some, ◌||◌, refl, ap, sym, ◌∙◌, zero-add, arith, inl, inr}
+use Rattle.std.proofs.Common.{◌≡◌, ℕ, suc, ◌+◌, ◌<◌, ◌≤◌, Bool, true, false, cond, not, ltb, List, [], ◌∷◌, length, map, filter, count_by, set, Some, None, is_some, ◌||◌, refl, ap, sym, ◌∙◌, zero-add, arith, ◌⊎◌, inl, inr}
 use Rattle.std.specs.List.{find, position, position_or_len, remove, slice_get, list_any}
 use Rattle.std.proofs.lemmas.Bool.{ltb-true, ltb-false, lt-ltb, cases_Bool, false≢true}
 use Rattle.std.proofs.lemmas.Grind.{common_steps}
@@ -120,16 +120,24 @@ module _ {X : Type 0} where
   uncounted p x xs other =
       sym (sum_by-cons (λ y. cond (p y) 1 0) x xs ∙ ap (λ b. cond b 1 0 + count_by p xs) other ∙ zero-add (count_by p xs))
 
-  -- a test that p never passes with keeps what it kept
-  pub filter-without_first : (p q : X → Bool) → ((x : X) → q x ≡ true → p x ≡ false) → (xs : List X) → filter q (without_first p xs) ≡ filter q xs
-  filter-without_first p q apart [] = refl
-  filter-without_first p q apart (x ∷ xs) =
+  -- what p passes q doesn't
+  taken_or_other : (p q : X → Bool) → ((x : X) → q x ≡ true → p x ≡ false) → (x : X) → ((p x ≡ true) × (q x ≡ false)) ⊎ (p x ≡ false)
+  taken_or_other p q apart x =
       elim (cases_Bool (p x)) [
         | inl taken ↦
             elim (cases_Bool (q x)) [
               | inl kept ↦ absurd (false≢true (sym (apart x kept) ∙ taken))
-              | inr not_kept ↦ rw (taken, not_kept) refl
+              | inr not_kept ↦ inl (taken, not_kept)
             ]
+        | inr other ↦ inr other
+      ]
+
+  -- a test that p never passes with keeps what it kept
+  pub filter-without_first : (p q : X → Bool) → ((x : X) → q x ≡ true → p x ≡ false) → (xs : List X) → filter q (without_first p xs) ≡ filter q xs
+  filter-without_first p q apart [] = refl
+  filter-without_first p q apart (x ∷ xs) =
+      elim (taken_or_other p q apart x) [
+        | inl taken ↦ rw (taken.0, taken.1) refl
         | inr other ↦ rw other (ap (λ ys. cond (q x) (x ∷ ys) ys) (filter-without_first p q apart xs))
       ]
 
@@ -137,12 +145,8 @@ module _ {X : Type 0} where
   pub find-without_first : (p q : X → Bool) → ((x : X) → q x ≡ true → p x ≡ false) → (xs : List X) → find q (without_first p xs) ≡ find q xs
   find-without_first p q apart [] = refl
   find-without_first p q apart (x ∷ xs) =
-      elim (cases_Bool (p x)) [
-        | inl taken ↦
-            elim (cases_Bool (q x)) [
-              | inl kept ↦ absurd (false≢true (sym (apart x kept) ∙ taken))
-              | inr not_kept ↦ rw (taken, not_kept) refl
-            ]
+      elim (taken_or_other p q apart x) [
+        | inl taken ↦ rw (taken.0, taken.1) refl
         | inr other ↦ rw other (ap (cond (q x) (Some x)) (find-without_first p q apart xs))
       ]
 

@@ -6,16 +6,16 @@ use Rattle.usb_base.specs.declared.speed.Speed.TheVariants.{Unknown, Low, Full, 
 abbrev pub speed_of : ℕ → Speed
 speed_of byte = if byte == 0 then Low else if byte == 1 then Full else if byte == 2 then High else if byte == 3 then Super else Unknown
 
+-- that byte, and that number
+abbrev pub speed_row : Speed → ℕ × ℕ
+speed_row Unknown = (255, 0)
+speed_row Low = (0, 1)
+speed_row Full = (1, 2)
+speed_row High = (2, 3)
+speed_row Super = (3, 5)
+
 abbrev pub redir_speed : Speed → ℕ
-redir_speed Unknown = 255
-redir_speed Low = 0
-redir_speed Full = 1
-redir_speed High = 2
-redir_speed Super = 3
+redir_speed speed = (speed_row speed).0
 
 abbrev pub usbip_speed : Speed → ℕ
-usbip_speed Unknown = 0
-usbip_speed Low = 1
-usbip_speed Full = 2
-usbip_speed High = 3
-usbip_speed Super = 5
+usbip_speed speed = (speed_row speed).1

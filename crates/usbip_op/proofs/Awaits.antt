@@ -11,6 +11,9 @@ use Rattle.packet_stream.specs.Awaited.{awaited}
 use Rattle.packet_stream.proofs.Awaiting.{IsPatient}
 use Rattle.usbip_op.specs.Rows.{rows_size}
 use Rattle.usbip_op.specs.Devices.{listed_form}
+use Rattle.usbip_op.specs.declared.packet.OpWay.{OpWay}
+use Rattle.usbip_op.specs.declared.packet.OpWay.TheVariants.{Request, Reply}
+use Rattle.usbip_op.specs.Packets.{packets_of}
 use Rattle.usbip_op.specs.Requests.{requests}
 use Rattle.usbip_op.proofs.Requests.{request_size_by}
 use Rattle.usbip_op.specs.Replies.{replies, has_count, reply_size_by, reply_size, count_check}
@@ -252,3 +255,14 @@ replies_patient = record {
   longer = λ b more none less. behind_longer b more (behind b more less);
   most = λ b none. head_by (nat_lt (length b) 2) (nat_lt (length b) 4) (behind_head b) (reply_size b) (behind_most b) (omega (arith, reply_long b));
 }
+
+-- ---- either way
+
+pub patient : (way : OpWay) → IsPatient (packets_of way)
+patient Request = requests_patient
+patient Reply = replies_patient
+
+-- behind the version the code is awaited
+pub awaits_code : (way : OpWay) (b : List ℕ) → 2 ≤ length b → length b < 4 → awaited (packets_of way) b ≡ 4
+awaits_code Request b there less = rw (le-ltb (length b) 2 there, lt-ltb (length b) 4 less) refl
+awaits_code Reply b there less = rw (le-ltb (length b) 2 there, lt-ltb (length b) 4 less) refl

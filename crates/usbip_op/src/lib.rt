@@ -2,6 +2,7 @@
 //! bytes. All numbers are big-endian.
 #![tactic(auto)]
 
+mod check;
 mod code;
 mod next;
 mod packet;

@@ -1,6 +1,6 @@
 //! How many bytes a packet awaits of which less than all is there.
 
-ghost use Rattle.std.specs.Prelude.{◌≡◌, ◌+◌, ◌*◌, ◌≤◌, drop};
+ghost use Rattle.std.specs.Prelude.{◌≡◌, ◌+◌, ◌*◌, ◌≤◌, length, drop};
 ghost use Rattle.usb_base.specs.Number.{byte_at};
 ghost use Rattle.packet_stream.specs.Format.{Short, reading};
 ghost use Rattle.packet_stream.specs.Awaited.{IsAwaited, StaysShort, awaited};
@@ -22,6 +22,12 @@ pub fn next_op(way: OpWay, bytes: &[u8]) -> usize
     ensures least { IsAwaited (packets_of way) bytes.now result }
     ensures quiet { StaysShort (packets_of way) bytes.now result }
 {
+    if bytes.len() < 2 {
+        return 2;
+    }
+    if bytes.len() < 4 {
+        return 4;
+    }
     match way {
         OpWay::Request => next_request(bytes),
         OpWay::Reply => next_reply(bytes),
@@ -29,14 +35,9 @@ pub fn next_op(way: OpWay, bytes: &[u8]) -> usize
 }
 
 fn next_request(bytes: &[u8]) -> usize
+    requires { 4 ≤ length bytes.now }
     ensures { result ≡ awaited requests bytes.now }
 {
-    if bytes.len() < 2 {
-        return 2;
-    }
-    if bytes.len() < 4 {
-        return 4;
-    }
     if be_u16_at(bytes, 2) == OP_REQ_DEVLIST {
         8
     } else {
@@ -45,14 +46,9 @@ fn next_request(bytes: &[u8]) -> usize
 }
 
 fn next_reply(bytes: &[u8]) -> usize
+    requires { 4 ≤ length bytes.now }
     ensures { result ≡ awaited replies bytes.now }
 {
-    if bytes.len() < 2 {
-        return 2;
-    }
-    if bytes.len() < 4 {
-        return 4;
-    }
     if bytes.len() < 8 || be_u32_at(bytes, 4) != 0 {
         return 8;
     }

@@ -7,11 +7,12 @@ ghost use Rattle.usbip_op.specs.Requests.{requests};
 ghost use Rattle.usbip_op.specs.Packets.{packets_of, takes_memory};
 ghost use Rattle.usbip_op.specs.declared.packet.OpWay.{OpWay as Way};
 
-use crate::code::{OP_REQ_DEVLIST, OP_REQ_IMPORT, USBIP_VERSION};
+use crate::check::wrong_head;
+use crate::code::{OP_REQ_DEVLIST, OP_REQ_IMPORT};
 use crate::packet::{OpError, OpPacket, OpRead, OpWay};
 use crate::reply::read_reply;
 use std::alloc::Global;
-use usb_base::{Reason, array_at, be_u16_at, be_u32_at};
+use usb_base::{array_at, be_u16_at, be_u32_at};
 
 /// A law: what is read as a packet of either way is spelled so, and what is spelled so is read.
 pub fn packets_sound()
@@ -42,26 +43,13 @@ pub fn read_request(bytes: &[u8]) -> Result<OpRead, OpError>
 fn request_at_front(bytes: &[u8]) -> Result<OpRead, OpError>
     ensures { told result ≡ Some (reading requests bytes.now) }
 {
-    if bytes.len() < 2 {
-        return Ok(OpRead::Short);
-    }
-    if be_u16_at(bytes, 0) != USBIP_VERSION {
-        return Err(OpError::Refused {
-            place: 0,
-            reason: Reason::Version,
-        });
+    if let Some((place, reason)) = wrong_head(bytes, OP_REQ_DEVLIST, OP_REQ_IMPORT) {
+        return Err(OpError::Refused { place, reason });
     }
     if bytes.len() < 4 {
         return Ok(OpRead::Short);
     }
-    let code = be_u16_at(bytes, 2);
-    if code != OP_REQ_DEVLIST && code != OP_REQ_IMPORT {
-        return Err(OpError::Refused {
-            place: 2,
-            reason: Reason::OpCode,
-        });
-    }
-    if code == OP_REQ_DEVLIST {
+    if be_u16_at(bytes, 2) == OP_REQ_DEVLIST {
         if bytes.len() < 8 {
             return Ok(OpRead::Short);
         }

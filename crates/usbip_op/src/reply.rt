@@ -11,7 +11,8 @@ ghost use Rattle.packet_stream.specs.Reads.{told, Answers};
 ghost use Rattle.usbip_op.specs.Packets.{takes_memory};
 ghost use Rattle.usbip_op.specs.declared.code.TheConstants.{USBIP_VERSION as version, OP_REP_DEVLIST as list_code, OP_REP_IMPORT as import_code};
 
-use crate::code::{MAX_DEVICES, OP_REP_DEVLIST, OP_REP_IMPORT, USBIP_VERSION};
+use crate::check::wrong_head;
+use crate::code::{MAX_DEVICES, OP_REP_DEVLIST, OP_REP_IMPORT};
 use crate::packet::{
     DeviceRow, IfaceRow, IfaceRows, Listed, ListedRows, OpError, OpPacket, OpRead,
 };
@@ -28,29 +29,13 @@ pub(crate) const INTERFACE_SIZE: usize = 4;
 pub(crate) fn read_reply(alloc: Global, bytes: &[u8]) -> Result<OpRead, OpError>
     ensures { Answers takes_memory result (reading replies bytes.now) }
 {
-    if bytes.len() < 2 {
-        return Ok(OpRead::Short);
-    }
-    if be_u16_at(bytes, 0) != USBIP_VERSION {
-        return Err(OpError::Refused {
-            place: 0,
-            reason: Reason::Version,
-        });
-    }
-    if bytes.len() < 4 {
-        return Ok(OpRead::Short);
-    }
-    let code = be_u16_at(bytes, 2);
-    if code != OP_REP_DEVLIST && code != OP_REP_IMPORT {
-        return Err(OpError::Refused {
-            place: 2,
-            reason: Reason::OpCode,
-        });
+    if let Some((place, reason)) = wrong_head(bytes, OP_REP_DEVLIST, OP_REP_IMPORT) {
+        return Err(OpError::Refused { place, reason });
     }
     if bytes.len() < 8 {
         return Ok(OpRead::Short);
     }
-    if code == OP_REP_IMPORT {
+    if be_u16_at(bytes, 2) == OP_REP_IMPORT {
         return Ok(import_reply(bytes));
     }
     list_reply(alloc, bytes)

@@ -60,10 +60,10 @@ fixed_spelled caps kinds.Iso b body are there = periodic_spelled b are there
 fixed_spelled caps kinds.Interrupt b body are there = periodic_spelled b are there
 
 pub ranges_there : (caps : Caps) (k : DataKind) (b body : List ℕ) → AreBytes b → Ranges (fields_with k b (told_length caps k b) body)
-ranges_there caps kinds.Control b body are = record { value_fits = le_at-below_16 4 b are; index_fits = le_at-below_16 6 b are; length_fits = le_at-below_16 8 b are }
-ranges_there caps kinds.Bulk b body are = record { length_fits = (bulk_below (has caps 6) b are).0; stream_fits = le_at-below_32 4 b are }
-ranges_there caps kinds.Iso b body are = le_at-below_16 2 b are
-ranges_there caps kinds.Interrupt b body are = le_at-below_16 2 b are
+ranges_there caps kinds.Control b body are = ((le_at-below_16 4 b are, (le_at-below_16 6 b are, (le_at-below_16 8 b are, tt))), tt)
+ranges_there caps kinds.Bulk b body are = ((le_at-below_32 4 b are, tt), ((bulk_below (has caps 6) b are).0, tt))
+ranges_there caps kinds.Iso b body are = ((le_at-below_16 2 b are, tt), tt)
+ranges_there caps kinds.Interrupt b body are = ((le_at-below_16 2 b are, tt), tt)
 
 pub length_there : (caps : Caps) (k : DataKind) (b body : List ℕ) → AreBytes b → LengthFits caps (fields_with k b (told_length caps k b) body)
 length_there caps kinds.Control b body are = tt
@@ -118,10 +118,10 @@ stream_again false endpoint status told stream body more fits = from_le_bytes-to
 
 pub told_again : (caps : Caps) (d : RedirData) (more : List ℕ) → Ranges d → LengthFits caps d → told_length caps (form_of d).kind (fields caps d ++ more) ≡ (form_of d).told
 unfolding le le_at
-told_again caps (moving.Control endpoint request kind status value index told body) more r l = from_le_bytes-to_le_bytes_2 told r.length_fits
-told_again caps (moving.Bulk endpoint status told stream body) more r l = bulk_again (has caps 6) endpoint status told stream body more r.length_fits l
-told_again caps (moving.Iso endpoint status told body) more r l = from_le_bytes-to_le_bytes_2 told r
-told_again caps (moving.Interrupt endpoint status told body) more r l = from_le_bytes-to_le_bytes_2 told r
+told_again caps (moving.Control endpoint request kind status value index told body) more r l = from_le_bytes-to_le_bytes_2 told r.0.1.1.0
+told_again caps (moving.Bulk endpoint status told stream body) more r l = bulk_again (has caps 6) endpoint status told stream body more r.1.0 l
+told_again caps (moving.Iso endpoint status told body) more r l = from_le_bytes-to_le_bytes_2 told r.0.0
+told_again caps (moving.Interrupt endpoint status told body) more r l = from_le_bytes-to_le_bytes_2 told r.0.0
 
 second_again : (wide : Bool) (endpoint status told stream : ℕ) (body more : List ℕ) → byte_at 1 ((wire_bytes (bulk wide endpoint status told stream) ++ body) ++ more) ≡ status
 second_again wide endpoint status told stream body more = refl
@@ -129,10 +129,10 @@ second_again wide endpoint status told stream body more = refl
 with_again : (caps : Caps) (d : RedirData) (more : List ℕ) → Ranges d → fields_with (form_of d).kind (fields caps d ++ more) (form_of d).told (form_of d).body ≡ d
 unfolding le le_at
 with_again caps (moving.Control endpoint request kind status value index told body) more r =
-    let first = from_le_bytes-to_le_bytes_2 value r.value_fits in
-    let second = from_le_bytes-to_le_bytes_2 index r.index_fits in
+    let first = from_le_bytes-to_le_bytes_2 value r.0.0 in
+    let second = from_le_bytes-to_le_bytes_2 index r.0.1.0 in
     λ i. moving.Control endpoint request kind status (first i) (second i) told body
-with_again caps (moving.Bulk endpoint status told stream body) more r = ap (λ (s : ℕ). moving.Bulk endpoint status told s body) (stream_again (has caps 6) endpoint status told stream body more r.stream_fits)
+with_again caps (moving.Bulk endpoint status told stream body) more r = ap (λ (s : ℕ). moving.Bulk endpoint status told s body) (stream_again (has caps 6) endpoint status told stream body more r.0.0)
 with_again caps (moving.Iso endpoint status told body) more r = refl
 with_again caps (moving.Interrupt endpoint status told body) more r = refl
 

@@ -97,13 +97,13 @@ sends-wire caps Control t sent fit id fits =
     let s = unwrap_or t.setup no_setup in
     let own = own-setup t.wanted t.setup sent.setup fit in
     data_sent ToHost caps id (data_packet.Control t.ep s.request s.kind 0 s.value s.index t.wanted t.body)
-    (record { value_fits = own.0.value_fits; index_fits = own.0.index_fits; length_fits = subst (λ (n : ℕ). n < 2 ^ 16) (sym own.1) own.0.length_fits })
+    ((own.0.value_fits, (own.0.index_fits, (subst (λ (n : ℕ). n < 2 ^ 16) (sym own.1) own.0.length_fits, tt))), tt)
     (can_be_written id caps Control t _ fits sent refl)
 sends-wire caps Bulk t sent fit id fits =
-    data_sent ToHost caps id (data_packet.Bulk t.ep 0 t.wanted 0 t.body) (record { length_fits = (let few : t.wanted ≤ 16777216 = sent.few_bytes in omega arith); stream_fits = lit< tt })
+    data_sent ToHost caps id (data_packet.Bulk t.ep 0 t.wanted 0 t.body) ((lit< tt, tt), ((let few : t.wanted ≤ 16777216 = sent.few_bytes in omega arith), tt))
     (can_be_written id caps Bulk t _ fits sent refl)
 sends-wire caps InterruptOut t sent fit id fits =
-    data_sent ToHost caps id (data_packet.Interrupt t.ep 0 t.wanted t.body) sent.length_fits (can_be_written id caps InterruptOut t _ fits sent refl)
+    data_sent ToHost caps id (data_packet.Interrupt t.ep 0 t.wanted t.body) ((sent.length_fits, tt), tt) (can_be_written id caps InterruptOut t _ fits sent refl)
 
 -- ---- isochronous packets to the device
 
@@ -112,7 +112,7 @@ sends-iso caps ep body d out within id fits =
     let few = within.few in
     let all = within.within in
     let long : length (part d.offset d.length body) ≡ d.length = omega (arith, length-take d.length (drop d.offset body), length-drop d.offset body) in
-    data_sent ToHost caps id (data_packet.Iso ep 0 d.length (part d.offset d.length body)) (omega arith)
+    data_sent ToHost caps id (data_packet.Iso ep 0 d.length (part d.offset d.length body)) ((omega arith, tt), tt)
     (record { id_fits = fits; length_fits = tt; data_there = long ∙ sym (ap (λ (b : Bool). cond (not b) d.length 0) out); in_limit = omega arith })
 
 sends-isos : (caps : Caps) (ep : ℕ) (body : List ℕ) (ds : List IsoDesc) → is_in_endpoint ep ≡ false → Each (λ d. IsWithin d (length body)) ds → Each (Sendable caps) (map (λ (d : IsoDesc). Carrying (data_packet.Iso ep 0 d.length (part d.offset d.length body))) ds)

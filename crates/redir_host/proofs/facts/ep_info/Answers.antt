@@ -43,4 +43,4 @@ returns-clause-info c =
 pub returns-clause-ranges : goal.returns-clause-ranges
 returns-clause-ranges c =
     let known = c.loop-index.invariant in
-    record { kinds = known.kinds.long; interval = known.intervals.long; interface = known.interfaces.long; max_packet_count = known.max_packets.long; max_packet = known.halves }
+    (known.kinds.long, (known.intervals.long, (known.interfaces.long, (known.max_packets.long, known.halves, tt))))

@@ -141,19 +141,19 @@ data-keeps h id (moving.Control ep asked kind status value index told body) soun
     asked-keeps h id (ep == cond (nat_lt kind 128) 0 128) (form.Control setup) (record { ep = ep; setup = Some setup; wanted = told; body = body }) sound greeted fits
     (λ its. record {
       transfer = control-by setup ep told body (nat_lt kind 128) refl (eqb-true ep (cond (nat_lt kind 128) 0 128) its) is.data_there;
-      wanted_fits = is.ranges.length_fits;
-      form_fits = (is.ranges.value_fits, is.ranges.index_fits);
+      wanted_fits = is.ranges.0.1.1.0;
+      form_fits = (is.ranges.0.0, is.ranges.0.1.0);
     })
 data-keeps h id (moving.Bulk ep status told stream body) sound greeted fits is =
     asked-keeps h id (is_other ep && nat_le told greatest) (form.Bulk stream) (record { ep = ep; setup = None; wanted = told; body = body }) sound greeted fits
     (λ can. record {
       transfer = other-transfer ep told body (and_parts (is_other ep) (nat_le told greatest) can).0 is.data_there;
       wanted_fits = (leb-true told greatest (and_parts (is_other ep) (nat_le told greatest) can).1, is.length_fits);
-      form_fits = is.ranges.stream_fits;
+      form_fits = is.ranges.0.0;
     })
 data-keeps h id (moving.Iso ep status told body) sound greeted fits is = record { guest = refl; sound = sound }
 data-keeps h id (moving.Interrupt ep status told body) sound greeted fits is =
-    interrupt-keeps h id ep told body (is_in_endpoint ep) sound greeted fits is.ranges is.data_there
+    interrupt-keeps h id ep told body (is_in_endpoint ep) sound greeted fits is.ranges.0.0 is.data_there
 
 -- ---- cancels
 

@@ -56,11 +56,11 @@ use Rattle.redir_host.proofs.lemmas.write.Facts.{ep_info, interface_info, no_id,
 
 pub answer-read : (caps : Caps) (configuration id : ℕ) (f : Form) (ep : ℕ) (o : Outcome) → IdFits (is_wide false caps) id → AnswerFits caps f ep o → FormFits f → o.done < 2 ^ 32 → CanBeRead ToGuest caps (id, answer_by configuration f ep o)
 answer-read caps configuration id (form.Control s) ep o fits a own few =
-    data_sent ToGuest caps id (moving.Control ep s.request s.kind (status_byte o.status) s.value s.index o.done o.body) (record { value_fits = own.0; index_fits = own.1; length_fits = a.done }) (can_answer caps configuration id (form.Control s) ep o fits a)
+    data_sent ToGuest caps id (moving.Control ep s.request s.kind (status_byte o.status) s.value s.index o.done o.body) ((own.0, (own.1, (a.done, tt))), tt) (can_answer caps configuration id (form.Control s) ep o fits a)
 answer-read caps configuration id (form.Bulk stream) ep o fits a own few =
-    data_sent ToGuest caps id (moving.Bulk ep (status_byte o.status) o.done stream o.body) (record { length_fits = few; stream_fits = own }) (can_answer caps configuration id (form.Bulk stream) ep o fits a)
+    data_sent ToGuest caps id (moving.Bulk ep (status_byte o.status) o.done stream o.body) ((own, tt), (few, tt)) (can_answer caps configuration id (form.Bulk stream) ep o fits a)
 answer-read caps configuration id form.Interrupt ep o fits a own few =
-    data_sent ToGuest caps id (moving.Interrupt ep (status_byte o.status) o.done o.body) a.done (can_answer caps configuration id form.Interrupt ep o fits a)
+    data_sent ToGuest caps id (moving.Interrupt ep (status_byte o.status) o.done o.body) ((a.done, tt), tt) (can_answer caps configuration id form.Interrupt ep o fits a)
 answer-read caps configuration id (form.SetConfiguration asked) ep o fits a own few =
     control_sent ToGuest caps id (plain.ConfigurationStatus (status_byte o.status) configuration) refl tt (can_answer caps configuration id (form.SetConfiguration asked) ep o fits a) refl
 answer-read caps configuration id form.GetConfiguration ep o fits a own few =
@@ -192,8 +192,8 @@ perform-read {S = S} m lawful h ep sound = by h.unplugged
 -- ---- offers, and the end
 
 stream-read : (caps : Caps) (k : StreamKind) (ep : ℕ) (p : StreamPacket) → is_in_endpoint ep ≡ true → length p.body ≤ 65535 → CanBeRead ToGuest caps (stream_packet k ep p)
-stream-read caps Iso ep p way few = data_sent ToGuest caps 0 (moving.Iso ep (status_byte p.status) (length p.body) p.body) (omega arith) (stream_told caps Iso ep p way few)
-stream-read caps Interrupt ep p way few = data_sent ToGuest caps 0 (moving.Interrupt ep (status_byte p.status) (length p.body) p.body) (omega arith) (stream_told caps Interrupt ep p way few)
+stream-read caps Iso ep p way few = data_sent ToGuest caps 0 (moving.Iso ep (status_byte p.status) (length p.body) p.body) ((omega arith, tt), tt) (stream_told caps Iso ep p way few)
+stream-read caps Interrupt ep p way few = data_sent ToGuest caps 0 (moving.Interrupt ep (status_byte p.status) (length p.body) p.body) ((omega arith, tt), tt) (stream_told caps Interrupt ep p way few)
 
 offered-read : {S : Type 0} (h : Host S) (ep : ℕ) (k : StreamKind) (o : Option (S × StreamPacket)) → h.guest.first ≡ false → is_in_endpoint ep ≡ true → IfSome o (λ sent. length sent.1.body ≤ 65535) → AreRead h.guest (offered_by h ep k o).sent
 offered-read h ep k None greeted way few = nothing-sent h.guest

@@ -76,9 +76,9 @@ interrupt-read h id can false t fits = asked-read h id can form.Interrupt t fits
 data-read : {S : Type 0} (h : Host S) (id : ℕ) (d : RedirData) → IdFits (is_wide false h.guest.caps) id → IsData h.guest.caps ToHost d → Reads h (data_move h id (asking_of d))
 data-read h id (moving.Control ep asked kind status value index told body) fits is =
     let setup : Setup = record { kind = kind; request = asked; value = value; index = index; length = told } in
-    asked-read h id _ (form.Control setup) (record { ep = ep; setup = Some setup; wanted = told; body = body }) fits (is.ranges.value_fits, is.ranges.index_fits)
+    asked-read h id _ (form.Control setup) (record { ep = ep; setup = Some setup; wanted = told; body = body }) fits (is.ranges.0.0, is.ranges.0.1.0)
 data-read h id (moving.Bulk ep status told stream body) fits is =
-    asked-read h id (is_other ep && nat_le told greatest) (form.Bulk stream) (record { ep = ep; setup = None; wanted = told; body = body }) fits is.ranges.stream_fits
+    asked-read h id (is_other ep && nat_le told greatest) (form.Bulk stream) (record { ep = ep; setup = None; wanted = told; body = body }) fits is.ranges.0.0
 data-read h id (moving.Iso ep status told body) fits is = tt
 data-read h id (moving.Interrupt ep status told body) fits is = interrupt-read h id (is_other ep) (is_in_endpoint ep) (record { ep = ep; setup = None; wanted = told; body = body }) fits
 
