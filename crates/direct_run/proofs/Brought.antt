@@ -9,7 +9,7 @@ use Rattle.packet_stream.specs.Format.{Format}
 use Rattle.packet_stream.specs.Split.{Position, past, Spells}
 use Rattle.packet_stream.proofs.Splits.{is_splitting}
 use Rattle.usbip_urb.specs.declared.client.ClientPacket.{ClientPacket}
-use Rattle.usbip_urb.specs.ClientPackets.{IsClientPacket}
+use Rattle.usbip_urb.specs.ClientPackets.{IsClientPacket, client_packets}
 use Rattle.usbip_urb.specs.Sound.ClientPackets.{client_packets_sound}
 use Rattle.model_device.specs.Meaning.{Meaning}
 use Rattle.gate_history.proofs.lemmas.Lists.{Each}
@@ -17,7 +17,7 @@ use Rattle.gate_history.specs.step.Events.{Event, ClientPiece, ClientEnd, HostPi
 use Rattle.gate_history.specs.step.History.{client_split, client_items, brought, wrong_items}
 use Rattle.gate_history.specs.declared.item.Item.{Item}
 use Rattle.gate_history.specs.declared.item.Item.TheVariants.{Asked, ClientWrong, ClientLeft, Told, HostWrong, HostLeft}
-use Rattle.gate_history.specs.step.Streams.{client_format, client_next, client_start}
+use Rattle.gate_history.specs.step.Streams.{client_start}
 use Rattle.direct_run.specs.Moves.{Move, ByClient, move, run}
 use Rattle.direct_run.specs.Clients.{IsMove, then_sent, present_outs}
 use Rattle.gate_history.specs.write.Readable.{piece_bytes}
@@ -36,8 +36,8 @@ fit-each format next Fits h a z bytes rest (i ∷ is) spelled = (h a.state i.1 s
 
 client-fit : (bytes : List ℕ) → AreBytes bytes → Each (λ (i : ℕ × ClientPacket). IsClientPacket i.1) (client_split bytes).packets
 client-fit bytes are =
-    let found = is_splitting client_format client_next (λ s. client_packets_sound) client_start bytes are in
-    fit-each client_format client_next IsClientPacket (λ s p fits. fits) client_start (client_split bytes).position bytes found.left (client_split bytes).packets found.spelled
+    let found = is_splitting (λ s. client_packets) (λ s p. s) (λ s. client_packets_sound) client_start bytes are in
+    fit-each (λ s. client_packets) (λ s p. s) IsClientPacket (λ s p fits. fits) client_start (client_split bytes).position bytes found.left (client_split bytes).packets found.spelled
 
 items-fit : (ps : List (ℕ × ClientPacket)) (wrong : Option (ℕ × Reason)) → Each (λ (i : ℕ × ClientPacket). IsClientPacket i.1) ps → Each IsPieceItem (map (λ (p : ℕ × ClientPacket). Asked p.0 p.1) ps ++ wrong_items ClientWrong wrong)
 items-fit [] None h = tt

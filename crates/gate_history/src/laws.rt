@@ -5,9 +5,9 @@ ghost use Rattle.std.specs.List.{list_any, flat_map, AllByRecursion};
 ghost use Rattle.std.specs.Option.{option_to_list};
 ghost use Rattle.usb_base.specs.Number.{AreBytes};
 ghost use Rattle.packet_stream.specs.Split.{SplitsWell};
-ghost use Rattle.redir_data.specs.Streams.{after};
+ghost use Rattle.redir_data.specs.Streams.{after, stream_format};
 ghost use Rattle.stream_buffers.specs.declared.inbox.TheConstants.{MAX_HELD};
-ghost use Rattle.gate_history.specs.step.Streams.{client_format, client_next, client_start, host_format, host_start};
+ghost use Rattle.gate_history.specs.step.Streams.{client_start, host_start};
 ghost use Rattle.gate_history.specs.step.Events.{Event as PastEvent};
 ghost use Rattle.gate_history.specs.declared.item.Item.{Item};
 ghost use Rattle.gate_history.specs.state.Ids.{draw, greatest, IsNext, AreFresh, Once};
@@ -28,6 +28,8 @@ ghost use Rattle.gate_history.specs.host.Losses.{Loses, EndsAll};
 ghost use Rattle.gate_history.specs.state.Sound.{IsSound, HasFewPackets, DrawFresh};
 ghost use Rattle.gate_history.specs.write.Readable.{SentCanBeRead, piece_bytes};
 ghost use Rattle.gate_history.specs.step.Refusals.{causes, is_refusal, client_wrongs, host_wrongs};
+ghost use Rattle.redir_wire.specs.declared.packet.Way.TheVariants.{ToGuest};
+ghost use Rattle.usbip_urb.specs.ClientPackets.{client_packets};
 
 use packet_stream::splits_well;
 use redir_data::FromHost;
@@ -36,8 +38,8 @@ use usbip_urb::ClientFormat;
 /// A law: the stream of each side is its packets and a rest in one way, and the splitting that the history is made of is
 /// that way. Whoever reads the history may take `IsSplitting` for `split`.
 pub fn streams_split_one_way()
-    ensures client { SplitsWell client_format client_next client_start }
-    ensures host { SplitsWell host_format after host_start }
+    ensures client { SplitsWell (λ s. client_packets) (λ s p. s) client_start }
+    ensures host { SplitsWell (stream_format ToGuest) after host_start }
 {
     splits_well::<ClientFormat>();
     splits_well::<FromHost>();

@@ -181,12 +181,8 @@ put-stands p first e c h fits =
     }
 
 dropped-is : (e : LinkEvent) (dropped : Bool) → ends_next e dropped ≡ true → dropped ≡ true
-dropped-is ClientComes dropped is = is
-dropped-is (ClientPiece b) dropped is = is
-dropped-is ClientQuiet dropped is = is
 dropped-is ClientEnd dropped is = cc
-dropped-is (HostPiece b) dropped is = is
-dropped-is HostEnd dropped is = is
+dropped-is _ dropped is = is
 
 -- a client that is dropped has its end next
 ends : (p : Prescribed) (first : List ℕ) (e : LinkEvent) (next : Next) (c : Course) → drops p c.events e ≡ true → IsBehind next → Stands p first (put p e c) → IsTaking p first ClientEnd next (put p e c)

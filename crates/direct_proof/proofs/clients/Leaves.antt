@@ -5,7 +5,7 @@ use Rattle.usb_base.specs.declared.reason.Reason.{Reason}
 use Rattle.usb_base.specs.declared.side.Side.TheVariants.{Client}
 use Rattle.gate_history.specs.step.Marks.{Effect, Ends}
 use Rattle.gate_history.specs.step.Meaning.{refused}
-use Rattle.gate_history.specs.write.Notes.{import_notes, submit_notes, unlink_notes, arrival_notes, refusal_notes}
+use Rattle.gate_history.specs.write.Notes.{came_notes, submit_notes, refusal_notes}
 use Rattle.gate_history.specs.write.Output.{replies, acknowledgements}
 use Rattle.gate_history.specs.write.Packets.{asked_packets, stops}
 use Rattle.gate_history.specs.state.Sides.{refused_at, leaves, is_loss, closes_host, imports, agrees}
@@ -25,7 +25,7 @@ pub record ClientGoes (st : State) (e : Effect) : Type 0 where
   pub asked : asked_packets st.streams e ≡ stops (is_ended None) st.streams
   pub no_word : acknowledgements st.agreed e ≡ []
   pub no_deed : import_deeds e ++ submit_deeds e ++ unlink_deeds e ++ arrive_deeds e ≡ []
-  pub no_note : flat_map named (import_notes e ++ submit_notes e ++ unlink_notes e ++ arrival_notes e) ≡ []
+  pub no_note : flat_map named (came_notes e ++ submit_notes e) ≡ []
   pub unnamed : flat_map named (refusal_notes (refused_at e)) ≡ []
 
 pub end-leaves : (st : State) → ClientGoes st (Ends Client)

@@ -5,15 +5,15 @@ use Rattle.std.proofs.lemmas.Grind.{flat_map-append}
 use Rattle.usb_base.specs.declared.refusal.Refusal.{Refusal}
 use Rattle.gate_history.specs.declared.note.Note.{Note}
 use Rattle.gate_history.specs.declared.note.Note.TheVariants as note
-use Rattle.gate_history.specs.step.Marks.{Submission, Effect, Imports, Mark}
+use Rattle.gate_history.specs.step.Marks.{Effect, Imports, Mark}
 use Rattle.gate_history.specs.state.Sides.{refused_at, leaves, is_loss}
-use Rattle.gate_history.specs.client.Submits.{Pending, opened, ends}
+use Rattle.gate_history.specs.client.Submits.{Pending, ends}
 use Rattle.gate_history.specs.state.State.{State}
 use Rattle.gate_history.specs.write.Output.{present}
-use Rattle.gate_history.specs.write.Notes.{when, import_notes, submit_notes, unlink_notes, arrival_notes, answer_notes, refusal_notes, notes_of, is_by_answer}
+use Rattle.gate_history.specs.write.Notes.{when, came_notes, submit_notes, answer_notes, refusal_notes, notes_of, is_by_answer}
 use Rattle.direct_run.specs.declared.item.Item.{Item}
 use Rattle.direct_run.specs.Noted.{item_of}
-use Rattle.direct_device.specs.Acting.{Deed, Submit, Answer, Gone, ClientGone}
+use Rattle.direct_device.specs.Acting.{Deed, Answer, Gone, ClientGone}
 use Rattle.direct_device.specs.Legal.{item_of as deed_item}
 use Rattle.direct_proof.specs.Moves.{import_deeds, submit_deeds, unlink_deeds, arrive_deeds, answer_deeds, deeds_of, when as when_deed}
 use Rattle.direct_proof.proofs.shared.Traces.{map-append}
@@ -22,22 +22,10 @@ flat-ones : {X : Type 0} (f : X → Note) (g : X → Item) → ((x : X) → item
 flat-ones f g h [] = refl
 flat-ones f g h (x ∷ xs) = λ i. h x i ++ flat-ones f g h xs i
 
--- what one effect tells: an import, an unlink, what came
-record Tells (e : Effect) : Type 0 where
-  imports : map deed_item (import_deeds e) ≡ flat_map item_of (import_notes e)
-  unlinks : map deed_item (unlink_deeds e) ≡ flat_map item_of (unlink_notes e)
-  arrives : map deed_item (arrive_deeds e) ≡ flat_map item_of (arrival_notes e)
-
-tells : (e : Effect) → Tells e
-tells (Imports reply) = record { imports = refl; unlinks = refl; arrives = refl }
-tells _ = record { imports = refl; unlinks = refl; arrives = refl }
-
-submits-told : (e : Effect) → map deed_item (submit_deeds e) ≡ flat_map item_of (submit_notes e)
-submits-told e = go (opened e)
-  where
-    go : (ss : List Submission) → map deed_item (map (λ (s : Submission). Submit s.request) ss) ≡ flat_map item_of (map (λ (s : Submission). note.Submitted s.request.number s.id) ss)
-    go [] = refl
-    go (s ∷ ss) = ap (λ (l : List Item). deed_item (Submit s.request) ∷ l) (go ss)
+-- what one effect tells: an import, an unlink, what came, a submit
+tells : (e : Effect) → map deed_item (import_deeds e ++ submit_deeds e ++ unlink_deeds e ++ arrive_deeds e) ≡ flat_map item_of (came_notes e ++ submit_notes e)
+tells (Imports reply) = refl
+tells _ = refl
 
 answers-told : (st : State) (e : Effect) → map deed_item (answer_deeds st e) ≡ flat_map item_of (answer_notes st e)
 answers-told st e = go (filter (λ (p : Pending). is_by_answer (ends e p.submit)) (present st e))
@@ -68,13 +56,10 @@ told-deeds st m =
     let e = m.what in
     let lost : Bool = is_loss m.what && st.imported && not st.lost in
     let left : Bool = leaves m.what && not st.client_over in
-    let a = beside (import_deeds e) (submit_deeds e) (import_notes e) (submit_notes e) (tells e).imports (submits-told e) in
-    let b = beside (import_deeds e ++ submit_deeds e) (unlink_deeds e) (import_notes e ++ submit_notes e) (unlink_notes e) a (tells e).unlinks in
-    let c = beside (import_deeds e ++ submit_deeds e ++ unlink_deeds e) (arrive_deeds e) (import_notes e ++ submit_notes e ++ unlink_notes e) (arrival_notes e) b (tells e).arrives in
-    let d = beside (import_deeds e ++ submit_deeds e ++ unlink_deeds e ++ arrive_deeds e) (answer_deeds st e) (import_notes e ++ submit_notes e ++ unlink_notes e ++ arrival_notes e) (answer_notes st e) c (answers-told st e) in
-    let f = beside (import_deeds e ++ submit_deeds e ++ unlink_deeds e ++ arrive_deeds e ++ answer_deeds st e) (when_deed lost Gone) (import_notes e ++ submit_notes e ++ unlink_notes e ++ arrival_notes e ++ answer_notes st e) (when lost note.DeviceGone) d (gone-told lost) in
-    let g = beside (import_deeds e ++ submit_deeds e ++ unlink_deeds e ++ arrive_deeds e ++ answer_deeds st e ++ when_deed lost Gone) (when_deed left ClientGone) (import_notes e ++ submit_notes e ++ unlink_notes e ++ arrival_notes e ++ answer_notes st e ++ when lost note.DeviceGone) (when left note.ClientGone) f (left-told left) in
+    let d = beside (import_deeds e ++ submit_deeds e ++ unlink_deeds e ++ arrive_deeds e) (answer_deeds st e) (came_notes e ++ submit_notes e) (answer_notes st e) (tells e) (answers-told st e) in
+    let f = beside (import_deeds e ++ submit_deeds e ++ unlink_deeds e ++ arrive_deeds e ++ answer_deeds st e) (when_deed lost Gone) (came_notes e ++ submit_notes e ++ answer_notes st e) (when lost note.DeviceGone) d (gone-told lost) in
+    let g = beside (import_deeds e ++ submit_deeds e ++ unlink_deeds e ++ arrive_deeds e ++ answer_deeds st e ++ when_deed lost Gone) (when_deed left ClientGone) (came_notes e ++ submit_notes e ++ answer_notes st e ++ when lost note.DeviceGone) (when left note.ClientGone) f (left-told left) in
     g
-    ∙ sym (append-nil (flat_map item_of (import_notes e ++ submit_notes e ++ unlink_notes e ++ arrival_notes e ++ answer_notes st e ++ when lost note.DeviceGone ++ when left note.ClientGone)))
-    ∙ ap (λ (l : List Item). flat_map item_of (import_notes e ++ submit_notes e ++ unlink_notes e ++ arrival_notes e ++ answer_notes st e ++ when lost note.DeviceGone ++ when left note.ClientGone) ++ l) (sym (none-refused (refused_at e)))
-    ∙ sym (flat_map-append item_of (import_notes e ++ submit_notes e ++ unlink_notes e ++ arrival_notes e ++ answer_notes st e ++ when lost note.DeviceGone ++ when left note.ClientGone) (refusal_notes (refused_at e)))
+    ∙ sym (append-nil (flat_map item_of (came_notes e ++ submit_notes e ++ answer_notes st e ++ when lost note.DeviceGone ++ when left note.ClientGone)))
+    ∙ ap (λ (l : List Item). flat_map item_of (came_notes e ++ submit_notes e ++ answer_notes st e ++ when lost note.DeviceGone ++ when left note.ClientGone) ++ l) (sym (none-refused (refused_at e)))
+    ∙ sym (flat_map-append item_of (came_notes e ++ submit_notes e ++ answer_notes st e ++ when lost note.DeviceGone ++ when left note.ClientGone) (refusal_notes (refused_at e)))

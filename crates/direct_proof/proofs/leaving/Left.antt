@@ -9,7 +9,7 @@ use Rattle.gate_history.specs.state.Facts.{no_facts, tell}
 use Rattle.gate_history.specs.state.Ids.{last_of}
 use Rattle.gate_history.specs.step.Marks.{Effect, Mark}
 use Rattle.gate_history.specs.step.Meaning.{mark_as, drawn_by}
-use Rattle.gate_history.specs.write.Notes.{import_notes, submit_notes, unlink_notes, arrival_notes, answer_notes, refusal_notes, notes_of, is_by_answer}
+use Rattle.gate_history.specs.write.Notes.{came_notes, submit_notes, answer_notes, refusal_notes, notes_of, is_by_answer}
 use Rattle.gate_history.specs.write.Notes as notes
 use Rattle.gate_history.specs.write.Output.{present, cancels, cancel}
 use Rattle.gate_history.specs.write.Packets.{stops}
@@ -88,7 +88,7 @@ module _ {S : Type 0} (w : World S) (e : Effect) (l : ClientGoes w.gate e) where
 
   noted : flat_map named (notes_of w.gate (mark_as w.gate e None)) ≡ []
   noted =
-      let first : List Note = import_notes e ++ submit_notes e ++ unlink_notes e ++ arrival_notes e in
+      let first : List Note = came_notes e ++ submit_notes e in
       let lost : List Note = notes.when (is_loss e && w.gate.imported && not w.gate.lost) note.DeviceGone in
       let gone : List Note = notes.when (leaves e && not w.gate.client_over) note.ClientGone in
       none-both (first ++ answer_notes w.gate e ++ lost ++ gone) (refusal_notes (refused_at e))

@@ -7,12 +7,12 @@ use Rattle.std.proofs.lemmas.Grind.{flat_map-append}
 use Rattle.usb_base.specs.declared.refusal.Refusal.{Refusal}
 use Rattle.gate_history.specs.declared.note.Note.{Note}
 use Rattle.gate_history.specs.declared.note.Note.TheVariants as note
-use Rattle.gate_history.specs.step.Marks.{Submission, Effect, Imports, Unlinks, Arrives, Mark}
-use Rattle.gate_history.specs.state.Sides.{is_client, refused_at, refuses_host as effect_refuses, ends_host, leaves, is_loss, closes_host, host_over}
-use Rattle.gate_history.specs.client.Submits.{Pending, opened, ends}
+use Rattle.gate_history.specs.step.Marks.{Effect, Imports, Ends, Refuses, Mark}
+use Rattle.gate_history.specs.state.Sides.{is_client, refused_at, leaves, is_loss, closes_host, host_over}
+use Rattle.gate_history.specs.client.Submits.{Pending, ends}
 use Rattle.gate_history.specs.state.State.{State, state_of}
 use Rattle.gate_history.specs.write.Output.{present}
-use Rattle.gate_history.specs.write.Notes.{when, import_notes, submit_notes, unlink_notes, arrival_notes, answer_notes, refusal_notes, is_by_answer, notes_of}
+use Rattle.gate_history.specs.write.Notes.{when, came_notes, submit_notes, answer_notes, refusal_notes, is_by_answer, notes_of}
 use Rattle.gate_history.specs.write.All.{all_of}
 use Rattle.direct_run.specs.Noted.{refusal_in}
 use Rattle.direct_proof.specs.Simulates.{refuses_host}
@@ -26,21 +26,9 @@ refuses-append ns ms = ap (list_any refuses_host) (flat_map-append refusal_in ns
 none-of-both : (ns ms : List Note) → refuses ns ≡ false → refuses ms ≡ false → refuses (ns ++ ms) ≡ false
 none-of-both ns ms h k = refuses-append ns ms ∙ (λ i. h i || k i)
 
-import-spares : (e : Effect) → refuses (import_notes e) ≡ false
-import-spares (Imports reply) = refl
-import-spares e = refl
-
-unlink-spares : (e : Effect) → refuses (unlink_notes e) ≡ false
-unlink-spares (Unlinks by target) = refl
-unlink-spares e = refl
-
-arrival-spares : (e : Effect) → refuses (arrival_notes e) ≡ false
-arrival-spares (Arrives ep fill) = refl
-arrival-spares e = refl
-
-submit-spares : (ss : List Submission) → refuses (map (λ (s : Submission). note.Submitted s.request.number s.id) ss) ≡ false
-submit-spares [] = refl
-submit-spares (s ∷ ss) = submit-spares ss
+first-spares : (e : Effect) → refuses (came_notes e ++ submit_notes e) ≡ false
+first-spares (Imports reply) = refl
+first-spares e = refl
 
 answer-spares : (ps : List Pending) → refuses (map (λ (p : Pending). note.Answered p.submit.request.number) ps) ≡ false
 answer-spares [] = refl
@@ -62,27 +50,28 @@ refused-is (Some r) = or-false (not (is_client r.side))
     or-false true = refl
     or-false false = refl
 
+abbrev effect_refuses : Effect → Bool
+effect_refuses e = option_map_or (λ (r : Refusal). not (is_client r.side)) (refused_at e) false
+
 mark-refuses : (st : State) (m : Mark) → refuses (notes_of st m) ≡ effect_refuses m.what
 mark-refuses st m =
     let e = m.what in
     let lost : Bool = is_loss e && st.imported && not st.lost in
     let left : Bool = leaves e && not st.client_over in
-    let a = none-of-both (import_notes e) (submit_notes e) (import-spares e) (submit-spares (opened e)) in
-    let b = none-of-both (import_notes e ++ submit_notes e) (unlink_notes e) a (unlink-spares e) in
-    let c = none-of-both (import_notes e ++ submit_notes e ++ unlink_notes e) (arrival_notes e) b (arrival-spares e) in
-    let d = none-of-both (import_notes e ++ submit_notes e ++ unlink_notes e ++ arrival_notes e) (answer_notes st e) c (answer-spares (filter (λ (p : Pending). is_by_answer (ends e p.submit)) (present st e))) in
-    let f = none-of-both (import_notes e ++ submit_notes e ++ unlink_notes e ++ arrival_notes e ++ answer_notes st e) (when lost note.DeviceGone) d (gone-spares lost) in
-    let g = none-of-both (import_notes e ++ submit_notes e ++ unlink_notes e ++ arrival_notes e ++ answer_notes st e ++ when lost note.DeviceGone) (when left note.ClientGone) f (left-spares left) in
-    refuses-append (import_notes e ++ submit_notes e ++ unlink_notes e ++ arrival_notes e ++ answer_notes st e ++ when lost note.DeviceGone ++ when left note.ClientGone) (refusal_notes (refused_at e))
+    let d = none-of-both (came_notes e ++ submit_notes e) (answer_notes st e) (first-spares e) (answer-spares (filter (λ (p : Pending). is_by_answer (ends e p.submit)) (present st e))) in
+    let f = none-of-both (came_notes e ++ submit_notes e ++ answer_notes st e) (when lost note.DeviceGone) d (gone-spares lost) in
+    let g = none-of-both (came_notes e ++ submit_notes e ++ answer_notes st e ++ when lost note.DeviceGone) (when left note.ClientGone) f (left-spares left) in
+    refuses-append (came_notes e ++ submit_notes e ++ answer_notes st e ++ when lost note.DeviceGone ++ when left note.ClientGone) (refusal_notes (refused_at e))
     ∙ (λ i. g i || refused-is (refused_at e) i)
 
+open-before : (closes before : Bool) → cond closes true (cond false false before) ≡ false → (closes ≡ false) × (before ≡ false)
+open-before true before h = absurd (let no : true ≡ false = h in cc)
+open-before false before h = (refl, h)
+
 stays-open : (e : Effect) (before : Bool) → cond (closes_host e) true (cond false false before) ≡ false → (effect_refuses e ≡ false) × (before ≡ false)
-stays-open e before h = go (ends_host e) (effect_refuses e) h
-  where
-    go : (a b : Bool) → cond (a || b) true before ≡ false → (b ≡ false) × (before ≡ false)
-    go true b k = absurd (let no : true ≡ false = k in cc)
-    go false true k = absurd (let no : true ≡ false = k in cc)
-    go false false k = (refl, k)
+stays-open (Refuses r) before h = open-before (not (is_client r.side)) before h
+stays-open (Ends side) before h = (refl, (open-before (not (is_client side)) before h).1)
+stays-open e before h = (refl, h)
 
 pub never-refused : (first : ℕ) (ms : List Mark) → host_over ms ≡ false → list_any refuses_host (flat_map refusal_in (all_of notes_of first ms)) ≡ false
 never-refused first [] going = refl

@@ -73,13 +73,7 @@ off-course {S = S} m s (Unplug ∷ steps) h = let acts = (course m s steps).acts
 gate-tells : (ns : List Note) → list_any is_of_device (flat_map item_of ns) ≡ false
 gate-tells [] = refl
 gate-tells (note.Imported ∷ ns) = gate-tells ns
-gate-tells (note.Submitted seqnum id ∷ ns) = gate-tells ns
-gate-tells (note.UnlinkAsked by target ∷ ns) = gate-tells ns
-gate-tells (note.Arrived ep ∷ ns) = gate-tells ns
-gate-tells (note.Answered seqnum ∷ ns) = gate-tells ns
-gate-tells (note.DeviceGone ∷ ns) = gate-tells ns
-gate-tells (note.ClientGone ∷ ns) = gate-tells ns
-gate-tells (note.Refused refusal ∷ ns) = gate-tells ns
+gate-tells (_ ∷ ns) = gate-tells ns
 
 host-tells : (submits : List Submitted) (ns : List HostNote) → list_any is_of_device (flat_map (item_of_host submits) ns) ≡ false
 host-tells submits [] = refl

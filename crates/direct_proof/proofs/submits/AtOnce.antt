@@ -16,7 +16,7 @@ use Rattle.gate_history.specs.declared.item.Item.TheVariants.{Asked}
 use Rattle.gate_history.specs.declared.verdict.Verdict.{Verdict}
 use Rattle.gate_history.specs.declared.verdict.Verdict.TheVariants.{Now}
 use Rattle.gate_history.specs.step.Marks.{Submission, Effect, Opens}
-use Rattle.gate_history.specs.client.Submits.{Pending, ends, at_once, AtOnce}
+use Rattle.gate_history.specs.client.Submits.{Pending, ends, at_once, ByStatus}
 use Rattle.gate_history.specs.state.Ups.{Up, stream_at, stream_of}
 use Rattle.gate_history.specs.state.State.{State, has_number, is_number as is_numbered}
 use Rattle.gate_history.specs.step.Machine.{live_after}
@@ -64,7 +64,7 @@ module _ (st : State) (r : Request) (status : ℤ) (before : AreBefore st.items 
       ∙ ap (λ (kept : Verdict). accepted_as st (submission st r kept (drawn_for st r kept)) kept) (kept-now (stream_at st.streams r.transfer.ep) status)
 
   -- it ends at once, and no other does
-  ends-now : ends what answered_as ≡ Some (AtOnce status)
+  ends-now : ends what answered_as ≡ Some (ByStatus status)
   ends-now = ap (λ (b : Bool). cond b (at_once (Now status)) None) (itself st.items)
 
   live-of : (ps : List Pending) → AreBefore st.items ps → filter (λ p. is_none (ends what p.submit)) ps ≡ ps

@@ -13,7 +13,7 @@ use Rattle.gate_history.specs.client.Requests.{request_of}
 use Rattle.gate_history.specs.declared.item.Item.TheVariants.{Asked}
 use Rattle.gate_history.specs.declared.verdict.Verdict.{Verdict}
 use Rattle.gate_history.specs.step.Marks.{Submission, Effect, Opens}
-use Rattle.gate_history.specs.client.Submits.{Pending, ends, at_once, ByChange, is_touched}
+use Rattle.gate_history.specs.client.Submits.{Pending, ends, at_once, ByStatus, is_touched}
 use Rattle.gate_history.specs.state.Ids.{last_of}
 use Rattle.gate_history.specs.declared.errno.TheConstants.{ESHUTDOWN}
 use Rattle.gate_history.specs.state.Calls.{asking}
@@ -54,10 +54,10 @@ module _ (st : State) (r : Request) (v : Verdict) (x : IsSimple st r v) (before 
       ∙ (λ i. Opens (record { place = st.items; request = r; verdict = v; id = (ap (λ (b : Bool). cond b (last_of 0 (next_ids st (length (packets_of st.streams v r)))) 0) x.goes ∙ ap (λ (l : List RedirPacket). last_of 0 (next_ids st (length l))) x.packets ∙ x.last) i }))
 
   stays : (p : Pending) → (st.items == p.submit.place) ≡ false → is_touched v p.submit.verdict ≡ false → ends what p.submit ≡ None
-  stays p e un = ap (λ (b : Bool). cond b (at_once p.submit.verdict) (cond (is_touched v p.submit.verdict) (Some ByChange) None)) e ∙ ap (λ (b : Bool). cond b (Some ByChange) None) un
+  stays p e un = ap (λ (b : Bool). cond b (at_once p.submit.verdict) (cond (is_touched v p.submit.verdict) (Some (ByStatus ESHUTDOWN)) None)) e ∙ ap (λ (b : Bool). cond b (Some (ByStatus ESHUTDOWN)) None) un
 
   new-stays : ends what opened_as ≡ None
-  new-stays = ap (λ (b : Bool). cond b (at_once v) (cond (is_touched v v) (Some ByChange) None)) (itself st.items) ∙ x.lives
+  new-stays = ap (λ (b : Bool). cond b (at_once v) (cond (is_touched v v) (Some (ByStatus ESHUTDOWN)) None)) (itself st.items) ∙ x.lives
 
   all-stay : Each (λ (p : Pending). ends what p.submit ≡ None) (present st what)
   all-stay = Each-append (λ (p : Pending). ends what p.submit ≡ None) st.live (fresh opened_as ∷ []) (olds st.live before x.untouched) (new-stays, tt)

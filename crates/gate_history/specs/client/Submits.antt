@@ -1,11 +1,11 @@
 -- The accepted submits, how each ended, which are live, and which were asked back: by search of the past.
 use Rattle.std.specs.Prelude.{ℕ, ◌==◌, ◌&&◌, nat_le, not, Bool, true, false, if◌then◌else◌, List, [], ◌∷◌, ◌++◌, length, filter, Option, Some, None, is_none, ℤ}
 use Rattle.std.specs.Option.{option_map, option_or}
-use Rattle.usb_base.specs.declared.status.UsbStatus.{UsbStatus}
 use Rattle.usb_base.specs.declared.transfer.Outcome.{Outcome}
-use Rattle.usb_base.specs.Status.{is_success}
+use Rattle.usb_base.specs.Status.{errno_of, is_success}
 use Rattle.control_route.specs.Changes.{touches}
 use Rattle.gate_history.specs.step.Folds.{rfold}
+use Rattle.gate_history.specs.declared.errno.TheConstants.{ESHUTDOWN}
 use Rattle.gate_history.specs.declared.verdict.Verdict.{Verdict}
 use Rattle.gate_history.specs.declared.verdict.Verdict.TheVariants.{Now, Routed, IsoOut, Stream}
 use Rattle.gate_history.specs.client.Verdict.{goes_by_id}
@@ -15,18 +15,16 @@ use Rattle.gate_history.specs.state.Sides.{leaves, is_loss}
 
 -- how a submit ends
 pub data End : Type 0 where
-  -- where it is accepted, with its verdict's status
-  AtOnce : (status : ℤ) → End
+  -- without its packets: where it is accepted, with its verdict's status; and of one that waits for a stream's packets,
+  -- where a change of its interface or the host ends the stream
+  ByStatus : (status : ℤ) → End
   -- where it is accepted, with its packets sent to the host
   Sent : End
   ByClient : End
   ByLoss : End
   ByAnswer : Outcome → End
-  -- of one that waits for a stream's packets: this unlink takes it back, a change of its interface ends the stream, the
-  -- host ends it with this status, or packets fill it
+  -- of one that waits for a stream's packets: this unlink takes it back, or packets fill it
   ByUnlink : (by : ℕ) → End
-  ByChange : End
-  ByStatus : UsbStatus → End
   ByPackets : Given → End
 
 -- ---- the submits
@@ -43,7 +41,7 @@ accepted ms = rfold (λ before m. before ++ opened m.what) [] ms
 -- ---- their ends
 
 abbrev pub at_once : Verdict → Option End
-at_once (Now status) = Some (AtOnce status)
+at_once (Now status) = Some (ByStatus status)
 at_once (IsoOut row) = Some Sent
 at_once _ = None
 
@@ -68,11 +66,11 @@ abbrev pub packets_end : ℕ → List Filling → Submission → Option End
 packets_end ep fillings s = if waits_at ep s then option_map ByPackets (given_to fillings s.request.number) else None
 
 abbrev pub own_end : Effect → Submission → Option End
-own_end (Opens t) s = if t.place == s.place then at_once s.verdict else if is_touched t.verdict s.verdict then Some ByChange else None
+own_end (Opens t) s = if t.place == s.place then at_once s.verdict else if is_touched t.verdict s.verdict then Some (ByStatus ESHUTDOWN) else None
 own_end (Waits t fill) s = packets_end t.request.transfer.ep fill.fillings s
 own_end (Arrives ep fill) s = packets_end ep fill.fillings s
 own_end (Unlinks by target) s = if is_waiting s.verdict && (s.request.number == target) then Some (ByUnlink by) else None
-own_end (StreamTold id ep status) s = if waits_at ep s && not (is_success status) then Some (ByStatus status) else None
+own_end (StreamTold id ep status) s = if waits_at ep s && not (is_success status) then Some (ByStatus (errno_of status)) else None
 own_end (Answers id outcome) s = if has_id id s then Some (ByAnswer outcome) else None
 own_end _ s = None
 

@@ -28,20 +28,9 @@ is_client Host = false
 abbrev pub refuses_client : Effect → Bool
 refuses_client e = option_map_or (λ r. is_client r.side) (refused_at e) false
 
-abbrev pub refuses_host : Effect → Bool
-refuses_host e = option_map_or (λ r. not (is_client r.side)) (refused_at e) false
-
 abbrev pub ends_client : Effect → Bool
 ends_client (Ends side) = is_client side
 ends_client _ = false
-
-abbrev pub ends_host : Effect → Bool
-ends_host (Ends side) = not (is_client side)
-ends_host _ = false
-
-abbrev pub disconnects : Effect → Bool
-disconnects (Disconnects id) = true
-disconnects _ = false
 
 abbrev pub imports : Effect → Bool
 imports (Imports reply) = true
@@ -53,11 +42,14 @@ leaves e = ends_client e || refuses_client e
 
 -- nothing more is read of the host
 abbrev pub closes_host : Effect → Bool
-closes_host e = ends_host e || refuses_host e
+closes_host (Ends side) = not (is_client side)
+closes_host (Refuses r) = not (is_client r.side)
+closes_host _ = false
 
 -- the device is lost
 abbrev pub is_loss : Effect → Bool
-is_loss e = disconnects e || closes_host e
+is_loss (Disconnects id) = true
+is_loss e = closes_host e
 
 abbrev pub agrees : Effect → Option Caps
 agrees (Agrees caps) = Some caps

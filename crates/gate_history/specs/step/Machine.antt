@@ -1,18 +1,17 @@
 -- The same as a machine: a state that steps with each item, and keeps no past. First what the item means, by the whole
 -- state; then each part steps by itself.
 use Rattle.std.specs.Option.{option_or}
-use Rattle.std.specs.Prelude.{◌≡◌, ℕ, suc, ◌-◌, false, if◌then◌else◌, List, [], ◌∷◌, ◌++◌, map, filter, is_none, None, unwrap_or}
-use Rattle.redir_wire.specs.Capability.{no_caps}
+use Rattle.std.specs.Prelude.{◌≡◌, ℕ, suc, false, if◌then◌else◌, List, [], ◌∷◌, ◌++◌, map, filter, is_none, unwrap_or}
 use Rattle.gate_history.specs.declared.note.Counts.{Counts}
 use Rattle.gate_history.specs.step.Events.{Event}
 use Rattle.gate_history.specs.declared.item.Item.{Item}
 use Rattle.gate_history.specs.step.Marks.{Effect, Mark}
 use Rattle.gate_history.specs.state.Sides.{turned, imports, leaves, is_loss, refuses_client, ends_client, closes_host, agrees}
-use Rattle.gate_history.specs.state.Facts.{no_facts, facts_after}
+use Rattle.gate_history.specs.state.Facts.{facts_after}
 use Rattle.gate_history.specs.client.Submits.{Pending, ends, asks, abandoned_after}
 use Rattle.gate_history.specs.state.Ids.{last_of}
-use Rattle.gate_history.specs.state.Ups.{no_streams, streams_after}
-use Rattle.gate_history.specs.state.Calls.{no_calls, called, asking, fence_after}
+use Rattle.gate_history.specs.state.Ups.{streams_after}
+use Rattle.gate_history.specs.state.Calls.{called, asking, fence_after}
 use Rattle.gate_history.specs.state.State.{State, state_of, submits}
 use Rattle.gate_history.specs.step.Meaning.{mark_of}
 use Rattle.gate_history.specs.step.Past.{is_left_out, past}
@@ -23,21 +22,7 @@ use Rattle.gate_history.specs.write.All.{all_of, counted}
 
 -- nothing came yet
 abbrev pub start : ℕ → State
-start first = record {
-  items = 0;
-  facts = no_facts;
-  agreed = no_caps;
-  imported = false;
-  lost = false;
-  client_over = false;
-  host_over = false;
-  live = [];
-  abandoned = [];
-  streams = no_streams;
-  calls = no_calls;
-  fence = None;
-  last = first - 1;
-}
+start first = state_of first []
 
 abbrev pub ask : Effect → Pending → Pending
 ask e p = record p { unlinker = option_or p.unlinker (asks e p.submit) }

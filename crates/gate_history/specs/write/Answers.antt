@@ -16,7 +16,7 @@ use Rattle.gate_history.specs.declared.request.Request.{Request}
 use Rattle.gate_history.specs.client.Verdict.{none_of, is_wire}
 use Rattle.gate_history.specs.host.Fillings.{Given, Transferred, Isochronous}
 use Rattle.gate_history.specs.step.Marks.{Submission}
-use Rattle.gate_history.specs.client.Submits.{End, AtOnce, Sent, ByClient, ByLoss, ByAnswer, ByUnlink, ByChange, ByStatus, ByPackets}
+use Rattle.gate_history.specs.client.Submits.{End, ByStatus, Sent, ByClient, ByLoss, ByAnswer, ByUnlink, ByPackets}
 
 -- ---- the packets
 
@@ -86,14 +86,12 @@ lost_answer s unlinker = option_map_or (λ by. ret_unlink by ECONNRESET) unlinke
 
 -- nothing goes to a client that is gone
 abbrev pub answers : Submission → Option ℕ → End → List UrbPacket
-answers s by (AtOnce status) = without_packets s.request status ∷ []
+answers s by (ByStatus status) = without_packets s.request status ∷ []
 answers s by Sent = all_sent s.request ∷ []
 answers s by ByClient = []
 answers s by ByLoss = lost_answer s by ∷ []
 answers s by (ByAnswer outcome) = answers_by s outcome by
 answers s by (ByUnlink other) = ret_unlink other ECONNRESET ∷ []
-answers s by ByChange = without_packets s.request ESHUTDOWN ∷ []
-answers s by (ByStatus status) = without_packets s.request (errno_of status) ∷ []
 answers s by (ByPackets given) = with_given s.request given ∷ []
 
 abbrev pub answers_at : Submission → Option ℕ → Option End → List UrbPacket

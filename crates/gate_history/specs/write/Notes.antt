@@ -15,20 +15,14 @@ use Rattle.gate_history.specs.write.Output.{present}
 abbrev pub when : Bool → Note → List Note
 when b n = if b then n ∷ [] else []
 
-abbrev pub import_notes : Effect → List Note
-import_notes (Imports reply) = note.Imported ∷ []
-import_notes _ = []
+abbrev pub came_notes : Effect → List Note
+came_notes (Imports reply) = note.Imported ∷ []
+came_notes (Unlinks by target) = note.UnlinkAsked by target ∷ []
+came_notes (Arrives ep fill) = note.Arrived ep ∷ []
+came_notes _ = []
 
 abbrev pub submit_notes : Effect → List Note
 submit_notes e = map (λ s. note.Submitted s.request.number s.id) (opened e)
-
-abbrev pub unlink_notes : Effect → List Note
-unlink_notes (Unlinks by target) = note.UnlinkAsked by target ∷ []
-unlink_notes _ = []
-
-abbrev pub arrival_notes : Effect → List Note
-arrival_notes (Arrives ep fill) = note.Arrived ep ∷ []
-arrival_notes _ = []
 
 -- by its answer, or by packets of its stream
 abbrev pub is_by_answer : Option End → Bool
@@ -45,7 +39,7 @@ refusal_notes refusal = map note.Refused (option_to_list refusal)
 -- an import stands until the device is lost; a client that was refused is gone before its end
 abbrev pub notes_of : State → Mark → List Note
 notes_of st m =
-    import_notes m.what ++ submit_notes m.what ++ unlink_notes m.what ++ arrival_notes m.what ++ answer_notes st m.what
+    came_notes m.what ++ submit_notes m.what ++ answer_notes st m.what
     ++ when (is_loss m.what && st.imported && not st.lost) note.DeviceGone
     ++ when (leaves m.what && not st.client_over) note.ClientGone
     ++ refusal_notes (refused_at m.what)

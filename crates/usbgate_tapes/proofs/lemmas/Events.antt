@@ -8,12 +8,12 @@ use Rattle.usb_base.specs.declared.refusal.Refusal.{Refusal}
 use Rattle.gate_history.specs.declared.note.Note.{Note}
 use Rattle.gate_history.specs.declared.note.Note.TheVariants as note
 use Rattle.gate_history.specs.step.Events.{Event}
-use Rattle.gate_history.specs.step.Marks.{Submission, Effect, Imports, Arrives, Unlinks, Mark}
+use Rattle.gate_history.specs.step.Marks.{Effect, Imports, Mark}
 use Rattle.gate_history.specs.state.Sides.{refused_at, leaves, is_loss}
-use Rattle.gate_history.specs.client.Submits.{Pending, opened, ends}
+use Rattle.gate_history.specs.client.Submits.{Pending, ends}
 use Rattle.gate_history.specs.state.State.{State, state_of}
 use Rattle.gate_history.specs.step.History.{history}
-use Rattle.gate_history.specs.write.Notes.{is_by_answer, when, import_notes, submit_notes, unlink_notes, arrival_notes, answer_notes, refusal_notes, notes_of}
+use Rattle.gate_history.specs.write.Notes.{is_by_answer, when, came_notes, submit_notes, answer_notes, refusal_notes, notes_of}
 use Rattle.gate_history.specs.write.Output.{present}
 use Rattle.gate_history.specs.write.Bytes.{out_client, out_host}
 use Rattle.gate_history.specs.Headline.{Gains}
@@ -39,21 +39,9 @@ quiet-when : (b : Bool) (n : Note) → is_refusal n ≡ false → IsQuiet (when 
 quiet-when true n quiet = ap (λ (t : Bool). t || false) quiet
 quiet-when false n quiet = refl
 
-quiet-import : (e : Effect) → IsQuiet (import_notes e)
-quiet-import (Imports reply) = refl
-quiet-import e = refl
-
-quiet-submit : (ss : List Submission) → IsQuiet (map (λ s. note.Submitted s.request.number s.id) ss)
-quiet-submit [] = refl
-quiet-submit (s ∷ ss) = quiet-submit ss
-
-quiet-unlink : (e : Effect) → IsQuiet (unlink_notes e)
-quiet-unlink (Unlinks by target) = refl
-quiet-unlink e = refl
-
-quiet-arrival : (e : Effect) → IsQuiet (arrival_notes e)
-quiet-arrival (Arrives ep fill) = refl
-quiet-arrival e = refl
+quiet-first : (e : Effect) → IsQuiet (came_notes e ++ submit_notes e)
+quiet-first (Imports reply) = refl
+quiet-first e = refl
 
 quiet-answer : (ps : List Pending) → IsQuiet (map (λ p. note.Answered p.submit.request.number) ps)
 quiet-answer [] = refl
@@ -65,15 +53,11 @@ told-refusal (Some r) = refl
 
 told-mark : (st : State) (m : Mark) → list_any is_refusal (notes_of st m) ≡ is_some (refused_at m.what)
 told-mark st m =
-    let by_client = import_notes m.what ++ submit_notes m.what ++ unlink_notes m.what in
-    let came = by_client ++ arrival_notes m.what in
+    let came = came_notes m.what ++ submit_notes m.what in
     let gone = when (is_loss m.what && st.imported && not st.lost) note.DeviceGone in
     let left = when (leaves m.what && not st.client_over) note.ClientGone in
-    let first_three : IsQuiet by_client =
-    quiet-three (import_notes m.what) (submit_notes m.what) (unlink_notes m.what) (quiet-import m.what) (quiet-submit (opened m.what)) (quiet-unlink m.what) in
-    let first_four : IsQuiet came = quiet-then by_client (arrival_notes m.what) first_three ∙ quiet-arrival m.what in
     let next_three : IsQuiet (came ++ answer_notes st m.what ++ gone) =
-    quiet-three came (answer_notes st m.what) gone first_four (quiet-answer (filter (λ p. is_by_answer (ends m.what p.submit)) (present st m.what))) (quiet-when (is_loss m.what && st.imported && not st.lost) note.DeviceGone refl) in
+    quiet-three came (answer_notes st m.what) gone (quiet-first m.what) (quiet-answer (filter (λ p. is_by_answer (ends m.what p.submit)) (present st m.what))) (quiet-when (is_loss m.what && st.imported && not st.lost) note.DeviceGone refl) in
     let all_seven : IsQuiet (came ++ answer_notes st m.what ++ gone ++ left) =
     quiet-then (came ++ answer_notes st m.what ++ gone) left next_three ∙ quiet-when (leaves m.what && not st.client_over) note.ClientGone refl in
     quiet-then (came ++ answer_notes st m.what ++ gone ++ left) (refusal_notes (refused_at m.what)) all_seven ∙ told-refusal (refused_at m.what)

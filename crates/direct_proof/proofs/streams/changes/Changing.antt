@@ -19,7 +19,7 @@ use Rattle.gate_history.specs.declared.verdict.Verdict.{Verdict}
 use Rattle.gate_history.specs.declared.verdict.Verdict.TheVariants.{Routed}
 use Rattle.gate_history.specs.declared.errno.TheConstants.{ESHUTDOWN}
 use Rattle.gate_history.specs.step.Marks.{Submission, Effect, Opens}
-use Rattle.gate_history.specs.client.Submits.{Pending, End, ByChange, ends, at_once, is_touched}
+use Rattle.gate_history.specs.client.Submits.{Pending, End, ByStatus, ends, at_once, is_touched}
 use Rattle.gate_history.specs.state.Ids.{last_of}
 use Rattle.gate_history.specs.state.State.{State, has_number, next_ids}
 use Rattle.gate_history.specs.write.Packets.{stops, route_packets}
@@ -93,8 +93,8 @@ module _ (st : State) (r : Request) (x : Route) where
   abbrev e : Effect
   e = Opens (changer st r x)
 
-  end-is : (p : Pending) → (st.items == p.submit.place) ≡ false → ends e p.submit ≡ cond (touched x p) (Some ByChange) None
-  end-is p h = ap (λ (b : Bool). cond b (at_once p.submit.verdict) (cond (touched x p) (Some ByChange) None)) h
+  end-is : (p : Pending) → (st.items == p.submit.place) ≡ false → ends e p.submit ≡ cond (touched x p) (Some (ByStatus ESHUTDOWN)) None
+  end-is p h = ap (λ (b : Bool). cond b (at_once p.submit.verdict) (cond (touched x p) (Some (ByStatus ESHUTDOWN)) None)) h
 
   own : ends e (changer st r x) ≡ None
   own = ap (λ (b : Bool). cond b None None) (itself st.items)
@@ -105,7 +105,7 @@ module _ (st : State) (r : Request) (x : Route) where
       let rest = lives ps h.1 in
       (λ i. cond (is_none (end-is p h.0 i)) (p ∷ rest i) (rest i)) ∙ by (touched x p)
     where
-      by : (b : Bool) → cond (is_none (cond b (Some ByChange) None)) (p ∷ (staying x ps ++ fresh (changer st r x) ∷ [])) (staying x ps ++ fresh (changer st r x) ∷ []) ≡ cond (not b) (p ∷ staying x ps) (staying x ps) ++ fresh (changer st r x) ∷ []
+      by : (b : Bool) → cond (is_none (cond b (Some (ByStatus ESHUTDOWN)) None)) (p ∷ (staying x ps ++ fresh (changer st r x) ∷ [])) (staying x ps ++ fresh (changer st r x) ∷ []) ≡ cond (not b) (p ∷ staying x ps) (staying x ps) ++ fresh (changer st r x) ∷ []
       by true = refl
       by false = refl
 
@@ -115,7 +115,7 @@ module _ (st : State) (r : Request) (x : Route) where
       let rest = none-answer ps h.1 in
       (λ i. cond (is_by_answer (end-is p h.0 i)) (p ∷ rest i) (rest i)) ∙ by (touched x p)
     where
-      by : (b : Bool) → cond (is_by_answer (cond b (Some ByChange) None)) (p ∷ []) [] ≡ []
+      by : (b : Bool) → cond (is_by_answer (cond b (Some (ByStatus ESHUTDOWN)) None)) (p ∷ []) [] ≡ []
       by true = refl
       by false = refl
 
@@ -125,7 +125,7 @@ module _ (st : State) (r : Request) (x : Route) where
       let rest = gives ps h.1 in
       (λ i. answers_at p.submit p.unlinker (end-is p h.0 i) ++ rest i) ∙ by (touched x p)
     where
-      by : (b : Bool) → answers_at p.submit p.unlinker (cond b (Some ByChange) None) ++ ending x ps ≡ map (λ (q : Pending). without_packets q.submit.request ESHUTDOWN) (cond b (p ∷ filter (touched x) ps) (filter (touched x) ps))
+      by : (b : Bool) → answers_at p.submit p.unlinker (cond b (Some (ByStatus ESHUTDOWN)) None) ++ ending x ps ≡ map (λ (q : Pending). without_packets q.submit.request ESHUTDOWN) (cond b (p ∷ filter (touched x) ps) (filter (touched x) ps))
       by true = refl
       by false = refl
 

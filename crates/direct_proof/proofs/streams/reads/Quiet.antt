@@ -2,6 +2,7 @@
 use Rattle.std.proofs.Common.{◌≡◌, ℕ, suc, ◌&&◌, Bool, true, false, cond, List, [], ◌∷◌, ◌++◌, map, filter, Option, Some, None, is_none, refl, ap, ◌∙◌, append-nil}
 use Rattle.std.specs.List.{flat_map}
 use Rattle.usb_base.specs.declared.status.UsbStatus.TheVariants.{Success}
+use Rattle.usb_base.specs.Status.{errno_of}
 use Rattle.usbip_urb.specs.declared.client.ClientPacket.TheVariants.{Urb}
 use Rattle.redir_data.specs.declared.packet.RedirPacket.{RedirPacket}
 use Rattle.gate_history.specs.step.Marks.{Submission, Effect, Idle, StreamTold}
@@ -65,7 +66,7 @@ stated-made w id ep = λ i. record {
     none : (s : Submission) → ends (StreamTold id ep Success) s ≡ None
     none s = go (waits_at ep s)
       where
-        go : (b : Bool) → cond (b && false) (Some (ByStatus Success)) None ≡ None
+        go : (b : Bool) → cond (b && false) (Some (ByStatus (errno_of Success))) None ≡ None
         go true = refl
         go false = refl
 

@@ -21,7 +21,7 @@ use Rattle.gate_history.specs.declared.errno.TheConstants.{ESHUTDOWN}
 use Rattle.gate_history.specs.declared.request.Request.{Request}
 use Rattle.gate_history.specs.declared.verdict.Verdict.TheVariants.{Routed}
 use Rattle.gate_history.specs.step.Marks.{Submission, Effect, Opens}
-use Rattle.gate_history.specs.client.Submits.{Pending, ByChange, at_once, ends, is_touched}
+use Rattle.gate_history.specs.client.Submits.{Pending, ByStatus, at_once, ends, is_touched}
 use Rattle.gate_history.specs.state.Ids.{last_of}
 use Rattle.gate_history.specs.state.Ups.{lower, is_ended}
 use Rattle.gate_history.specs.state.Calls.{called}
@@ -66,12 +66,12 @@ module _ (st : State) (sound : IsSound st) (q : Request) (r : Route) where
   abbrev So : Pending → Type 0
   So p = EndsSo e (touched_by r) packet p
 
-  other-end : (p : Pending) → p.submit.place < st.items → ends e p.submit ≡ cond (is_touched (Routed r) p.submit.verdict) (Some ByChange) None
+  other-end : (p : Pending) → p.submit.place < st.items → ends e p.submit ≡ cond (is_touched (Routed r) p.submit.verdict) (Some (ByStatus ESHUTDOWN)) None
   other-end p placed =
-      ap (λ (b : Bool). cond b (at_once p.submit.verdict) (cond (is_touched (Routed r) p.submit.verdict) (Some ByChange) None)) (other-place st.items p.submit.place placed)
+      ap (λ (b : Bool). cond b (at_once p.submit.verdict) (cond (is_touched (Routed r) p.submit.verdict) (Some (ByStatus ESHUTDOWN)) None)) (other-place st.items p.submit.place placed)
 
   other-so : (p : Pending) → p.submit.place < st.items → IsGoing p → So p
-  other-so p placed going = ends-so e (touched_by r) packet p (is_touched (Routed r) p.submit.verdict) ByChange (other-end p placed) (touched-row r p going) refl refl refl
+  other-so p placed going = ends-so e (touched_by r) packet p (is_touched (Routed r) p.submit.verdict) (ByStatus ESHUTDOWN) (other-end p placed) (touched-row r p going) refl refl refl
 
   all-so : Each (EndsSo e (touched_by r) packet) st.live
   all-so =
@@ -79,19 +79,19 @@ module _ (st : State) (sound : IsSound st) (q : Request) (r : Route) where
       (each-mapped (λ (s : Submission). s.place < st.items) (λ (p : Pending). p.submit) st.live sound.places) (all-going st sound)
 
   own : ends e change ≡ None
-  own = ap (λ (b : Bool). cond b None (cond (is_touched (Routed r) (Routed r)) (Some ByChange) None)) (own-place st.items)
+  own = ap (λ (b : Bool). cond b None (cond (is_touched (Routed r) (Routed r)) (Some (ByStatus ESHUTDOWN)) None)) (own-place st.items)
 
   abbrev touched : Pending → Bool
   touched p = is_touched (Routed r) p.submit.verdict
 
-  others : Each (λ p. ends e p.submit ≡ cond (touched p) (Some ByChange) None) st.live
+  others : Each (λ p. ends e p.submit ≡ cond (touched p) (Some (ByStatus ESHUTDOWN)) None) st.live
   others =
-      Each-weaker (λ p. p.submit.place < st.items) (λ p. ends e p.submit ≡ cond (touched p) (Some ByChange) None) other-end st.live
+      Each-weaker (λ p. p.submit.place < st.items) (λ p. ends e p.submit ≡ cond (touched p) (Some (ByStatus ESHUTDOWN)) None) other-end st.live
       (each-mapped (λ (s : Submission). s.place < st.items) (λ (p : Pending). p.submit) st.live sound.places)
 
   live-rows : map row (live_after st e) ≡ filter (λ l. not (touched_by r l)) (map row st.live) ++ row (fresh change) ∷ []
   live-rows =
-      ap (map row) (change-left st change touched ByChange others own)
+      ap (map row) (change-left st change touched (ByStatus ESHUTDOWN) others own)
       ∙ map-append row (filter (λ p. not (touched p)) st.live) (fresh change ∷ [])
       ∙ ap (λ (ls : List Live). ls ++ row (fresh change) ∷ [])
       (ap (map row) (filter-same (λ p. not (touched p)) (λ p. not (touched_by r (row p))) st.live
@@ -127,9 +127,9 @@ module _ (st : State) (sound : IsSound st) (q : Request) (r : Route) where
       (h.abandoned ∙ none-answered e st.abandoned (λ s. refl))
       (ap (λ (ls : List Live). length (filter (touched_by r) ls)) h.live ∙ sym done ∙ ap (λ (ps : List UrbPacket). length (filter is_ret_submit (map Urb ps))) (sym change-sent))
       (sym won ∙ ap (λ (ps : List UrbPacket). length (filter is_won_unlink (map Urb ps))) (sym change-sent))
-      (change-dropped st change touched ByChange others own refl)
+      (change-dropped st change touched (ByStatus ESHUTDOWN) others own refl)
       (client ∙ ap (λ (bs : List ℕ). out_old.to_client ++ bs)
       (ap (flat_map (ended_bytes (Change r) ESHUTDOWN)) h.live ∙ sym (ended-bytes e (touched_by r) packet st.live all-so)
       ∙ ap (λ (ps : List UrbPacket). flat_map client_spelling (map Urb ps)) (sym change-sent)))
       (host ∙ (λ i. out_old.to_host ++ flat_map (host_packet_bytes (h.caps i)) (sym (none-cancelled e stays-uncancelled st.live) i ++ zip (drawn_for st q (Routed r)) (packets_of st.streams (Routed r) q))))
-      (notes ∙ ap (λ (ns : List Note). out_old.notes ++ note.Submitted q.number change.id ∷ ns) (sym (change-noted st change touched ByChange others own refl)))
+      (notes ∙ ap (λ (ns : List Note). out_old.notes ++ note.Submitted q.number change.id ∷ ns) (sym (change-noted st change touched (ByStatus ESHUTDOWN) others own refl)))

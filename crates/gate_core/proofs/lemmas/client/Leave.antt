@@ -2,7 +2,7 @@
 use Rattle.std.proofs.Common.{◌≡◌, ℕ, ◌+◌, ◌^◌, ◌-◌, ◌≤◌, ◌&&◌, ◌||◌, Bool, true, false, cond, not, List, [], ◌++◌, length, map, None, refl, sym, ap, ◌∙◌}
 use Rattle.std.specs.Prelude.{is_none, filter, zip}
 use Rattle.std.specs.List.{flat_map, last_or}
-use Rattle.std.proofs.lemmas.Bool.{false≢true, or_parts}
+use Rattle.std.proofs.lemmas.Bool.{false≢true}
 use Rattle.std.proofs.lemmas.List.{append-nil, map-append, length-map}
 use Rattle.usbip_urb.specs.declared.client.ClientPacket.{ClientPacket}
 use Rattle.usbip_urb.specs.ClientPackets.{client_spelling}
@@ -16,7 +16,7 @@ use Rattle.gate_core.specs.declared.state.kept.Kept.{Kept}
 use Rattle.usb_base.specs.Number.{capped}
 use Rattle.gate_history.specs.step.Marks.{Submission, Effect, Disconnects}
 use Rattle.gate_history.specs.state.Facts.{no_facts}
-use Rattle.gate_history.specs.state.Sides.{refused_at, leaves, is_loss, disconnects, closes_host, refuses_client, ends_client, turned}
+use Rattle.gate_history.specs.state.Sides.{refused_at, leaves, is_loss, closes_host, refuses_client, ends_client, turned}
 use Rattle.gate_history.specs.client.Submits.{Pending, is_answered}
 use Rattle.std.proofs.lemmas.Grind.{flat_map-append}
 use Rattle.redir_data.specs.declared.packet.RedirPacket.{RedirPacket}
@@ -46,9 +46,10 @@ and-true : (b : Bool) → (b && true) ≡ b
 and-true true = refl
 and-true false = refl
 
-none-acknowledged : (caps : Caps) (e : Effect) → disconnects e ≡ false → acknowledgements caps e ≡ []
-none-acknowledged caps (Disconnects id) h = absurd (false≢true (sym h))
-none-acknowledged caps e h = refl
+-- what loses no device
+keeps-host : (caps : Caps) (e : Effect) → is_loss e ≡ false → (acknowledgements caps e ≡ []) × (closes_host e ≡ false)
+keeps-host caps (Disconnects id) h = absurd (false≢true (sym h))
+keeps-host caps e h = (refl, h)
 
 pub leaving-cancels : (st : State) (e : Effect) → is_quiet e ≡ false → leaves e ≡ true → (p : Pending) → cancels e p ≡ (is_wire p.submit.verdict && is_none p.unlinker)
 leaving-cancels st e over gone p = (over-is st e over).cancels_are p ∙ ap (λ (b : Bool). (is_wire p.submit.verdict && is_none p.unlinker) && b) gone ∙ and-true (is_wire p.submit.verdict && is_none p.unlinker)
@@ -69,7 +70,7 @@ module _ (st : State) (e : Effect) (over : is_quiet e ≡ false) (gone : leaves 
       ∙ ap length (ap (λ (ss : List Submission). st.live ++ map fresh ss) o.opens ∙ append-nil st.live)
 
   no-word : acknowledgements st.agreed e ≡ []
-  no-word = none-acknowledged st.agreed e (or_parts (disconnects e) (closes_host e) keeps).0
+  no-word = (keeps-host st.agreed e keeps).0
 
   left-notes : answer_notes st e ≡ []
   left-notes = leaving-noted st e gone
@@ -85,7 +86,7 @@ module _ (st : State) (e : Effect) (over : is_quiet e ≡ false) (gone : leaves 
       Does st (mark_as st e None) old new out (record out { to_host = host_new; notes = notes_new })
   does-leave c old new out host_new notes_new h answered_fits unlinked_fits parted is host notes =
       let asking : List (ℕ × RedirPacket) = zip (drawn_by st e) (asked_packets st.streams e) in
-      let lost = or_parts (disconnects e) (closes_host e) keeps in
+      let lost = keeps-host st.agreed e keeps in
       let abandoned : List Live = old.lives.abandoned ++ filter is_answered_by_id old.lives.live in
       does-step st (mark_as st e None) old new [] abandoned out (record out { to_host = host_new; notes = notes_new }) h
       (is ∙ (λ i. record (left_by c old) {

@@ -14,7 +14,7 @@ use Rattle.gate_core.specs.declared.state.kept.Kept.{Kept}
 use Rattle.usb_base.specs.Number.{capped}
 use Rattle.gate_history.specs.declared.verdict.Verdict.{Verdict}
 use Rattle.gate_history.specs.step.Marks.{Submission, Opens}
-use Rattle.gate_history.specs.client.Submits.{Pending, ByChange, at_once, is_touched, ends}
+use Rattle.gate_history.specs.client.Submits.{Pending, ByStatus, at_once, is_touched, ends}
 use Rattle.gate_history.specs.state.Ids.{last_of}
 use Rattle.gate_history.specs.state.Ups.{opened_streams}
 use Rattle.gate_history.specs.state.Calls.{called}
@@ -33,6 +33,7 @@ use Rattle.gate_history.proofs.lemmas.Lists.{Each, Each-weaker}
 use Rattle.gate_core.proofs.lemmas.step.Quiet.{capped-same, moved, does-quiet, none-answered}
 use Rattle.gate_history.proofs.lemmas.step.Effects.{opening-left, opening-answered, opening-noted, opening-dropped}
 use Rattle.gate_history.proofs.lemmas.step.NoCancel.{none-cancelled, stays-uncancelled}
+use Rattle.gate_history.specs.declared.errno.TheConstants.{ESHUTDOWN}
 
 other-place : (n m : ℕ) → m < n → eqb n m ≡ false
 other-place n m h = grind arith
@@ -49,12 +50,12 @@ module _ (st : State) (s : Submission) (placed : s.place ≡ st.items) (sound : 
   others : Each (λ p. ends (Opens s) p.submit ≡ None) st.live
   others =
       Each-weaker (λ p. p.submit.place < st.items) (λ p. ends (Opens s) p.submit ≡ None)
-      (λ p h. ap (λ (b : Bool). cond b (at_once p.submit.verdict) (cond (is_touched s.verdict p.submit.verdict) (Some ByChange) None)) (other-place s.place p.submit.place (omega (arith, h, placed)))
-      ∙ ap (λ (b : Bool). cond b (Some ByChange) None) (spares p.submit.verdict)) st.live
+      (λ p h. ap (λ (b : Bool). cond b (at_once p.submit.verdict) (cond (is_touched s.verdict p.submit.verdict) (Some (ByStatus ESHUTDOWN)) None)) (other-place s.place p.submit.place (omega (arith, h, placed)))
+      ∙ ap (λ (b : Bool). cond b (Some (ByStatus ESHUTDOWN)) None) (spares p.submit.verdict)) st.live
       (each-map (λ (t : Submission). t.place < st.items) (λ (p : Pending). p.submit) st.live sound.places)
 
   own : ends (Opens s) s ≡ at_once s.verdict
-  own = ap (λ (b : Bool). cond b (at_once s.verdict) (cond (is_touched s.verdict s.verdict) (Some ByChange) None)) (own-place s.place)
+  own = ap (λ (b : Bool). cond b (at_once s.verdict) (cond (is_touched s.verdict s.verdict) (Some (ByStatus ESHUTDOWN)) None)) (own-place s.place)
 
   -- what is kept, sent and told, where so many more are live
   pub does-open : (old new : Kept) (more : List Pending) (out_old out_new : Outputs) → Holds old st →

@@ -31,7 +31,7 @@ use Rattle.gate_history.specs.state.State.{State}
 use Rattle.gate_history.specs.step.Meaning.{mark_as, drawn_by}
 use Rattle.gate_history.specs.write.Answers.{answers_at}
 use Rattle.gate_history.specs.write.Output.{present, replies, cancels, to_client}
-use Rattle.gate_history.specs.write.Notes.{import_notes, submit_notes, unlink_notes, arrival_notes, answer_notes, dropped}
+use Rattle.gate_history.specs.write.Notes.{came_notes, submit_notes, answer_notes, dropped}
 use Rattle.gate_history.specs.write.All.{is_ret_submit, is_won_unlink}
 use Rattle.gate_history.specs.write.Bytes.{host_packet_bytes}
 use Rattle.gate_history.specs.step.Machine.{live_after}
@@ -104,7 +104,7 @@ module _ (st : State) (e : Effect) (max_packet ep : ℕ) (packets : List StreamP
       } →
       out_new.to_client ≡ out_old.to_client ++ filled_bytes max_packet (waiting_rows ep rows) packets →
       out_new.to_host ≡ out_old.to_host ++ flat_map (host_packet_bytes st.agreed) (asking st.streams (mark_as st e None)) →
-      out_new.notes ≡ out_old.notes ++ (import_notes e ++ submit_notes e ++ unlink_notes e ++ arrival_notes e ++ filled_notes (fill max_packet (requests (waiters ep (present st e))) packets)) →
+      out_new.notes ≡ out_old.notes ++ (came_notes e ++ submit_notes e ++ filled_notes (fill max_packet (requests (waiters ep (present st e))) packets)) →
       Does st (mark_as st e None) old new out_old out_new
   does-fill old new rows out_old out_new h unlinked_fits dropped_fits rows-are is client host notes =
       does-quiet st e l.quiet old new (without_firsts (length fs) (waits_for ep) rows) old.lives.abandoned (length fs) 0 out_old out_new h dropped_fits
@@ -124,7 +124,7 @@ module _ (st : State) (e : Effect) (max_packet ep : ℕ) (packets : List StreamP
       (sym (ap (λ (ps : List ClientPacket). length (filter is_ret_submit ps)) sent-so ∙ all.counted)) (ap length (sym (ap (filter is_won_unlink) sent-so ∙ all.won))) undropped-so
       (client ∙ ap (λ (bs : List ℕ). out_old.to_client ++ bs) (ap (λ (ls : List Live). filled_bytes max_packet (waiting_rows ep ls) packets) rows-are ∙ sym all.sent ∙ ap (flat_map client_spelling) (sym sent-so)))
       (host ∙ ap (λ (ps : List (ℕ × RedirPacket)). out_old.to_host ++ flat_map (host_packet_bytes st.agreed) (ps ++ asking st.streams (mark_as st e None))) (sym (none-cancelled e l.no_cancel st.live)))
-      (notes ∙ ap (λ (ns : List Note). out_old.notes ++ (import_notes e ++ submit_notes e ++ unlink_notes e ++ arrival_notes e ++ ns)) (sym told-so))
+      (notes ∙ ap (λ (ns : List Note). out_old.notes ++ (came_notes e ++ submit_notes e ++ ns)) (sym told-so))
 
   -- the same of a stream that is up, whose place was emptied meanwhile
   pub does-fill-up : (up up_new : Up) (old between mid new : Kept) (out_old out_new : Outputs) (f : Fill) → Holds old st → old.unlinked ≤ 2 ^ 64 - 1 → old.dropped ≤ 2 ^ 64 - 1 →
@@ -137,7 +137,7 @@ module _ (st : State) (e : Effect) (max_packet ep : ℕ) (packets : List StreamP
       new ≡ record mid { streams = slice_set mid.streams (endpoint_index ep) (Some up_new) } →
       out_new.to_client ≡ out_old.to_client ++ up_bytes ep (record up { held = packets }) between.lives.live →
       out_new.to_host ≡ out_old.to_host →
-      out_new.notes ≡ out_old.notes ++ (import_notes e ++ submit_notes e ++ unlink_notes e ++ arrival_notes e ++ filled_notes (up_fill ep (record up { held = packets }) between.lives.live)) →
+      out_new.notes ≡ out_old.notes ++ (came_notes e ++ submit_notes e ++ filled_notes (up_fill ep (record up { held = packets }) between.lives.live)) →
       Does st (mark_as st e None) old new out_old out_new
   does-fill-up up up_new old between mid new out_old out_new f h unlinked_fits dropped_fits here size f-is no_ids moves rows-are between-is left-same ended is client host notes =
       let rows = between.lives.live in
@@ -164,4 +164,4 @@ module _ (st : State) (e : Effect) (max_packet ep : ℕ) (packets : List StreamP
       }))
       (client ∙ ap (λ (n : ℕ). out_old.to_client ++ filled_bytes n (waiting_rows ep rows) packets) size)
       (host ∙ sym (append-nil out_old.to_host) ∙ ap (λ (ids : List ℕ). out_old.to_host ++ flat_map (host_packet_bytes st.agreed) (zip ids (asked_packets st.streams e))) (sym no_ids))
-      (notes ∙ ap (λ (x : Fill). out_old.notes ++ (import_notes e ++ submit_notes e ++ unlink_notes e ++ arrival_notes e ++ filled_notes x)) filled)
+      (notes ∙ ap (λ (x : Fill). out_old.notes ++ (came_notes e ++ submit_notes e ++ filled_notes x)) filled)

@@ -42,7 +42,7 @@ module _ (st : State) (sound : IsSound st) (id ep : ℕ) (status : UsbStatus) wh
 
   told-so : (p : Pending) → IsGoing p → EndsSo told (is_told ep status) packet p
   told-so p going =
-      ends-so told (is_told ep status) packet p (waits_at ep p.submit && not (is_success status)) (ByStatus status) refl
+      ends-so told (is_told ep status) packet p (waits_at ep p.submit && not (is_success status)) (ByStatus (errno_of status)) refl
       (ap (λ (b : Bool). b && not (is_success status)) (waits-row ep p going)) refl refl refl
 
   all-so : Each (EndsSo told (is_told ep status) packet) st.live

@@ -18,7 +18,7 @@ use Rattle.gate_history.specs.state.State.{State}
 use Rattle.gate_history.specs.step.Meaning.{mark_as}
 use Rattle.gate_history.specs.write.Answers.{answers, answers_at}
 use Rattle.gate_history.specs.write.Output.{present, answered, replies, cancels, cancel}
-use Rattle.gate_history.specs.write.Notes.{import_notes, submit_notes, unlink_notes, arrival_notes, is_by_answer, is_by_client}
+use Rattle.gate_history.specs.write.Notes.{came_notes, submit_notes, is_by_answer, is_by_client}
 use Rattle.gate_history.specs.write.All.{is_ret_submit, is_won_unlink}
 use Rattle.gate_history.specs.write.Bytes.{host_packet_bytes}
 use Rattle.gate_history.specs.step.Machine.{ask}
@@ -115,7 +115,7 @@ module _ (st : State) (e : Effect) (test : Live → Bool) (packet : Live → Urb
       new ≡ moved_alone e rows done won old →
       out_new.to_client ≡ out_old.to_client ++ (flat_map client_spelling (replies st e) ++ flat_map (λ l. cond (test l) (spelling (packet l)) []) old.lives.live) →
       out_new.to_host ≡ out_old.to_host ++ flat_map (host_packet_bytes st.agreed) (map cancel (filter (cancels e) st.live)) →
-      out_new.notes ≡ out_old.notes ++ (import_notes e ++ submit_notes e ++ unlink_notes e ++ arrival_notes e) →
+      out_new.notes ≡ out_old.notes ++ (came_notes e ++ submit_notes e) →
       Does st (mark_as st e None) old new out_old out_new
   does-ending old new rows done won out_old out_new h dropped_fits done-is won-is rows-are is client host notes =
       does-silent st e quiet s old new rows done won out_old out_new h dropped_fits is

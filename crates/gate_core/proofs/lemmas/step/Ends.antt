@@ -7,9 +7,10 @@ use Rattle.packet_stream.specs.Split.{Position, Splitting, reads}
 use Rattle.packet_stream.specs.Streams.{StreamView, ended, capped}
 use Rattle.redir_wire.specs.declared.packet.Way.TheVariants.{ToGuest}
 use Rattle.redir_data.specs.declared.state.RedirState.{RedirState}
-use Rattle.redir_data.specs.Streams.{start, after}
+use Rattle.redir_data.specs.Streams.{start, after, stream_format}
 use Rattle.redir_data.specs.sound.Joined.{stream_sound}
 use Rattle.usbip_urb.specs.Sound.ClientPackets.{client_packets_sound}
+use Rattle.usbip_urb.specs.ClientPackets.{client_packets}
 use Rattle.gate_history.specs.declared.item.Item.TheVariants as raw
 use Rattle.gate_core.specs.declared.write.outputs.Outputs.{Outputs}
 use Rattle.gate_core.specs.declared.step.inner.Inner.{Inner}
@@ -17,7 +18,7 @@ use Rattle.gate_core.specs.declared.state.kept.Kept.{Kept as Translator}
 use Rattle.gate_history.specs.declared.item.Item.TheVariants.{ClientLeft, HostLeft}
 use Rattle.gate_history.specs.step.Events.{Event, ClientEnd, HostEnd, client_bytes, host_bytes}
 use Rattle.gate_history.specs.state.Sides.{client_over, host_over}
-use Rattle.gate_history.specs.step.Streams.{client_format, client_next, client_reader, client_start, host_format, host_reader, host_start}
+use Rattle.gate_history.specs.step.Streams.{client_reader, client_start, host_reader, host_start}
 use Rattle.gate_history.specs.state.State.{state_of}
 use Rattle.gate_history.specs.step.Past.{is_left_out, past}
 use Rattle.gate_history.specs.step.History.{brought, arrivals}
@@ -63,10 +64,10 @@ all-first {S = S} {P = P} format next sound s kept none is =
     subst (λ (k : StreamView S). HasAll r a k [] [] false) (sym is) first
 
 pub client-first : (kept : StreamView (Unit {0})) → kept ≡ record { state = tt; rest = []; place = 0; held = []; at = 0; over = false } → HasAll client_reader client_start kept [] [] false
-client-first kept is = all-first client_format client_next (λ s. client_packets_sound) tt kept refl is
+client-first kept is = all-first (λ s. client_packets) (λ s p. s) (λ s. client_packets_sound) tt kept refl is
 
 host-first : (kept : StreamView RedirState) → kept ≡ record { state = start; rest = []; place = 0; held = []; at = 0; over = false } → HasAll host_reader host_start kept [] [] false
-host-first kept is = all-first host_format after (stream_sound ToGuest) start kept refl is
+host-first kept is = all-first (stream_format ToGuest) after (stream_sound ToGuest) start kept refl is
 
 pub stands-first : (first : ℕ) (g : Inner) → g.want ≡ None → IsFirst g.translator first → g.client ≡ record { state = tt; rest = []; place = 0; held = []; at = 0; over = false } →
     g.host ≡ record { state = start; rest = []; place = 0; held = []; at = 0; over = false } → Stands first (kept_of g) []

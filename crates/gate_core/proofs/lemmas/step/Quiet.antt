@@ -27,7 +27,7 @@ use Rattle.gate_history.specs.state.State.{State, submits, next_ids}
 use Rattle.gate_history.specs.client.Verdict.{is_wire, goes_by_id}
 use Rattle.gate_history.specs.step.Meaning.{mark_as, drawn_by}
 use Rattle.gate_history.specs.write.Output.{fresh, present, answered, replies, cancels, cancel, acknowledgements, to_client}
-use Rattle.gate_history.specs.write.Notes.{when, import_notes, submit_notes, unlink_notes, arrival_notes, answer_notes, refusal_notes, notes_of, dropped}
+use Rattle.gate_history.specs.write.Notes.{when, came_notes, submit_notes, answer_notes, refusal_notes, notes_of, dropped}
 use Rattle.gate_history.specs.write.All.{is_ret_submit, is_won_unlink}
 use Rattle.gate_history.specs.write.Bytes.{host_packet_bytes, client_bytes_of, host_bytes_of}
 use Rattle.gate_history.specs.step.Machine.{live_after}
@@ -146,7 +146,7 @@ module _ (st : State) (e : Effect) (quiet : is_quiet e ≡ true) where
       dropped st (mark_as st e None) ≡ [] →
       out_new.to_client ≡ out_old.to_client ++ client_bytes_of st (mark_as st e None) →
       out_new.to_host ≡ out_old.to_host ++ flat_map (host_packet_bytes st.agreed) (map cancel (filter (cancels e) st.live) ++ asking st.streams (mark_as st e None)) →
-      out_new.notes ≡ out_old.notes ++ (import_notes e ++ submit_notes e ++ unlink_notes e ++ arrival_notes e ++ answer_notes st e) →
+      out_new.notes ≡ out_old.notes ++ (came_notes e ++ submit_notes e ++ answer_notes st e) →
       Does st (mark_as st e None) old new out_old out_new
   does-quiet old new rows left done won out_old out_new h dropped_fits is rows-are left-are done-is won-is undropped client host notes =
       does-step st (mark_as st e None) old new rows left out_old out_new h
@@ -170,7 +170,7 @@ module _ (st : State) (e : Effect) (quiet : is_quiet e ≡ true) where
       asked = map cancel (filter (cancels e) st.live) ++ asking st.streams (mark_as st e None)
 
       told : List Note
-      told = import_notes e ++ submit_notes e ++ unlink_notes e ++ arrival_notes e ++ answer_notes st e
+      told = came_notes e ++ submit_notes e ++ answer_notes st e
 
 -- an effect that answers none by its id leaves the abandoned ones
 pub none-answered : (e : Effect) (ss : List Submission) → ((s : Submission) → is_answered e s ≡ false) → map left_row ss ≡ map left_row (filter (λ s. not (is_answered e s)) ss)
@@ -239,7 +239,7 @@ module _ (st : State) (e : Effect) (quiet : is_quiet e ≡ true) (s : IsSilent s
       answer_notes st e ≡ [] → dropped st (mark_as st e None) ≡ [] →
       out_new.to_client ≡ out_old.to_client ++ client_bytes_of st (mark_as st e None) →
       out_new.to_host ≡ out_old.to_host ++ flat_map (host_packet_bytes st.agreed) (map cancel (filter (cancels e) st.live)) →
-      out_new.notes ≡ out_old.notes ++ (import_notes e ++ submit_notes e ++ unlink_notes e ++ arrival_notes e) →
+      out_new.notes ≡ out_old.notes ++ (came_notes e ++ submit_notes e) →
       Does st (mark_as st e None) old new out_old out_new
   does-silent old new rows done won out_old out_new h dropped_fits is rows-are done-is won-is untold undropped client host notes =
       does-quiet st e quiet old new rows old.lives.abandoned done won out_old out_new h dropped_fits
@@ -251,7 +251,7 @@ module _ (st : State) (e : Effect) (quiet : is_quiet e ≡ true) (s : IsSilent s
       (sym (append-nil told) ∙ (λ i. told ++ sym untold i)))
     where
       told : List Note
-      told = import_notes e ++ submit_notes e ++ unlink_notes e ++ arrival_notes e
+      told = came_notes e ++ submit_notes e
 
 -- ---- a side is gone, lost or refused
 
@@ -263,7 +263,7 @@ pub record IsOver (st : State) (e : Effect) : Type 0 where
   pub silent : replies st e ≡ []
   pub cancels_are : (p : Pending) → cancels e p ≡ ((is_wire p.submit.verdict && is_none p.unlinker) && leaves e)
   pub asked : asked_packets st.streams e ≡ cond (leaves e) (stops (is_ended None) st.streams) []
-  pub no_notes : import_notes e ++ submit_notes e ++ unlink_notes e ++ arrival_notes e ≡ []
+  pub no_notes : came_notes e ++ submit_notes e ≡ []
 
 pub over-is : (st : State) (e : Effect) → is_quiet e ≡ false → IsOver st e
 over-is st (Disconnects id) h = record { no_caps = λ caps. refl; no_import = refl; opens = refl; silent = refl; cancels_are = λ p. refl; asked = refl; no_notes = refl }

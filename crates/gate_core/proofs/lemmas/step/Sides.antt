@@ -4,9 +4,9 @@ use Rattle.usb_base.specs.declared.reason.Reason.{Reason}
 use Rattle.packet_stream.specs.Split.{Reader}
 use Rattle.packet_stream.proofs.Laws.{IsSteady, reads_steady}
 use Rattle.redir_wire.specs.declared.packet.Way.TheVariants.{ToGuest}
-use Rattle.redir_data.specs.Streams.{after}
+use Rattle.redir_data.specs.Streams.{after, stream_format}
 use Rattle.redir_data.specs.sound.Joined.{stream_sound}
-use Rattle.usbip_urb.specs.ClientPackets.{takes_memory as asked_takes_memory}
+use Rattle.usbip_urb.specs.ClientPackets.{takes_memory as asked_takes_memory, client_packets}
 use Rattle.redir_data.specs.Packets.{takes_memory as told_takes_memory}
 use Rattle.usbip_urb.specs.Sound.ClientPackets.{client_packets_sound}
 use Rattle.gate_history.specs.declared.item.Item.{Item as RawItem, Item}
@@ -18,7 +18,7 @@ use Rattle.gate_history.specs.state.Sides.{client_over, host_over}
 use Rattle.gate_history.specs.state.State.{state_of}
 use Rattle.gate_history.specs.step.Meaning.{mark_of}
 use Rattle.gate_history.specs.step.Past.{past}
-use Rattle.gate_history.specs.step.Streams.{client_format, client_next, client_reader, host_format, host_reader}
+use Rattle.gate_history.specs.step.Streams.{client_reader, host_reader}
 use Rattle.gate_core.specs.inner.Steps.{raw_told}
 use Rattle.gate_core.specs.inner.Sides.{Half, IsSide, client_half, host_half}
 use Rattle.gate_history.proofs.lemmas.step.Apart.{asked-host, wrong-host, told-client, wrong-client}
@@ -56,10 +56,10 @@ pub client-wrong-over : (first : ℕ) (xs : List Item) (n : ℕ) (why : Reason) 
 client-wrong-over first xs n why = let ms = past first xs in refused-by ms (mark_of (state_of first ms) (ClientWrong n why)) refl (client_over ms) refl
 
 pub client-steady : IsSteady client_reader
-client-steady = reads_steady client_format client_next (λ s. client_packets_sound)
+client-steady = reads_steady (λ s. client_packets) (λ s p. s) (λ s. client_packets_sound)
 
 pub host-steady : IsSteady host_reader
-host-steady = reads_steady host_format after (stream_sound ToGuest)
+host-steady = reads_steady (stream_format ToGuest) after (stream_sound ToGuest)
 
 pub is-client : (first : ℕ) → IsSide first (client_half first) client_reader asked_takes_memory (λ t. t.client_over) raw.Asked raw.ClientWrong
 is-client first = record {

@@ -18,7 +18,7 @@ use Rattle.gate_history.specs.state.State.{State}
 use Rattle.gate_history.specs.step.Meaning.{mark_as}
 use Rattle.gate_history.specs.write.Answers.{answers_at}
 use Rattle.gate_history.specs.write.Output.{present, answered, replies, cancels, cancel}
-use Rattle.gate_history.specs.write.Notes.{import_notes, submit_notes, unlink_notes, arrival_notes, is_by_answer, is_by_client}
+use Rattle.gate_history.specs.write.Notes.{came_notes, submit_notes, is_by_answer, is_by_client}
 use Rattle.gate_history.specs.write.All.{is_ret_submit, is_won_unlink}
 use Rattle.gate_history.specs.write.Bytes.{host_packet_bytes}
 use Rattle.gate_history.specs.step.Machine.{ask}
@@ -47,7 +47,7 @@ module _ (st : State) (e : Effect) (quiet : is_quiet e ≡ true) (s : IsSilent s
       new ≡ record (moved_alone e lives 0 0 old) { answered = old.answered; unlinked = old.unlinked } →
       out_new.to_client ≡ out_old.to_client ++ flat_map client_spelling (replies st e) →
       out_new.to_host ≡ out_old.to_host ++ flat_map (host_packet_bytes st.agreed) (map cancel (filter (cancels e) st.live)) →
-      out_new.notes ≡ out_old.notes ++ (import_notes e ++ submit_notes e ++ unlink_notes e ++ arrival_notes e) →
+      out_new.notes ≡ out_old.notes ++ (came_notes e ++ submit_notes e) →
       Does st (mark_as st e None) old new out_old out_new
   does-steady old new lives out_old out_new h answered_fits unlinked_fits dropped_fits asked is client host notes =
       does-silent st e quiet s old new lives 0 0 out_old out_new h dropped_fits

@@ -13,11 +13,11 @@ use Rattle.redir_wire.specs.declared.packet.Header.{Header}
 use Rattle.redir_data.specs.declared.packet.RedirPacket.{RedirPacket}
 use Rattle.redir_data.specs.declared.state.RedirState.{RedirState}
 use Rattle.redir_data.specs.Packets.{takes_memory as told_takes_memory}
-use Rattle.usbip_urb.specs.ClientPackets.{takes_memory as asked_takes_memory}
+use Rattle.usbip_urb.specs.ClientPackets.{takes_memory as asked_takes_memory, client_packets}
 use Rattle.usbip_urb.specs.Sound.ClientPackets.{client_packets_sound}
 use Rattle.gate_history.specs.declared.item.Item.TheVariants as raw
 use Rattle.gate_core.specs.declared.state.kept.Kept.{Kept as Translator}
-use Rattle.gate_history.specs.step.Streams.{client_format, client_next, client_reader, host_reader, host_start}
+use Rattle.gate_history.specs.step.Streams.{client_reader, host_reader, host_start}
 use Rattle.gate_history.specs.step.Came.{told}
 use Rattle.gate_history.specs.step.Fits.{ToldFits, ItemFits}
 use Rattle.gate_core.specs.inner.Steps.{raw_told}
@@ -48,7 +48,7 @@ asked-fits kept new t (Ok None) item goes is changes nexts = absurd cc
 asked-fits kept new t (Ok (Some i)) item goes is changes nexts =
     let can : IsReadable kept = λ runs. ∥∥₁_elim (goes runs) (readable-prop kept) (λ w. readable w.0 (client_half w.0) kept t w.1 runs) in
     subst (ItemFits t.caps) (same-item (raw.Asked i.0 i.1) item is)
-    (fits-next client_format client_next (λ s. client_packets_sound) asked_takes_memory kept new (Ok (Some i)) i can changes nexts refl)
+    (fits-next (λ s. client_packets) (λ s p. s) (λ s. client_packets_sound) asked_takes_memory kept new (Ok (Some i)) i can changes nexts refl)
 asked-fits kept new t (Err (Refused place why)) item goes is changes nexts = subst (ItemFits t.caps) (same-item (raw.ClientWrong place why) item is) tt
 asked-fits kept new t (Err (OutOfMemory memory)) item goes is changes nexts = absurd cc
 

@@ -30,7 +30,7 @@ use Rattle.gate_history.specs.state.State.{State, flying, has_number}
 use Rattle.gate_history.specs.step.Meaning.{mark_as, drawn_by, refused, importable, imported_as, asked_meaning, accepted_as}
 use Rattle.gate_history.specs.write.Answers.{lost_answer}
 use Rattle.gate_history.specs.write.Output.{cancels, cancel, acknowledgements, to_client, to_host}
-use Rattle.gate_history.specs.write.Notes.{when, import_notes, submit_notes, unlink_notes, arrival_notes, answer_notes, refusal_notes, notes_of}
+use Rattle.gate_history.specs.write.Notes.{when, came_notes, submit_notes, answer_notes, refusal_notes, notes_of}
 use Rattle.gate_history.specs.step.Wants.{GivesSome}
 use Rattle.gate_parts.specs.state.Rows.{row, is_cancelled_row}
 use Rattle.gate_history.proofs.lemmas.state.Draws.{length-draws}
@@ -78,13 +78,11 @@ module _ (st : State) (e : Effect) (told : Option Fact) where
   by-host some = omega (arith, some)
 
   notes-counted : length (notes_of st marked)
-      ≡ length (import_notes e) + length (submit_notes e) + length (unlink_notes e) + length (arrival_notes e) + length (answer_notes st e)
+      ≡ length (came_notes e) + length (submit_notes e) + length (answer_notes st e)
       + length (when (is_loss e && st.imported && not st.lost) note.DeviceGone) + length (when (leaves e && not st.client_over) note.ClientGone) + length (refusal_notes (refused_at e))
   notes-counted =
-      let a = import_notes e in
+      let a = came_notes e in
       let b = submit_notes e in
-      let c = unlink_notes e in
-      let d = arrival_notes e in
       let f = answer_notes st e in
       let g = when (is_loss e && st.imported && not st.lost) note.DeviceGone in
       let h = when (leaves e && not st.client_over) note.ClientGone in
@@ -92,25 +90,17 @@ module _ (st : State) (e : Effect) (told : Option Fact) where
       omega (
         arith,
         length-append a b,
-        length-append (a ++ b) c,
-        length-append (a ++ b ++ c) d,
-        length-append (a ++ b ++ c ++ d) f,
-        length-append (a ++ b ++ c ++ d ++ f) g,
-        length-append (a ++ b ++ c ++ d ++ f ++ g) h,
-        length-append (a ++ b ++ c ++ d ++ f ++ g ++ h) i,
+        length-append (a ++ b) f,
+        length-append (a ++ b ++ f) g,
+        length-append (a ++ b ++ f ++ g) h,
+        length-append (a ++ b ++ f ++ g ++ h) i,
       )
 
-  pub by-import : 0 < length (import_notes e) → GivesSome st marked
-  by-import some = omega (arith, some, notes-counted)
+  pub by-coming : 0 < length (came_notes e) → GivesSome st marked
+  by-coming some = omega (arith, some, notes-counted)
 
   pub by-submit : 0 < length (submit_notes e) → GivesSome st marked
   by-submit some = omega (arith, some, notes-counted)
-
-  pub by-unlink : 0 < length (unlink_notes e) → GivesSome st marked
-  by-unlink some = omega (arith, some, notes-counted)
-
-  pub by-arrival : 0 < length (arrival_notes e) → GivesSome st marked
-  by-arrival some = omega (arith, some, notes-counted)
 
   pub by-refusal : 0 < length (refusal_notes (refused_at e)) → GivesSome st marked
   by-refusal some = omega (arith, some, notes-counted)
@@ -183,7 +173,7 @@ opens-gives st s (Stream up) = by-submit st (accepted_as st s (Stream up)) None 
 
 imports-gives : (st : State) (o : Option Connect) → GivesSome st (mark_as st (imported_as st o) None)
 imports-gives st None = by-client st (imported_as st None) None (omega arith)
-imports-gives st (Some c) = by-import st (imported_as st (Some c)) None (omega arith)
+imports-gives st (Some c) = by-coming st (imported_as st (Some c)) None (omega arith)
 
 chosen : (st : State) (b : Bool) (e f : Effect) → GivesSome st (mark_as st e None) → GivesSome st (mark_as st f None) → GivesSome st (mark_as st (cond b e f) None)
 chosen st true e f h k = h
@@ -200,6 +190,6 @@ asked-gives st at (Urb (urb.Submit s)) fits =
     chosen st (not st.imported) _ _ (refusal-gives st (refusal Client at NotImported) None)
     (chosen st (has_number st s.head.seqnum) _ _ (refusal-gives st (refusal Client (at + 4) DuplicateSeq) None) (opens-gives st _ _))
 asked-gives st at (Urb (urb.Unlink u)) fits =
-    chosen st (not st.imported) (refused Client at NotImported) (Unlinks u.head.seqnum u.target) (refusal-gives st (refusal Client at NotImported) None) (by-unlink st (Unlinks u.head.seqnum u.target) None (omega arith))
+    chosen st (not st.imported) (refused Client at NotImported) (Unlinks u.head.seqnum u.target) (refusal-gives st (refusal Client at NotImported) None) (by-coming st (Unlinks u.head.seqnum u.target) None (omega arith))
 asked-gives st at (Urb (urb.RetSubmit r)) fits = absurd fits
 asked-gives st at (Urb (urb.RetUnlink r)) fits = absurd fits

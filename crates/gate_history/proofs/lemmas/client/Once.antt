@@ -16,7 +16,7 @@ use Rattle.gate_history.specs.declared.verdict.Verdict.TheVariants.{Wire, Routed
 use Rattle.gate_history.specs.client.Verdict.{goes_by_id, is_wire}
 use Rattle.gate_history.specs.host.Fillings.{Transferred, Isochronous}
 use Rattle.gate_history.specs.step.Marks.{Submission, Effect, Replies, Imports, Opens, Waits, Unlinks, Mark}
-use Rattle.gate_history.specs.client.Submits.{End, AtOnce, Sent, ByClient, ByLoss, ByAnswer, ByUnlink, ByChange, ByStatus, ByPackets, opened, accepted, is_waiting, ends, end_of, is_live, live, ended, asks, unlinker, Pending, pending}
+use Rattle.gate_history.specs.client.Submits.{End, ByStatus, Sent, ByClient, ByLoss, ByAnswer, ByUnlink, ByPackets, opened, accepted, is_waiting, ends, end_of, is_live, live, ended, asks, unlinker, Pending, pending}
 use Rattle.gate_history.specs.state.State.{State, state_of, is_number, has_number}
 use Rattle.gate_history.specs.step.Meaning.{meaning, mark_of}
 use Rattle.gate_history.specs.step.Past.{is_left_out, past}
@@ -162,14 +162,12 @@ said ps = flat_map answers_in ps
 -- an end but the client's leaving
 abbrev is_counted : Option End → Bool
 is_counted None = false
-is_counted (Some (AtOnce status)) = true
+is_counted (Some (ByStatus status)) = true
 is_counted (Some Sent) = true
 is_counted (Some ByClient) = false
 is_counted (Some ByLoss) = true
 is_counted (Some (ByAnswer outcome)) = true
 is_counted (Some (ByUnlink by)) = true
-is_counted (Some ByChange) = true
-is_counted (Some (ByStatus status)) = true
 is_counted (Some (ByPackets given)) = true
 
 abbrev due : Submission → Option ℕ → Option End → Answer
@@ -177,8 +175,8 @@ due s by e = answer_by s by e
 
 one-answer : (s : Submission) (by : Option ℕ) (e : Option End) → said (map Urb (answers_at s by e)) ≡ cond (is_counted e) (due s by e ∷ []) []
 one-answer s by None = refl
-one-answer s None (Some (AtOnce status)) = refl
-one-answer s (Some by) (Some (AtOnce status)) = refl
+one-answer s None (Some (ByStatus status)) = refl
+one-answer s (Some by) (Some (ByStatus status)) = refl
 one-answer s None (Some Sent) = refl
 one-answer s (Some by) (Some Sent) = refl
 one-answer s by (Some ByClient) = refl
@@ -189,10 +187,6 @@ one-answer s (Some by) (Some (ByAnswer o)) =
     elim (is_wire s.verdict && is_cancelled o.status) as (λ b. said (map Urb (cond b (ret_unlink by ECONNRESET ∷ []) (with_outcome s.request o ∷ ret_unlink by (pos 0) ∷ []))) ≡ answer s.request.number (Some by) b ∷ [])
     [ true ↦ refl | false ↦ refl ]
 one-answer s by (Some (ByUnlink other)) = refl
-one-answer s None (Some ByChange) = refl
-one-answer s (Some by) (Some ByChange) = refl
-one-answer s None (Some (ByStatus status)) = refl
-one-answer s (Some by) (Some (ByStatus status)) = refl
 one-answer s None (Some (ByPackets (Transferred o))) = refl
 one-answer s (Some by) (Some (ByPackets (Transferred o))) = refl
 one-answer s None (Some (ByPackets (Isochronous o))) = refl
@@ -218,14 +212,12 @@ silent st _ = refl
 
 counted-is : (e : Option End) → both (is_some e) (not (is_by_client e)) ≡ is_counted e
 counted-is None = refl
-counted-is (Some (AtOnce status)) = refl
+counted-is (Some (ByStatus status)) = refl
 counted-is (Some Sent) = refl
 counted-is (Some ByClient) = refl
 counted-is (Some ByLoss) = refl
 counted-is (Some (ByAnswer o)) = refl
 counted-is (Some (ByUnlink by)) = refl
-counted-is (Some ByChange) = refl
-counted-is (Some (ByStatus status)) = refl
 counted-is (Some (ByPackets given)) = refl
 
 -- ---- the end and the unlinker of a submit that has ended stay

@@ -40,7 +40,7 @@ use Rattle.gate_history.specs.declared.verdict.Verdict.TheVariants.{Now, Wire, R
 use Rattle.gate_history.specs.client.Verdict.{max_narrow, none_of, is_invalid, is_control, is_iso, is_narrow, by_route, by_kind, by_endpoint, by_transfer, verdict, goes_by_id}
 use Rattle.gate_history.specs.step.Marks.{Submission, Effect, Opens, Waits}
 use Rattle.gate_history.specs.state.Sides.{imports}
-use Rattle.gate_history.specs.client.Submits.{ByChange, opened, at_once, is_waiting, is_touched, ends}
+use Rattle.gate_history.specs.client.Submits.{ByStatus, opened, at_once, is_waiting, is_touched, ends}
 use Rattle.gate_history.specs.state.Ids.{last_of}
 use Rattle.gate_history.specs.state.Ups.{Up, stream_at, stream_of}
 use Rattle.gate_history.specs.state.State.{State, has_number}
@@ -182,7 +182,7 @@ own n = grind arith
 
 -- it lives on where its verdict doesn't answer it
 lives-on : (s : Submission) → is_none (ends (Opens s) s) ≡ true → is_none (at_once s.verdict) ≡ true
-lives-on s h = sym (ap (λ (b : Bool). is_none (cond b (at_once s.verdict) (cond (is_touched s.verdict s.verdict) (Some ByChange) None))) (own s.place)) ∙ h
+lives-on s h = sym (ap (λ (b : Bool). is_none (cond b (at_once s.verdict) (cond (is_touched s.verdict s.verdict) (Some (ByStatus ESHUTDOWN)) None))) (own s.place)) ∙ h
 
 module _ (st : State) (r : Request) (in_session : st.imported ≡ true) (new : has_number st r.number ≡ false) where
   opening-now : (s : Submission) → s.request ≡ r → (is_none (at_once s.verdict) ≡ true → length st.live < MAX_LIVE) → HasRoute s.verdict →

@@ -20,7 +20,7 @@ use Rattle.redir_wire.specs.declared.packet.Header.{Header}
 use Rattle.redir_wire.specs.declared.packet.Way.TheVariants.{ToGuest}
 use Rattle.redir_data.specs.declared.packet.RedirPacket.{RedirPacket}
 use Rattle.redir_data.specs.declared.state.RedirState.{RedirState}
-use Rattle.redir_data.specs.Streams.{start, after}
+use Rattle.redir_data.specs.Streams.{start, after, stream_format}
 use Rattle.redir_data.specs.sound.Joined.{stream_sound}
 use Rattle.gate_history.specs.step.Events.{Event, ClientPiece, ClientEnd, HostPiece, HostEnd, client_bytes, host_bytes}
 use Rattle.gate_history.specs.step.History.{client_split, host_split, client_items, host_items, added, onto, arrivals, wrong_items}
@@ -29,7 +29,7 @@ use Rattle.gate_history.specs.declared.item.Item.TheVariants.{Asked, ClientWrong
 use Rattle.gate_history.specs.write.Readable.{piece_bytes}
 use Rattle.gate_history.specs.client.Requests.{transfer_by}
 use Rattle.gate_history.specs.step.Came.{told}
-use Rattle.gate_history.specs.step.Streams.{client_format, client_next, client_start, host_format, host_reader, host_start}
+use Rattle.gate_history.specs.step.Streams.{client_start, host_reader, host_start}
 use Rattle.gate_history.proofs.lemmas.step.Piece.{host-added, onto-append}
 use Rattle.gate_history.proofs.lemmas.step.Empty.{split-empty}
 use Rattle.gate_history.proofs.lemmas.step.Capabilities.{states, fits-at}
@@ -52,12 +52,12 @@ asked-fits (Urb (urb.Submit s)) fits are =
     (fits.0, setup-fits s (s.head.ep == 0) setup)
 asked-fits (Urb p) fits are = tt
 
-packets-fit : (a z : Position (Unit {0})) (bytes rest : List ℕ) (is : List (ℕ × ClientPacket)) → Spells client_format client_next a bytes is z rest → AreBytes bytes → Each (λ i. AskedFits i.1) is
+packets-fit : (a z : Position (Unit {0})) (bytes rest : List ℕ) (is : List (ℕ × ClientPacket)) → Spells (λ s. client_packets) (λ s p. s) a bytes is z rest → AreBytes bytes → Each (λ i. AskedFits i.1) is
 packets-fit a z bytes rest [] spelled are = tt
 packets-fit a z bytes rest (i ∷ is) spelled are =
     let word = client_packets.spelling i.1 in
     let all : AreBytes (word ++ spelled.0) = subst AreBytes spelled.3 are in
-    (asked-fits i.1 spelled.2 (AreBytes-left word spelled.0 all), packets-fit (behind client_next a i.1 (length word)) z spelled.0 rest is spelled.4 (AreBytes-right word spelled.0 all))
+    (asked-fits i.1 spelled.2 (AreBytes-left word spelled.0 all), packets-fit (behind (λ s p. s) a i.1 (length word)) z spelled.0 rest is spelled.4 (AreBytes-right word spelled.0 all))
 
 -- an item that the host tells nothing by
 abbrev IsOwn : Item → Type 0
@@ -81,7 +81,7 @@ each-drop P (suc n) (x ∷ xs) h = each-drop P n xs h.1
 client-own : (bytes piece : List ℕ) → AreBytes (bytes ++ piece) → Each IsOwn (added client_items bytes piece)
 client-own bytes piece are =
     let x = client_split (bytes ++ piece) in
-    let found = is_splitting client_format client_next (λ s. client_packets_sound) client_start (bytes ++ piece) are in
+    let found = is_splitting (λ s. client_packets) (λ s p. s) (λ s. client_packets_sound) client_start (bytes ++ piece) are in
     each-drop IsOwn (length (client_items bytes)) (client_items (bytes ++ piece))
     (Each-append IsOwn (map (λ p. Asked p.0 p.1) x.packets) (wrong_items ClientWrong x.wrong) (asked-own x.packets (packets-fit client_start x.position (bytes ++ piece) found.left x.packets found.spelled are)) (wrong-own x.wrong))
 
@@ -108,7 +108,7 @@ comes-told bytes are given [] is ys c = (c.0, c.1 ∙ sym (append-nil given))
 comes-told bytes are given (i ∷ more) is ys c =
     let next = given ++ i ∷ [] in
     let fits : ComesNow (heard ys) (told_item i) =
-    subst (λ (g : List (ℕ × (Header × RedirPacket))). ComesNow (states after start g) (told_item i)) (sym c.1) (fits-at host_format after (stream_sound ToGuest) host_start bytes given more i are is) in
+    subst (λ (g : List (ℕ × (Header × RedirPacket))). ComesNow (states after start g) (told_item i)) (sym c.1) (fits-at (stream_format ToGuest) after (stream_sound ToGuest) host_start bytes given more i are is) in
     let later = comes-told bytes are next more (is ∙ sym (append_assoc given (i ∷ []) more)) (told_item i ∷ ys) ((fits, c.0), ap (λ (g : List (ℕ × (Header × RedirPacket))). g ++ i ∷ []) c.1) in
     (later.0, later.1 ∙ append_assoc given (i ∷ []) more)
 
@@ -117,7 +117,7 @@ host-wrong-own None = tt
 host-wrong-own (Some w) = (tt, tt)
 
 host-steady : IsSteady host_reader
-host-steady = reads_steady host_format after (stream_sound ToGuest)
+host-steady = reads_steady (stream_format ToGuest) after (stream_sound ToGuest)
 
 -- what stands behind all of a list
 drop-whole : {A : Type 0} (xs : List A) → drop (length xs) xs ≡ []
@@ -169,7 +169,7 @@ host-are (ClientEnd ∷ events) are = host-are events are
 host-are (HostEnd ∷ events) are = host-are events are
 
 nothing-told : (host_split []).packets ≡ []
-nothing-told = ap (λ (x : Splitting RedirState (Header × RedirPacket) Reason). x.packets) (split-empty host_format after (stream_sound ToGuest) host_start refl)
+nothing-told = ap (λ (x : Splitting RedirState (Header × RedirPacket) Reason). x.packets) (split-empty (stream_format ToGuest) after (stream_sound ToGuest) host_start refl)
 
 pub comes : (events : List Event) → AreBytes (flat_map piece_bytes events) → Comes (host_split (host_bytes events)).packets (arrivals events)
 comes [] are = (tt, sym nothing-told)

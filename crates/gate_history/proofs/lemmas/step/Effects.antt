@@ -8,7 +8,7 @@ use Rattle.std.proofs.lemmas.List.Elements.{filter-append}
 use Rattle.std.proofs.lemmas.Grind.{flat_map-append}
 use Rattle.usb_base.specs.declared.status.UsbStatus.{UsbStatus}
 use Rattle.usb_base.specs.declared.transfer.Outcome.{Outcome}
-use Rattle.usb_base.specs.Status.{is_success}
+use Rattle.usb_base.specs.Status.{is_success, errno_of}
 use Rattle.usbip_urb.specs.declared.client.ClientPacket.TheVariants.{Urb}
 use Rattle.usbip_urb.specs.declared.packet.UrbPacket.{UrbPacket}
 use Rattle.gate_history.specs.declared.note.Note.TheVariants as note
@@ -93,12 +93,12 @@ module _ (st : State) (id ep : ℕ) (status : UsbStatus) where
   waits p = waits_at ep p.submit && not (is_success status)
 
   pub status-left : live_after st (StreamTold id ep status) ≡ filter (λ p. not (waits_at ep p.submit && not (is_success status))) st.live
-  status-left = live-left st (StreamTold id ep status) refl waits (λ s. refl) (λ p. elim (waits p) as (λ b. is_none (cond b (Some (ByStatus status)) None) ≡ not b) [ true ↦ refl | false ↦ refl ])
+  status-left = live-left st (StreamTold id ep status) refl waits (λ s. refl) (λ p. elim (waits p) as (λ b. is_none (cond b (Some (ByStatus (errno_of status))) None) ≡ not b) [ true ↦ refl | false ↦ refl ])
 
-  pub status-sent : to_client st (mark_as st (StreamTold id ep status) None) ≡ map Urb (flat_map (λ p. answers p.submit p.unlinker (ByStatus status)) (filter (λ p. waits_at ep p.submit && not (is_success status)) st.live))
+  pub status-sent : to_client st (mark_as st (StreamTold id ep status) None) ≡ map Urb (flat_map (λ p. answers p.submit p.unlinker (ByStatus (errno_of status))) (filter (λ p. waits_at ep p.submit && not (is_success status)) st.live))
   status-sent =
-      answered-for st (StreamTold id ep status) refl waits (λ p. answers p.submit p.unlinker (ByStatus status))
-      (λ p. elim (waits p) as (λ b. answers_at p.submit p.unlinker (cond b (Some (ByStatus status)) None) ≡ cond b (answers p.submit p.unlinker (ByStatus status)) []) [ true ↦ refl | false ↦ refl ])
+      answered-for st (StreamTold id ep status) refl waits (λ p. answers p.submit p.unlinker (ByStatus (errno_of status)))
+      (λ p. elim (waits p) as (λ b. answers_at p.submit p.unlinker (cond b (Some (ByStatus (errno_of status))) None) ≡ cond b (answers p.submit p.unlinker (ByStatus (errno_of status))) []) [ true ↦ refl | false ↦ refl ])
 
 -- ---- an unlink takes a stream's request back, and marks others
 

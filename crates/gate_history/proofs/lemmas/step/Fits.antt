@@ -16,8 +16,8 @@ use Rattle.redir_data.specs.declared.state.RedirState.{RedirState}
 use Rattle.redir_wire.specs.declared.packet.Way.TheVariants.{ToGuest}
 use Rattle.redir_data.specs.Spelling as carrying
 use Rattle.redir_data.specs.Ranges.{HasItsData}
+use Rattle.redir_data.specs.Streams.{stream_format}
 use Rattle.usb_base.specs.Endpoint.{is_in_endpoint}
-use Rattle.gate_history.specs.step.Streams.{host_format}
 use Rattle.gate_history.specs.state.Flight.{wide_ids}
 use Rattle.gate_history.specs.host.Responses.{response_of}
 use Rattle.gate_history.specs.step.Fits.{ResponseFits, HelloFits, ToldFits}
@@ -58,7 +58,7 @@ data_response kind (moving.Interrupt endpoint status told body) is there =
     interrupt_by true e = rw e tt
     interrupt_by false e = rw e (let k : kind ≡ 103 = is in omega arith, there)
 
-pub told_fits : (s : RedirState) (caps : Caps) (h : Header) (p : RedirPacket) → IsInStep s caps → (host_format s).Fits (h, p) → ToldFits caps h p
+pub told_fits : (s : RedirState) (caps : Caps) (h : Header) (p : RedirPacket) → IsInStep s caps → (stream_format ToGuest s).Fits (h, p) → ToldFits caps h p
 told_fits s caps h (Plain q) step fits = record {
   id_fits = id_fits_by s.first s.caps caps h.id step.caps_are step.none_yet fits.header.id_fits;
   response = plain_response h.kind q fits.kind;

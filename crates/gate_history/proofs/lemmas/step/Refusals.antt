@@ -38,7 +38,7 @@ use Rattle.gate_history.specs.host.Responses.{Response, Data, outcome, response_
 use Rattle.gate_history.specs.step.Past.{is_left_out, past}
 use Rattle.gate_history.specs.step.History.{client_split, host_split, client_items, host_items, wrong_items}
 use Rattle.gate_history.specs.write.Output.{present}
-use Rattle.gate_history.specs.write.Notes.{when, import_notes, submit_notes, unlink_notes, arrival_notes, answer_notes, is_by_answer, refusal_notes, notes_of}
+use Rattle.gate_history.specs.write.Notes.{when, came_notes, submit_notes, answer_notes, is_by_answer, refusal_notes, notes_of}
 use Rattle.gate_history.specs.write.All.{all_of}
 use Rattle.gate_history.specs.step.Refusals.{refused_if, client_rule, host_rule, cause, causes, is_refusal, client_wrongs, host_wrongs}
 
@@ -121,7 +121,7 @@ own-refusal None = refl
 own-refusal (Some r) = refl
 
 -- notes that are told first are no refusals
-told-first : (e : Effect) → filter is_refusal (import_notes e ++ submit_notes e ++ unlink_notes e ++ arrival_notes e) ≡ []
+told-first : (e : Effect) → filter is_refusal (came_notes e ++ submit_notes e) ≡ []
 told-first Idle = refl
 told-first _ = refl
 
@@ -133,7 +133,7 @@ both xs ys a b = joined xs ys a ∙ b
 
 pub refusals-of : (st : State) (m : Mark) → filter is_refusal (notes_of st m) ≡ refusal_notes (refused_at m.what)
 refusals-of st m =
-    let first = import_notes m.what ++ submit_notes m.what ++ unlink_notes m.what ++ arrival_notes m.what in
+    let first = came_notes m.what ++ submit_notes m.what in
     let answers = answer_notes st m.what in
     let gone = when (is_loss m.what && st.imported && not st.lost) note.DeviceGone in
     let left = when (leaves m.what && not st.client_over) note.ClientGone in

@@ -33,12 +33,12 @@ use Rattle.redir_wire.specs.Plain.{controls, plain}
 use Rattle.redir_data.specs.Carrying.{transfers, carrying}
 use Rattle.redir_data.specs.Packets.{begins_plain}
 use Rattle.redir_data.specs.declared.state.RedirState.{RedirState}
-use Rattle.redir_data.specs.Streams.{after}
+use Rattle.redir_data.specs.Streams.{after, stream_format}
 use Rattle.redir_data.specs.sound.Joined.{stream_sound}
 use Rattle.gate_history.specs.step.Events.{Event, client_bytes, host_bytes}
 use Rattle.gate_history.specs.state.Sides.{client_over, host_over}
 use Rattle.gate_history.specs.step.History.{client_split, host_split, history, rest_length}
-use Rattle.gate_history.specs.step.Streams.{client_format, client_next, client_start, host_format, host_start}
+use Rattle.gate_history.specs.step.Streams.{client_start, host_start}
 
 -- ---- of any stream
 
@@ -119,7 +119,7 @@ client-short b right short =
     ]
 
 pub client-rest : (bytes : List ℕ) → AreBytes bytes → length (client_split bytes).rest ≤ 16793647
-client-rest bytes are = rest-short client_format client_next (λ s. client_packets_sound) client_start bytes are 16793647 (λ s b. client-short b)
+client-rest bytes are = rest-short (λ s. client_packets) (λ s p. s) (λ s. client_packets_sound) client_start bytes are 16793647 (λ s b. client-short b)
 
 -- ---- the host's
 
@@ -134,7 +134,7 @@ bodies-short f first caps b right short = go (nat_lt (length b) 8) refl short
     go true e h = omega (arith, head-most (is_wide first caps))
     go false e h = let limit = leb-true (le_at w32 4 b) 16777280 (limit_there f first caps ToGuest b right (ltb-false (length b) 8 e)) in omega (arith, limit, head-most (is_wide first caps))
 
-host-short : (s : RedirState) (b : List ℕ) → wrong_at (host_format s).checks b ≡ None → length b < (host_format s).size b → length b ≤ 16777295
+host-short : (s : RedirState) (b : List ℕ) → wrong_at (stream_format ToGuest s).checks b ≡ None → length b < (stream_format ToGuest s).size b → length b ≤ 16777295
 host-short s b right short =
     elim (cases_Bool (begins_plain b)) [
       | inl plainly ↦ bodies-short (controls s.caps) s.first s.caps b (sym (joined-left begins_plain (plain s.first s.caps ToGuest) (carrying s.first s.caps ToGuest) b plainly) ∙ right) (rw plainly at short)
@@ -142,7 +142,7 @@ host-short s b right short =
     ]
 
 pub host-rest : (bytes : List ℕ) → AreBytes bytes → length (host_split bytes).rest ≤ 16777295
-host-rest bytes are = rest-short host_format after (λ s. stream_sound ToGuest s) host_start bytes are 16777295 host-short
+host-rest bytes are = rest-short (stream_format ToGuest) after (λ s. stream_sound ToGuest s) host_start bytes are 16777295 host-short
 
 -- ---- both
 

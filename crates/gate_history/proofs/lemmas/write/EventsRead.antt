@@ -9,13 +9,14 @@ use Rattle.redir_wire.specs.declared.packet.RedirControl.TheVariants as plain
 use Rattle.redir_wire.specs.Capability.{agreed, announced, caps_of}
 use Rattle.redir_wire.specs.Spelling.{number_of}
 use Rattle.redir_wire.proofs.Says.{header_says}
+use Rattle.redir_wire.specs.declared.packet.Way.TheVariants.{ToGuest}
 use Rattle.redir_data.specs.declared.packet.RedirData.{RedirData}
 use Rattle.redir_data.specs.declared.packet.RedirData.TheVariants as moving
 use Rattle.redir_data.specs.declared.packet.RedirPacket.{RedirPacket}
 use Rattle.redir_data.specs.declared.packet.RedirPacket.TheVariants.{Plain, Carrying}
 use Rattle.redir_data.specs.declared.state.RedirState.{RedirState}
 use Rattle.redir_data.specs.Spelling as carrying
-use Rattle.redir_data.specs.Streams.{start as first_state, after as read_after, advanced}
+use Rattle.redir_data.specs.Streams.{start as first_state, after as read_after, advanced, stream_format}
 use Rattle.gate_history.specs.declared.item.Item.{Item}
 use Rattle.gate_history.specs.declared.item.Item.TheVariants.{Asked, ClientWrong, ClientLeft, Told, HostWrong, HostLeft}
 use Rattle.gate_history.specs.step.Machine.{after, step, run, given, all_given, live_after}
@@ -25,7 +26,6 @@ use Rattle.gate_history.specs.write.Output.{to_host}
 use Rattle.gate_history.specs.step.Past.{past}
 use Rattle.gate_history.specs.step.Came.{told}
 use Rattle.gate_history.specs.state.State.{State, state_of}
-use Rattle.gate_history.specs.step.Streams.{host_format}
 use Rattle.gate_history.specs.state.Flight.{wide_ids}
 use Rattle.gate_history.proofs.lemmas.step.Fits.{IsInStep, told_fits}
 use Rattle.gate_history.proofs.lemmas.step.Capabilities.{states, states-more, in-step}
@@ -42,7 +42,7 @@ heard xs = states read_after first_state (told xs)
 
 abbrev pub ComesNow : RedirState → Item → Type 0
 ComesNow s (Asked place p) = AskedFits p
-ComesNow s (Told place h p) = (host_format s).Fits (h, p)
+ComesNow s (Told place h p) = (stream_format ToGuest s).Fits (h, p)
 ComesNow s _ = Unit {0}
 
 abbrev pub CanCome : List Item → Type 0
@@ -64,7 +64,7 @@ in-turn true false e = absurd (true≢false (sym e))
 in-turn false true e = absurd (true≢false (sym e))
 in-turn false false e = refl
 
-greets-first : (s : RedirState) (h : Header) (p : RedirPacket) → (host_format s).Fits (h, p) → s.first ≡ is_greeting p
+greets-first : (s : RedirState) (h : Header) (p : RedirPacket) → (stream_format ToGuest s).Fits (h, p) → s.first ≡ is_greeting p
 greets-first s h (Plain q) fits = in-turn s.first (h.kind == 0) (header_says fits.header).in_turn ∙ ap (λ (n : ℕ). n == 0) fits.kind ∙ plain-number q
 greets-first s h (Carrying d) fits = in-turn s.first (h.kind == 0) (header_says fits.header).in_turn ∙ ap (λ (n : ℕ). n == 0) fits.kind ∙ data-number d
 
@@ -116,7 +116,7 @@ goes-greeted z st sent caps false greeted q none = record {
   read = subst (Each (Reads caps)) (λ i. sym none i ++ sym (none-sent st (Agrees caps) q.live refl refl) i) tt;
 }
 
-later-told : (s : RedirState) (st : State) (sent : List (ℕ × RedirPacket)) (place : ℕ) (h : Header) (p : RedirPacket) → is_greeting p ≡ false → Goes s st sent → (host_format s).Fits (h, p) → (st.host_over ≡ false → IsInStep s st.agreed) →
+later-told : (s : RedirState) (st : State) (sent : List (ℕ × RedirPacket)) (place : ℕ) (h : Header) (p : RedirPacket) → is_greeting p ≡ false → Goes s st sent → (stream_format ToGuest s).Fits (h, p) → (st.host_over ≡ false → IsInStep s st.agreed) →
     Goes (advanced s p) (step st (Told place h p)) (sent ++ given to_host st (Told place h p))
 later-told s st sent place h p other g fits steps =
     let greeted = greets-first s h p fits ∙ other in
@@ -124,7 +124,7 @@ later-told s st sent place h p other g fits steps =
     (λ going. tells st place h p other (told_fits s st.agreed h p (steps going) fits).id_fits)
     (λ first q. absurd (true≢false (sym (advanced-first s p first) ∙ greeted)))
 
-goes-told : (s : RedirState) (st : State) (sent : List (ℕ × RedirPacket)) (place : ℕ) (h : Header) (p : RedirPacket) → Goes s st sent → (host_format s).Fits (h, p) → (st.host_over ≡ false → IsInStep s st.agreed) →
+goes-told : (s : RedirState) (st : State) (sent : List (ℕ × RedirPacket)) (place : ℕ) (h : Header) (p : RedirPacket) → Goes s st sent → (stream_format ToGuest s).Fits (h, p) → (st.host_over ≡ false → IsInStep s st.agreed) →
     Goes (advanced s p) (step st (Told place h p)) (sent ++ given to_host st (Told place h p))
 goes-told s st sent place h (Plain (plain.Hello x)) g fits steps =
     let q = g.quiet (greets-first s h (Plain (plain.Hello x)) fits) in

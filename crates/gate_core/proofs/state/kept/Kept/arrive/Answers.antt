@@ -13,7 +13,7 @@ use Rattle.gate_core.proofs.lemmas.step.Steady.{does-idle}
 use Rattle.gate_parts.proofs.lemmas.state.Places.{set-back}
 use Rattle.gate_core.proofs.lemmas.host.Arrive.{of-address, of-none, on-ok, puts-back, does-receive}
 use Rattle.gate_history.specs.step.Wants.{GivesSome}
-use Rattle.gate_core.proofs.lemmas.write.Gives.{by-arrival}
+use Rattle.gate_core.proofs.lemmas.write.Gives.{by-coming}
 use Rattle.gate_core.proofs.lemmas.write.InTurn as stopping
 use Rattle.gate_core.proofs.state.kept.Kept.arrive.Goals as goal
 
@@ -69,4 +69,4 @@ returns-clause-wants c st h =
     let at : stream_at old.streams e ≡ Some up = ap (stream_at old.streams) (sym c.in-Some.ensures.byte) ∙ sym c.in-Some-take.ensures.up in
     let there : stream_of st.streams e ≡ Some up = of-address st.streams e (c.in-Some.ensures.is_some.0 refl) ∙ ap (λ (ups : List (Option Up)). stream_at ups e) (sym h.streams) ∙ at in
     stopping.on-err c.receive-received.result _
-    (subst (λ (o : Option Up). GivesSome st (mark_as st (arrives st e c.args.stream.is_iso c.args.packet o) None)) (sym there) (by-arrival st (arrives st e c.args.stream.is_iso c.args.packet (Some up)) None (omega arith)))
+    (subst (λ (o : Option Up). GivesSome st (mark_as st (arrives st e c.args.stream.is_iso c.args.packet o) None)) (sym there) (by-coming st (arrives st e c.args.stream.is_iso c.args.packet (Some up)) None (omega arith)))
