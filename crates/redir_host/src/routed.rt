@@ -13,14 +13,12 @@ use usb_base::{Bytes, EpAddr, Setup, Transfer};
 pub fn set_configuration(alloc: Global, configuration: u8) -> Transfer
     ensures { result ≡ routed (route.SetConfig configuration) }
 {
+    let value = u16::from(configuration);
     transfer_of(
         alloc,
         Setup {
-            kind: 0x00,
-            request: 9,
-            value: u16::from(configuration),
-            index: 0,
-            length: 0,
+            value,
+            ..bare(0x00, 9)
         },
     )
 }
@@ -29,14 +27,12 @@ pub fn set_configuration(alloc: Global, configuration: u8) -> Transfer
 pub fn get_configuration(alloc: Global) -> Transfer
     ensures { result ≡ routed route.GetConfig }
 {
+    let length = 1;
     transfer_of(
         alloc,
         Setup {
-            kind: 0x80,
-            request: 8,
-            value: 0,
-            index: 0,
-            length: 1,
+            length,
+            ..bare(0x80, 8)
         },
     )
 }
@@ -45,14 +41,14 @@ pub fn get_configuration(alloc: Global) -> Transfer
 pub fn set_alt(alloc: Global, interface: u8, alt: u8) -> Transfer
     ensures { result ≡ routed (route.SetAlt interface alt) }
 {
+    let value = u16::from(alt);
+    let index = u16::from(interface);
     transfer_of(
         alloc,
         Setup {
-            kind: 0x01,
-            request: 11,
-            value: u16::from(alt),
-            index: u16::from(interface),
-            length: 0,
+            value,
+            index,
+            ..bare(0x01, 11)
         },
     )
 }
@@ -61,14 +57,13 @@ pub fn set_alt(alloc: Global, interface: u8, alt: u8) -> Transfer
 pub fn get_alt(alloc: Global, interface: u8) -> Transfer
     ensures { result ≡ routed (route.GetAlt interface) }
 {
+    let index = u16::from(interface);
     transfer_of(
         alloc,
         Setup {
-            kind: 0x81,
-            request: 10,
-            value: 0,
-            index: u16::from(interface),
+            index,
             length: 1,
+            ..bare(0x81, 10)
         },
     )
 }
@@ -77,16 +72,27 @@ pub fn get_alt(alloc: Global, interface: u8) -> Transfer
 pub fn reset(alloc: Global) -> Transfer
     ensures { result ≡ routed route.Reset }
 {
+    let value = 4;
     transfer_of(
         alloc,
         Setup {
-            kind: 0x23,
-            request: 3,
-            value: 4,
-            index: 0,
-            length: 0,
+            value,
+            ..bare(0x23, 3)
         },
     )
+}
+
+/// A setup of these codes, and zeros beside them.
+fn bare(kind: u8, request: u8) -> Setup
+    ensures { result ≡ record { kind = kind; request = request; value = 0; index = 0; length = 0 } }
+{
+    Setup {
+        kind,
+        request,
+        value: 0,
+        index: 0,
+        length: 0,
+    }
 }
 
 /// The transfer of a setup that sends no data to the device.
