@@ -51,9 +51,6 @@ wrong_place blob = if is_configuration blob then first_wrong (later blob) else S
 
 -- ---- what they say
 
-abbrev pub configuration_at : List ℕ → Part
-configuration_at bytes = Config (byte_at 5 bytes) (byte_at 4 bytes)
-
 abbrev pub interface_at : List ℕ → Part
 interface_at bytes = Interface (byte_at 2 bytes) (byte_at 3 bytes) (byte_at 5 bytes) (byte_at 6 bytes) (byte_at 7 bytes)
 
@@ -66,7 +63,7 @@ part_at bytes = if byte_at 1 bytes == 4 then interface_at bytes else if byte_at 
 
 -- the parts of a configuration without a wrong descriptor
 abbrev pub parts_of : List ℕ → List Part
-parts_of blob = configuration_at blob ∷ map (λ d. part_at d.bytes) (later blob)
+parts_of blob = Config (byte_at 5 blob) (byte_at 4 blob) ∷ map (λ d. part_at d.bytes) (later blob)
 
 -- ---- that they are all there is
 

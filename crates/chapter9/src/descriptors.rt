@@ -2,8 +2,9 @@
 
 ghost use Rattle.std.specs.Prelude.{◌≡◌, ◌≤◌, ◌%◌, length, drop, Some, None, IfOk, IsTrue, nat_lt, if◌then◌else◌};
 ghost use Rattle.usb_base.specs.Number.{byte_at};
-ghost use Rattle.chapter9.specs.Descriptors.{AreJoined, configuration_at, endpoint_at, interface_at, is_configuration, is_right, part_at, parts_of, wrong_place};
+ghost use Rattle.chapter9.specs.Descriptors.{AreJoined, endpoint_at, interface_at, is_configuration, is_right, part_at, parts_of, wrong_place};
 ghost use Rattle.chapter9.specs.Answers.{IfBad, OnMemory};
+ghost use Rattle.chapter9.specs.declared.part.Part.TheVariants.{Config};
 
 use crate::part::{Part, Parts};
 use std::alloc::Global;
@@ -80,7 +81,7 @@ fn behind(bytes: &[u8], place: usize) -> &[u8]
 
 // The configuration's own descriptor, if it is right.
 fn configuration(blob: &[u8]) -> Option<Part>
-    ensures { result ≡ (if is_configuration blob.now then Some (configuration_at blob.now) else None) }
+    ensures { result ≡ (if is_configuration blob.now then Some (Config (byte_at 5 blob.now) (byte_at 4 blob.now)) else None) }
 {
     if blob.len() < 9 || blob[0] < 9 || usize::from(blob[0]) > blob.len() {
         return None;

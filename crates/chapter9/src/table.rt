@@ -7,7 +7,13 @@ use crate::part::{Part, Parts};
 use crate::state::DevState;
 use usb_base::{EpAddr, EpKind, EpRow, EpTable};
 
-/// The two sides of endpoint 0, which every device has (USB 2.0, 5.5).
+/// The index of endpoint 0 to the device, which every device has (USB 2.0, 5.5).
+const CONTROL_OUT: usize = 0;
+
+/// The index of endpoint 0 from the device.
+const CONTROL_IN: usize = 16;
+
+/// Both of them.
 const CONTROL: EpRow = EpRow {
     kind: EpKind::Control,
     interval: 0,
@@ -29,8 +35,8 @@ pub fn table_of(parts: &Parts, state: &DevState) -> EpTable
     ensures { result ≡ table_of parts.now state.now }
 {
     let mut table = EpTable::none();
-    table.rows[0] = CONTROL;
-    table.rows[16] = CONTROL;
+    table.rows[CONTROL_OUT] = CONTROL;
+    table.rows[CONTROL_IN] = CONTROL;
     if state.is_configured() {
         add_setting(&mut table, parts, state.alt);
     }

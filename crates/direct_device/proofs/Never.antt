@@ -1,5 +1,5 @@
 -- None of the four devices ends a transfer as cancelled by itself.
-use Rattle.std.proofs.Common.{◌≡◌, ℕ, ◌+◌, Bool, true, false, cond, List, [], ◌++◌, length, take, drop, Option, Some, None, refl, subst}
+use Rattle.std.proofs.Common.{◌≡◌, ℕ, ◌+◌, Bool, true, false, cond, List, [], ◌++◌, length, take, drop, Option, Some, None, is_some, refl, subst}
 use Rattle.std.specs.Prelude.{◌==◌, ◌&&◌, not, nat_lt, IfSome}
 use Rattle.std.specs.Option.{option_map_or}
 use Rattle.usb_base.specs.Endpoint.{is_in_endpoint}
@@ -14,7 +14,7 @@ use Rattle.chapter9.specs.declared.requests.Request.{Request}
 use Rattle.chapter9.specs.declared.requests.Request.TheVariants.{Read, Write}
 use Rattle.chapter9.specs.Requests.{request_of}
 use Rattle.chapter9.specs.Standard.{given_by, changed_by, read_outcome, write_outcome, outcome_by, stall, success}
-use Rattle.model_device.specs.Device.{Device, device_parts, is_running, with_kept, perform, perform_by, meaning_of}
+use Rattle.model_device.specs.Device.{Device, control, device_parts, is_running, with_kept, perform, meaning_of}
 use Rattle.model_device.specs.Keyboard.{keyboard}
 use Rattle.model_device.specs.Loopback.{loopback, limit, taken_in, given_back}
 use Rattle.model_device.specs.Tone.{tone}
@@ -67,7 +67,7 @@ control-done set parts s wanted (Some r) = go (request_of r)
 -- ---- a device that answers endpoint 0 by its descriptors, by its own transfers
 
 never-by : {X : Type 0} (d : Device X) → ((x : X) (t : Transfer) → AllDone (d.transfer x t)) → NeverCancels (meaning_of d)
-never-by {X = X} d own s t done is = by-done (perform d s t) (go t.setup) done is
+never-by {X = X} d own s t done is = by-done (perform d s t) (go (is_some t.setup)) done is
   where
     kept : (o : Option (X × Outcome)) → AllDone o → AllDone (with_kept s.device o)
     kept None h = tt
@@ -77,9 +77,9 @@ never-by {X = X} d own s t done is = by-done (perform d s t) (go t.setup) done i
     runs true = kept (d.transfer s.kept t) (own s.kept t)
     runs false = refl
 
-    go : (setup : Option Setup) → AllDone (perform_by d s t setup)
-    go (Some r) = control-done d.set (device_parts d) s.device t.wanted t.setup
-    go None = runs (is_running (device_parts d) s.device t.ep)
+    go : (b : Bool) → AllDone (cond b (Some (control d s t)) (cond (is_running (device_parts d) s.device t.ep) (with_kept s.device (d.transfer s.kept t)) (Some (s, stall))))
+    go true = control-done d.set (device_parts d) s.device t.wanted t.setup
+    go false = runs (is_running (device_parts d) s.device t.ep)
 
 pub keyboard-never : NeverCancels (meaning_of keyboard)
 unfolding keyboard

@@ -35,12 +35,9 @@ class_request r =
     else None
 
 -- a reset has a wrapper due, and leaves halts and sense; unit 0 is the greatest
-abbrev pub class_done : State Course → Setup → ℕ → ClassRequest → State Course × Outcome
-class_done s r wanted Reset = (record { device = s.device; kept = record { stage = Waits; sense = s.kept.sense } }, success [])
-class_done s r wanted MaxLun = (s, success (take (min wanted r.length) (0 ∷ [])))
-
 abbrev pub setup_done : State Course → Transfer → Setup → Option ClassRequest → State Course × Outcome
-setup_done s t r (Some request) = class_done s r t.wanted request
+setup_done s t r (Some Reset) = (record { device = s.device; kept = record { stage = Waits; sense = s.kept.sense } }, success [])
+setup_done s t r (Some MaxLun) = (s, success (take (min t.wanted r.length) (0 ∷ [])))
 setup_done s t r None = control described s t
 
 abbrev pub no_access : State Course × Outcome → Step

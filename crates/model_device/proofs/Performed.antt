@@ -1,7 +1,6 @@
 -- The state that a request of endpoint 0 leaves, by what it came to.
 use Rattle.std.proofs.Common.{◌≡◌, ◌&&◌, Bool, true, if◌then◌else◌, Option, Some, None, is_some, refl, ap, subst, ◌∙◌}
 use Rattle.usb_base.specs.Status.{is_success}
-use Rattle.usb_base.specs.declared.setup.Setup.{Setup}
 use Rattle.usb_base.specs.declared.transfer.Transfer.{Transfer}
 use Rattle.usb_base.specs.declared.transfer.Outcome.{Outcome}
 use Rattle.chapter9.specs.declared.part.Part.{Part}
@@ -11,11 +10,10 @@ use Rattle.chapter9.specs.Standard.{outcome_of, state_after}
 use Rattle.model_device.specs.declared.framework.Framework.{Framework}
 use Rattle.model_device.specs.Transfer.{asks_change}
 use Rattle.model_device.specs.Meaning.{state_in}
-use Rattle.model_device.specs.Device.{Device, State, control, device_parts, perform, perform_by}
+use Rattle.model_device.specs.Device.{Device, State, control, device_parts, perform}
 
-performed-by : {X : Type 0} (d : Device X) (s : State X) (t : Transfer) (setup : Option Setup) → is_some setup ≡ true → (control d s t).0 ≡ state_in s (perform_by d s t setup)
-performed-by d s t None is = absurd cc
-performed-by d s t (Some r) is = refl
+performed-by : {X : Type 0} (d : Device X) (s : State X) (t : Transfer) → is_some t.setup ≡ true → (control d s t).0 ≡ state_in s (perform d s t)
+performed-by d s t is = rw is refl
 
 -- what is kept is as before, or as at first where it was a change that is done
 pub performed : {X : Type 0} (d : Device X) (was new : Framework) (s : State X) (t : Transfer) (o : Outcome) (done : Bool) (kept left : X)
@@ -27,4 +25,4 @@ performed {X = X} d was new s t o done kept left set parts view state some outco
     let came = outcome ∙ ap (λ (x : DescriptorSet). outcome_of x was.parts was.state t) set ∙ ap (λ (ps : List Part). outcome_of d.set ps was.state t) parts in
     let left_is = leaves ∙ ap (λ (b : Bool). if b then d.first else kept) (is ∙ ap (λ (x : Outcome). asks_change t && is_success x.status) came) in
     subst (λ (x : State X). record { device = new.state; kept = left } ≡ state_in x (perform d x t)) view
-    ((λ i. record { device = device i; kept = left_is i }) ∙ performed-by d now t t.setup some)
+    ((λ i. record { device = device i; kept = left_is i }) ∙ performed-by d now t some)

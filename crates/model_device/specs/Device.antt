@@ -1,5 +1,5 @@
 -- A device that answers endpoint 0 by its descriptors, and its other endpoints in a way of its own.
-use Rattle.std.specs.Prelude.{ℕ, ◌+◌, ◌*◌, ◌&&◌, not, Bool, true, false, List, [], ◌∷◌, length, replicate, slice_set, Option, Some, None, option_map, if◌then◌else◌}
+use Rattle.std.specs.Prelude.{ℕ, ◌+◌, ◌*◌, ◌&&◌, not, Bool, true, false, List, [], ◌∷◌, length, replicate, slice_set, Option, Some, None, is_some, option_map, if◌then◌else◌}
 use Rattle.std.specs.Int.{w16}
 use Rattle.std.specs.List.{flat_map}
 use Rattle.usb_base.specs.Status.{is_success}
@@ -7,7 +7,6 @@ use Rattle.usb_base.specs.Endpoint.{row_of}
 use Rattle.usb_base.specs.Number.{byte_at, le_at}
 use Rattle.usb_base.specs.Speed.{redir_speed}
 use Rattle.usb_base.specs.declared.speed.Speed.{Speed}
-use Rattle.usb_base.specs.declared.setup.Setup.{Setup}
 use Rattle.usb_base.specs.declared.status.UsbStatus.{UsbStatus}
 use Rattle.usb_base.specs.declared.status.UsbStatus.TheVariants.{Success}
 use Rattle.usb_base.specs.declared.transfer.Transfer.{Transfer}
@@ -99,22 +98,20 @@ interfaces_of parts s = if is_configured s then one_interface (class_of s.alt pa
 abbrev pub is_running : List Part → DevState → ℕ → Bool
 is_running parts s ep = is_valid (row_of (table_of parts s) ep).kind && not (is_halted s ep)
 
--- what is kept after a request: nothing of before, where it was a change that succeeded
-abbrev pub kept_after : {X : Type 0} → X → X → Transfer → Outcome → X
-kept_after first kept t o = if asks_change t && is_success o.status then first else kept
-
 abbrev pub with_kept : {X A : Type 0} → DevState → Option (X × A) → Option (State X × A)
 with_kept s made = option_map (λ r. (record { device = s; kept = r.0 }, r.1)) made
 
+-- a transfer of endpoint 0; nothing that was kept is left by a change that succeeds
 abbrev pub control : {X : Type 0} → Device X → State X → Transfer → State X × Outcome
-control d s t = (record { device = state_after (device_parts d) s.device t; kept = kept_after d.first s.kept t (outcome_of d.set (device_parts d) s.device t) }, outcome_of d.set (device_parts d) s.device t)
-
-abbrev pub perform_by : {X : Type 0} → Device X → State X → Transfer → Option Setup → Option (State X × Outcome)
-perform_by d s t (Some r) = Some (control d s t)
-perform_by d s t None = if is_running (device_parts d) s.device t.ep then with_kept s.device (d.transfer s.kept t) else Some (s, stall)
+control d s t =
+    let o = outcome_of d.set (device_parts d) s.device t in
+    (record { device = state_after (device_parts d) s.device t; kept = if asks_change t && is_success o.status then d.first else s.kept }, o)
 
 abbrev pub perform : {X : Type 0} → Device X → State X → Transfer → Option (State X × Outcome)
-perform d s t = perform_by d s t t.setup
+perform d s t =
+    if is_some t.setup then Some (control d s t)
+    else if is_running (device_parts d) s.device t.ep then with_kept s.device (d.transfer s.kept t)
+    else Some (s, stall)
 
 abbrev pub offer : {X : Type 0} → Device X → State X → ℕ → Option (State X × StreamPacket)
 offer d s ep = if is_running (device_parts d) s.device ep then with_kept s.device (d.packet s.kept ep) else None

@@ -4,23 +4,18 @@ ghost use Rattle.std.specs.Prelude.{◌≡◌, [], false, not, IfOk, OnOk, OnErr
 ghost use Rattle.packet_stream.specs.Loops.{TakesPackets};
 ghost use Rattle.redir_host.specs.step.Acts.{Piece, Perform, Offer, Unplug};
 ghost use Rattle.redir_host.specs.guest.Guest.{guest_reader};
-ghost use Rattle.redir_host.specs.step.Makes.{IsTaken, Takes};
 ghost use Rattle.redir_host.specs.device.Offering.{told_offered};
-ghost use Rattle.redir_host.specs.guest.Packets.{packet_move};
 ghost use Rattle.redir_host.specs.device.Performing.{told_performed};
-ghost use Rattle.redir_host.specs.write.Readable.{TakesInRange};
 ghost use Rattle.redir_host.specs.state.Sound.{IsSound};
 ghost use Rattle.redir_host.specs.step.Stands.{Does, HasFailed, HasPast, Stands, StopsIn, TakesPiece, TellsOf};
 ghost use Rattle.redir_host.specs.guest.Takings.{HasRead, LeavesWanted, TookPackets};
-ghost use Rattle.redir_host.specs.step.Wants.{GivesSome};
 ghost use Rattle.redir_host.specs.inner.Views.{kept_of};
 
 use crate::host::Host;
 use crate::note::{HostNote, HostNotes, Offered, Performed};
 use model_device::Gadget;
 use packet_stream::{ReadError, Stream};
-use redir_data::{FromGuest, RedirPacket, RedirState};
-use redir_wire::Header;
+use redir_data::{FromGuest, RedirState};
 use std::alloc::Global;
 use usb_base::{Bytes, EpAddr, Memory};
 
@@ -148,28 +143,7 @@ fn take_packets<G: Gadget>(
     ensures wants { LeavesWanted result G.meaning stream.old host.old out.old out.new }
 {
     while let Some((_, (header, packet))) = stream.next(alloc)? {
-        take_packet(alloc, host, header, packet, out, notes)?;
+        host.take(alloc, header, packet, out, notes)?;
     }
     Ok(())
-}
-
-/// Takes a packet. For want of memory it has sent nothing.
-fn take_packet<G: Gadget>(
-    alloc: Global,
-    host: &mut Host<G>,
-    header: Header,
-    packet: RedirPacket,
-    out: &mut Bytes,
-    notes: &mut HostNotes,
-) -> Result<(), Memory>
-    requires sound { IsSound host.old }
-    requires taken { IsTaken host.old.guest header packet }
-    ensures ok { OnOk result (Takes (packet_move G.meaning host.old header.id packet) host.new out.old out.new notes.old notes.new) }
-    ensures ranges { OnOk result (TakesInRange G.meaning host.old packet) }
-    ensures wants { OnErr result (GivesSome host.old (packet_move G.meaning host.old header.id packet)) }
-    ensures err { OnErr result (out.new ≡ out.old) }
-{
-    let before = out.len();
-    let taken = host.take(alloc, header, packet, out, notes);
-    out.cut_on_err(before, taken)
 }

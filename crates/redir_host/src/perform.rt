@@ -262,7 +262,7 @@ impl<G> Host<G> {
         ensures ok { OnOk result (Makes (cleared (is_success_status status) route.now table.now self.old) self.new out.old out.new) }
         ensures err { OnErr result (Begins out.old out.new) }
     {
-        if !matches!(status, UsbStatus::Success) {
+        if !status.is_success() {
             return Ok(());
         }
         write_flushed(alloc, &self.queue, route, table, self.guest.caps, out)?;

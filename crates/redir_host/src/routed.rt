@@ -13,92 +13,61 @@ use usb_base::{Bytes, EpAddr, Setup, Transfer};
 pub fn set_configuration(alloc: Global, configuration: u8) -> Transfer
     ensures { result ≡ routed (route.SetConfig configuration) }
 {
-    transfer_of(
-        alloc,
-        Setup {
-            kind: 0x00,
-            request: 9,
-            value: u16::from(configuration),
-            index: 0,
-            length: 0,
-        },
-    )
+    transfer_of(alloc, 0x00, 9, u16::from(configuration), 0, 0)
 }
 
 /// GET_CONFIGURATION.
 pub fn get_configuration(alloc: Global) -> Transfer
     ensures { result ≡ routed route.GetConfig }
 {
-    transfer_of(
-        alloc,
-        Setup {
-            kind: 0x80,
-            request: 8,
-            value: 0,
-            index: 0,
-            length: 1,
-        },
-    )
+    transfer_of(alloc, 0x80, 8, 0, 0, 1)
 }
 
 /// SET_INTERFACE.
 pub fn set_alt(alloc: Global, interface: u8, alt: u8) -> Transfer
     ensures { result ≡ routed (route.SetAlt interface alt) }
 {
-    transfer_of(
-        alloc,
-        Setup {
-            kind: 0x01,
-            request: 11,
-            value: u16::from(alt),
-            index: u16::from(interface),
-            length: 0,
-        },
-    )
+    transfer_of(alloc, 0x01, 11, u16::from(alt), u16::from(interface), 0)
 }
 
 /// GET_INTERFACE.
 pub fn get_alt(alloc: Global, interface: u8) -> Transfer
     ensures { result ≡ routed (route.GetAlt interface) }
 {
-    transfer_of(
-        alloc,
-        Setup {
-            kind: 0x81,
-            request: 10,
-            value: 0,
-            index: u16::from(interface),
-            length: 1,
-        },
-    )
+    transfer_of(alloc, 0x81, 10, 0, u16::from(interface), 1)
 }
 
 /// SetPortFeature of PORT_RESET, the reset of the device.
 pub fn reset(alloc: Global) -> Transfer
     ensures { result ≡ routed route.Reset }
 {
-    transfer_of(
-        alloc,
-        Setup {
-            kind: 0x23,
-            request: 3,
-            value: 4,
-            index: 0,
-            length: 0,
-        },
-    )
+    transfer_of(alloc, 0x23, 3, 4, 0, 0)
 }
 
-/// The transfer of a setup that sends no data to the device.
-fn transfer_of(alloc: Global, setup: Setup) -> Transfer
-    ensures { result ≡ control_transfer setup setup.length [] }
+/// The transfer of a setup of these fields, in their order (USB 2.0, table 9-2), that sends no data to the device.
+fn transfer_of(
+    alloc: Global,
+    kind: u8,
+    request: u8,
+    value: u16,
+    index: u16,
+    length: u16,
+) -> Transfer
+    ensures { result ≡ control_transfer (record { kind = kind; request = request; value = value; index = index; length = length }) length [] }
 {
-    let byte = if setup.kind < 0x80 { 0x00 } else { 0x80 };
+    let setup = Setup {
+        kind,
+        request,
+        value,
+        index,
+        length,
+    };
+    let byte = if kind < 0x80 { 0x00 } else { 0x80 };
     match EpAddr::new(byte) {
         Some(ep) => Transfer {
             ep,
             setup: Some(setup),
-            wanted: u32::from(setup.length),
+            wanted: u32::from(length),
             body: Bytes::new(alloc),
         },
         None => unreachable!(),

@@ -2,13 +2,14 @@
 
 ghost use Rattle.std.specs.Prelude.{◌≡◌, ◌++◌, false, Some, None, if◌then◌else◌, OnOk, OnErr};
 ghost use Rattle.std.specs.List.{find};
+ghost use Rattle.redir_data.specs.declared.packet.RedirPacket.TheVariants.{Plain};
 ghost use Rattle.model_device.specs.Transfer.{is_control as is_control_endpoint};
 ghost use Rattle.redir_wire.specs.Begins.{Begins};
 ghost use Rattle.redir_wire.specs.Header.{IdFits, is_wide};
 ghost use Rattle.redir_host.specs.guest.Asking.{asking_of};
 ghost use Rattle.redir_host.specs.step.Machine.{bytes_of};
 ghost use Rattle.redir_host.specs.step.Makes.{IdFitsOf, IsTaken, Makes, Takes};
-ghost use Rattle.redir_host.specs.guest.Packets.{can_start, cancel_move, data_move, greets, is_of, packet_move, plain_move, queued, start_move, status_of, stop_move};
+ghost use Rattle.redir_host.specs.guest.Packets.{can_start, cancel_move, data_move, greets, is_of, packet_move, packet_move_by, queued, start_move, status_of, stop_move};
 ghost use Rattle.redir_host.specs.state.Queues.{is_cancelled_by};
 ghost use Rattle.redir_host.specs.write.Readable.{GreetsInRange, InRange, TakesInRange};
 ghost use Rattle.redir_host.specs.state.Sound.{Each, IsSound};
@@ -31,8 +32,7 @@ use std::alloc::Global;
 use usb_base::{Bytes, EpAddr, EpKind, EpTable, Memory, Transfer, UsbStatus};
 
 impl<G: Gadget> Host<G> {
-    /// Takes a packet of the guest. An unplugged host reads on, but does nothing. For want of memory what was there
-    /// of `out` still stands at its front.
+    /// Takes a packet of the guest. An unplugged host reads on, but does nothing. For want of memory `out` stands.
     pub fn take(
         &mut self,
         alloc: Global,
@@ -46,16 +46,18 @@ impl<G: Gadget> Host<G> {
         ensures ok { OnOk result (Takes (packet_move G.meaning self.old header.id packet) self.new out.old out.new notes.old notes.new) }
         ensures wants { OnErr result (GivesSome self.old (packet_move G.meaning self.old header.id packet)) }
         ensures ranges { OnOk result (TakesInRange G.meaning self.old packet) }
-        ensures err { OnErr result (Begins out.old out.new) }
+        ensures err { OnErr result (out.new ≡ out.old) }
     {
         self.guest.advance(&packet);
         if self.unplugged {
             return Ok(());
         }
-        match packet {
+        let before = out.len();
+        let taken = match packet {
             RedirPacket::Plain(control) => self.take_plain(alloc, header.id, control, out, notes),
             RedirPacket::Carrying(data) => self.take_data(alloc, header.id, data, out),
-        }
+        };
+        out.cut_on_err(before, taken)
     }
 
     fn take_plain(
@@ -67,8 +69,8 @@ impl<G: Gadget> Host<G> {
         notes: &mut HostNotes,
     ) -> Result<(), Memory>
         requires { IdFitsOf self.old.guest.caps id packet }
-        ensures ok { OnOk result (Takes (plain_move G.meaning self.old id packet) self.new out.old out.new notes.old notes.new) }
-        ensures wants { OnErr result (GivesSome self.old (plain_move G.meaning self.old id packet)) }
+        ensures ok { OnOk result (Takes (packet_move_by G.meaning self.old id (Plain packet)) self.new out.old out.new notes.old notes.new) }
+        ensures wants { OnErr result (GivesSome self.old (packet_move_by G.meaning self.old id (Plain packet))) }
         ensures ranges { OnOk result (GreetsInRange G.meaning self.old packet) }
         ensures err { OnErr result (Begins out.old out.new) }
     {

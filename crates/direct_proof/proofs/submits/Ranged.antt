@@ -21,6 +21,7 @@ use Rattle.control_route.specs.Routes.{route_of}
 use Rattle.redir_data.specs.Spelling.{data_count}
 use Rattle.redir_wire.specs.declared.packet.Way.TheVariants.{ToHost}
 use Rattle.model_device.specs.Transfer.{IsTransfer, is_control}
+use Rattle.model_device.specs.Submit.{normal}
 use Rattle.model_device.proofs.Submits.{asks_transfer}
 use Rattle.redir_host.specs.guest.Asking.{routed}
 use Rattle.gate_history.specs.declared.errno.TheConstants.{ENOENT, EBUSY, EINVAL, EMSGSIZE, ESHUTDOWN}
@@ -64,7 +65,20 @@ wire-transfer r at directed there = record {
     way (Some s) d = zero-way (is_in_setup s) ∙ ap is_in_endpoint (sym d)
 
 routed-transfer : (x : Route) → IsTransfer (routed x)
-routed-transfer x = asks_transfer x (record { kind = 0; request = 0; value = 0; index = 0; length = 0 }) 0 false 0 [] (record { endpoint = omega arith; from_device = λ h. refl; to_device = λ h. refl; direction = λ h k. absurd (k refl) })
+routed-transfer x = by x (asks_transfer x nothing 0 false 0 [] (record { endpoint = omega arith; from_device = λ h. refl; to_device = λ h. refl; direction = λ h k. absurd (k refl) }))
+  where
+    nothing : Setup
+    nothing = record { kind = 0; request = 0; value = 0; index = 0; length = 0 }
+
+    by : (x : Route) → IsTransfer (normal x nothing 0 false 0 []) → IsTransfer (routed x)
+    by route.Local h = h
+    by (route.SetConfig c) h = h
+    by route.GetConfig h = h
+    by (route.SetAlt i a) h = h
+    by (route.GetAlt i) h = h
+    by route.Reset h = h
+    by route.Plain h = h
+    by route.Bad h = h
 
 -- ---- its packet
 

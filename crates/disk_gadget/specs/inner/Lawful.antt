@@ -12,14 +12,12 @@ use Rattle.usb_base.specs.declared.transfer.Transfer.{Transfer}
 use Rattle.usb_base.specs.declared.transfer.Outcome.{Outcome}
 use Rattle.control_route.specs.Routes.{route_of}
 use Rattle.control_route.specs.Changes.{is_change}
-use Rattle.chapter9.specs.Descriptors.{wrong_place}
 use Rattle.chapter9.specs.Requests.{is_request}
 use Rattle.chapter9.specs.Standard.{stall, success}
 use Rattle.model_device.specs.Transfer.{IsTransfer, IsOutcome, asks_change, is_in_setup}
 use Rattle.model_device.specs.Gadget.{IsGadget, IsNamed, SameFacts, is_get_configuration, is_port_reset}
 use Rattle.model_device.specs.Device.{State, device_parts, is_running, meaning_of, perform}
 use Rattle.model_device.specs.inner.Lawful.{lawful, stall_outcome}
-use Rattle.model_device.specs.Function.{no_iso_out}
 use Rattle.disk_gadget.specs.declared.class_request.ClassRequest.{ClassRequest}
 use Rattle.disk_gadget.specs.declared.class_request.ClassRequest.TheVariants.{Reset, MaxLun}
 use Rattle.disk_gadget.specs.declared.stage.Course.{Course}
@@ -31,17 +29,9 @@ use Rattle.disk_gadget.specs.inner.Outcomes.{turn_is_named, turn_is_outcome}
 
 -- ---- what it is on endpoint 0 is a device
 
-walks : wrong_place described.set.config ≡ None
-unfolding described le_at
-walks = refl
-
-endpoints : no_iso_out (device_parts described) ≡ true
-unfolding described
-endpoints = refl
-
 base : IsGadget (meaning_of described)
-unfolding described
-base = lawful described (record { configuration = walks; outcomes = λ course t it e. stall_outcome t; packets = λ course ep. tt; named = λ course t. refl; packets_named = λ course ep. tt; endpoints = endpoints })
+unfolding described le_at
+base = lawful described (record { configuration = refl; outcomes = λ course t it e. stall_outcome t; packets = λ course ep. tt; named = λ course t. refl; packets_named = λ course ep. tt; endpoints = refl })
 
 -- ---- the requests of the class are none of the others
 

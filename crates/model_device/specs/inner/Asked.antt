@@ -21,60 +21,37 @@ use Rattle.model_device.specs.Gadget.{is_get_configuration, is_port_reset}
 
 -- ---- from a request back to its setup
 
--- of twelve tests in turn, that of this request
-abbrev test_of : (a b c d e f g h i j k l : Bool) → Request → Bool
-test_of a b c d e f g h i j k l (Read DeviceStatus) = a
-test_of a b c d e f g h i j k l (Read InterfaceStatus) = b
-test_of a b c d e f g h i j k l (Read EndpointStatus) = c
-test_of a b c d e f g h i j k l (Read GetDescriptor) = d
-test_of a b c d e f g h i j k l (Read GetConfiguration) = e
-test_of a b c d e f g h i j k l (Read GetInterface) = f
-test_of a b c d e f g h i j k l (Write ClearHalt) = g
-test_of a b c d e f g h i j k l (Write SetHalt) = h
-test_of a b c d e f g h i j k l (Write SetAddress) = i
-test_of a b c d e f g h i j k l (Write SetConfiguration) = j
-test_of a b c d e f g h i j k l (Write SetInterface) = k
-test_of a b c d e f g h i j k l (Write ResetPort) = l
-
-abbrev first_true : (a b c d e f g h i j k l : Bool) → Option Request
-first_true a b c d e f g h i j k l =
-    cond a (Some (Read DeviceStatus))
-    (cond b (Some (Read InterfaceStatus))
-    (cond c (Some (Read EndpointStatus))
-    (cond d (Some (Read GetDescriptor))
-    (cond e (Some (Read GetConfiguration))
-    (cond f (Some (Read GetInterface))
-    (cond g (Some (Write ClearHalt))
-    (cond h (Some (Write SetHalt))
-    (cond i (Some (Write SetAddress))
-    (cond j (Some (Write SetConfiguration))
-    (cond k (Some (Write SetInterface))
-    (cond l (Some (Write ResetPort)) None)))))))))))
+-- the test of each request
+abbrev pub setup_test : Setup → Request → Bool
+setup_test r (Read DeviceStatus) = is_request r 0x80 0
+setup_test r (Read InterfaceStatus) = is_request r 0x81 0
+setup_test r (Read EndpointStatus) = is_request r 0x82 0
+setup_test r (Read GetDescriptor) = is_request r 0x80 6
+setup_test r (Read GetConfiguration) = is_request r 0x80 8
+setup_test r (Read GetInterface) = is_request r 0x81 10
+setup_test r (Write ClearHalt) = is_request r 0x02 1 && r.value == 0
+setup_test r (Write SetHalt) = is_request r 0x02 3 && r.value == 0
+setup_test r (Write SetAddress) = is_request r 0x00 5
+setup_test r (Write SetConfiguration) = is_request r 0x00 9
+setup_test r (Write SetInterface) = is_request r 0x01 11
+setup_test r (Write ResetPort) = is_request r 0x23 3 && r.value == 4
 
 same_some : {A : Type 0} (x y : A) → Some x ≡ Some y → x ≡ y
 same_some x y h = cc
 
-passed : (a b c d e f g h i j k l : Bool) (x : Request) → first_true a b c d e f g h i j k l ≡ Some x → test_of a b c d e f g h i j k l x ≡ true
-passed true b c d e f g h i j k l x q = subst (λ x. test_of true b c d e f g h i j k l x ≡ true) (same_some _ x q) refl
-passed false true c d e f g h i j k l x q = subst (λ x. test_of false true c d e f g h i j k l x ≡ true) (same_some _ x q) refl
-passed false false true d e f g h i j k l x q = subst (λ x. test_of false false true d e f g h i j k l x ≡ true) (same_some _ x q) refl
-passed false false false true e f g h i j k l x q = subst (λ x. test_of false false false true e f g h i j k l x ≡ true) (same_some _ x q) refl
-passed false false false false true f g h i j k l x q = subst (λ x. test_of false false false false true f g h i j k l x ≡ true) (same_some _ x q) refl
-passed false false false false false true g h i j k l x q = subst (λ x. test_of false false false false false true g h i j k l x ≡ true) (same_some _ x q) refl
-passed false false false false false false true h i j k l x q = subst (λ x. test_of false false false false false false true h i j k l x ≡ true) (same_some _ x q) refl
-passed false false false false false false false true i j k l x q = subst (λ x. test_of false false false false false false false true i j k l x ≡ true) (same_some _ x q) refl
-passed false false false false false false false false true j k l x q = subst (λ x. test_of false false false false false false false false true j k l x ≡ true) (same_some _ x q) refl
-passed false false false false false false false false false true k l x q = subst (λ x. test_of false false false false false false false false false true k l x ≡ true) (same_some _ x q) refl
-passed false false false false false false false false false false true l x q = subst (λ x. test_of false false false false false false false false false false true l x ≡ true) (same_some _ x q) refl
-passed false false false false false false false false false false false true x q = subst (λ x. test_of false false false false false false false false false false false true x ≡ true) (same_some _ x q) refl
-passed false false false false false false false false false false false false x q = cc
-
--- the test of each request
-abbrev pub setup_test : Setup → Request → Bool
-setup_test r x = test_of (is_request r 0x80 0) (is_request r 0x81 0) (is_request r 0x82 0) (is_request r 0x80 6) (is_request r 0x80 8) (is_request r 0x81 10) (is_request r 0x02 1 && r.value == 0) (is_request r 0x02 3 && r.value == 0) (is_request r 0x00 5) (is_request r 0x00 9) (is_request r 0x01 11) (is_request r 0x23 3 && r.value == 4) x
+-- of tests in turn the first that holds gives its request
+passed : (r : Setup) (first : Request) (rest : Option Request) (x : Request) (b : Bool) → setup_test r first ≡ b → (rest ≡ Some x → setup_test r x ≡ true) → cond b (Some first) rest ≡ Some x → setup_test r x ≡ true
+passed r first rest x true e later h = subst (λ x. setup_test r x ≡ true) (same_some first x h) e
+passed r first rest x false e later h = later h
 
 pub asked : (r : Setup) (x : Request) → request_of r ≡ Some x → setup_test r x ≡ true
-asked r x h = passed _ _ _ _ _ _ _ _ _ _ _ _ x h
+asked r x =
+    passed r (Read DeviceStatus) _ x _ refl (passed r (Read InterfaceStatus) _ x _ refl
+    (passed r (Read EndpointStatus) _ x _ refl (passed r (Read GetDescriptor) _ x _ refl
+    (passed r (Read GetConfiguration) _ x _ refl (passed r (Read GetInterface) _ x _ refl
+    (passed r (Write ClearHalt) _ x _ refl (passed r (Write SetHalt) _ x _ refl
+    (passed r (Write SetAddress) _ x _ refl (passed r (Write SetConfiguration) _ x _ refl
+    (passed r (Write SetInterface) _ x _ refl (passed r (Write ResetPort) None x _ refl (λ h. cc))))))))))))
 
 kind_of : (r : Setup) (kind request : ℕ) → is_request r kind request ≡ true → (r.kind ≡ kind) × (r.request ≡ request)
 kind_of r kind request h = let p = and_parts (r.kind == kind) (r.request == request) h in (eqb-true r.kind kind p.0, eqb-true r.request request p.1)

@@ -26,7 +26,7 @@ use Rattle.chapter9.specs.Standard.{changed_by, given_by, outcome_by, read_outco
 use Rattle.model_device.specs.Transfer.{IsTransfer, IsOutcome, is_in_setup}
 use Rattle.model_device.specs.Gadget.{IsGadget, IsNamed, SameFacts, is_get_configuration, is_port_reset}
 use Rattle.model_device.specs.Function.{IsFunction}
-use Rattle.model_device.specs.Device.{Device, State, device_parts, interfaces_of, is_running, meaning_of, offer, one_interface, perform, perform_by, with_kept}
+use Rattle.model_device.specs.Device.{Device, State, device_parts, interfaces_of, is_running, meaning_of, offer, one_interface, perform, with_kept}
 use Rattle.model_device.specs.inner.Asked.{SameSetting, get_configuration_asked, port_reset_asked, read_from_device, setting_kept}
 use Rattle.model_device.specs.inner.Tables.{table_fine}
 
@@ -94,9 +94,8 @@ not_ready d s t e = rw e refl
 
 -- ---- each law
 
-ready_by : {X : Type 0} (d : Device X) (s : State X) (t : Transfer) (o : Option Setup) → is_some o ≡ true → IsSome (perform_by d s t o)
-ready_by d s t None e = absurd (false≢true e)
-ready_by d s t (Some r) e = refl
+ready_by : {X : Type 0} (d : Device X) (s : State X) (t : Transfer) → is_some t.setup ≡ true → IsSome (perform d s t)
+ready_by d s t e = rw e refl
 
 resets_by : {X : Type 0} (d : Device X) (s : State X) (t : Transfer) (r : Setup) → t.setup ≡ Some r → is_port_reset r ≡ true → IfSome (perform d s t) (λ done. done.1.status ≡ Success)
 resets_by d s t r e q = let asks = port_reset_asked r q in rw (performed d s t r e, asks.0, asks.1) refl
@@ -186,7 +185,7 @@ offer_named_by d s ep own =
 
 pub lawful : {X : Type 0} (d : Device X) → IsFunction d → IsGadget (meaning_of d)
 lawful d own = record {
-  ready = λ s t it c. ready_by d s t t.setup (it.has_setup ∙ c);
+  ready = λ s t it c. ready_by d s t (it.has_setup ∙ c);
   resets = λ s t r it e q. resets_by d s t r e q;
   tells = λ s t r it e q. tells_by d s t r e q;
   keeps = λ s t it c. keeps_by d s t t.setup refl c;

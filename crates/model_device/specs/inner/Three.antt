@@ -10,41 +10,12 @@ use Rattle.chapter9.specs.Descriptors.{parts_of, wrong_place}
 use Rattle.chapter9.specs.declared.standard_requests.DescriptorSet.{DescriptorSet}
 use Rattle.model_device.specs.Transfer.{IsTransfer, IsOutcome}
 use Rattle.model_device.specs.Gadget.{IsNamed}
-use Rattle.model_device.specs.Device.{device_parts}
 use Rattle.model_device.specs.Function.{IsFunction, no_iso_out}
 use Rattle.model_device.specs.InTurn.{in_turn}
 use Rattle.model_device.specs.Keyboard.{keyboard, report}
 use Rattle.model_device.specs.Loopback.{given_back, limit, loopback, taken_in}
 use Rattle.model_device.specs.Tone.{samples, tone}
 use Rattle.model_device.specs.inner.Lawful.{stall_outcome}
-
--- ---- each configuration is right
-
-keyboard_walks : wrong_place keyboard.set.config ≡ None
-unfolding keyboard le_at
-keyboard_walks = refl
-
-loopback_walks : wrong_place loopback.set.config ≡ None
-unfolding loopback le_at
-loopback_walks = refl
-
-tone_walks : wrong_place tone.set.config ≡ None
-unfolding tone le_at
-tone_walks = refl
-
--- ---- no endpoint to the device is isochronous
-
-keyboard_endpoints : no_iso_out (device_parts keyboard) ≡ true
-unfolding keyboard
-keyboard_endpoints = refl
-
-loop_endpoints : no_iso_out (device_parts loopback) ≡ true
-unfolding loopback
-loop_endpoints = refl
-
-tone_endpoints : no_iso_out (device_parts tone) ≡ true
-unfolding tone
-tone_endpoints = refl
 
 -- ---- what only sends, where its packets are short
 
@@ -89,16 +60,16 @@ loop_named : (held : List ℕ) (t : Transfer) → IfSome (loopback.transfer held
 unfolding loopback
 loop_named held t = cond_both (is_in_endpoint t.ep) (given_back held t.wanted) (taken_in held t.body) (λ o. IfSome o (λ done. IsNamed done.1.status)) (λ e. given_back_named held t.wanted) (λ e. taken_in_named held t.body)
 
--- ---- the three
+-- ---- the three: of each the configuration is right, and no endpoint to it is isochronous
 
 pub keyboard_lawful : IsFunction keyboard
-unfolding keyboard
-keyboard_lawful = in_turn_lawful 26 report keyboard.set keyboard_walks keyboard_endpoints (λ key. omega arith)
+unfolding keyboard le_at
+keyboard_lawful = in_turn_lawful 26 report keyboard.set refl refl (λ key. omega arith)
 
 pub loopback_lawful : IsFunction loopback
-unfolding loopback
-loopback_lawful = record { configuration = loopback_walks; outcomes = λ held t it e. loop_outcomes held t it; packets = λ held ep. tt; named = loop_named; packets_named = λ held ep. tt; endpoints = loop_endpoints }
+unfolding loopback le_at
+loopback_lawful = record { configuration = refl; outcomes = λ held t it e. loop_outcomes held t it; packets = λ held ep. tt; named = loop_named; packets_named = λ held ep. tt; endpoints = refl }
 
 pub tone_lawful : IsFunction tone
-unfolding tone samples
-tone_lawful = in_turn_lawful 256 samples tone.set tone_walks tone_endpoints (λ sample. omega (arith, length-replicate 192 sample))
+unfolding tone samples le_at
+tone_lawful = in_turn_lawful 256 samples tone.set refl refl (λ sample. omega (arith, length-replicate 192 sample))

@@ -1,6 +1,7 @@
 -- What an offer of an endpoint's stream makes, and the end of the device.
 use Rattle.std.specs.Prelude.{ℕ, true, false, if◌then◌else◌, [], ◌∷◌, length, Option, Some, None, is_some}
 use Rattle.std.specs.List.{find}
+use Rattle.std.specs.Option.{option_map_or}
 use Rattle.usb_base.specs.Status.{status_byte}
 use Rattle.usb_base.specs.declared.transfer.StreamPacket.{StreamPacket}
 use Rattle.redir_wire.specs.declared.packet.RedirControl.TheVariants as plain
@@ -25,12 +26,10 @@ stream_packet Iso ep p = (0, Carrying (moving.Iso ep (status_byte p.status) (len
 stream_packet Interrupt ep p = (0, Carrying (moving.Interrupt ep (status_byte p.status) (length p.body) p.body))
 
 abbrev pub offered_by : {S : Type 0} → Host S → ℕ → StreamKind → Option (S × StreamPacket) → Move S
-offered_by h ep k None = quiet h
-offered_by h ep k (Some sent) = replies (record h { gadget = sent.0 }) (stream_packet k ep sent.1)
+offered_by h ep k sent = option_map_or (λ s. replies (record h { gadget = s.0 }) (stream_packet k ep s.1)) sent (quiet h)
 
 abbrev pub offered_on : {S : Type 0} → Meaning S → Host S → ℕ → Option Running → Move S
-offered_on m h ep None = quiet h
-offered_on m h ep (Some s) = offered_by h ep s.kind (m.offer h.gadget ep)
+offered_on m h ep stream = option_map_or (λ (s : Running). offered_by h ep s.kind (m.offer h.gadget ep)) stream (quiet h)
 
 -- a host that is unplugged runs no stream
 abbrev pub offer_move : {S : Type 0} → Meaning S → Host S → ℕ → Move S

@@ -1,5 +1,5 @@
 -- What a packet asks of the device.
-use Rattle.std.specs.Prelude.{ℕ, ◌%◌, ◌==◌, ◌&&◌, not, nat_lt, nat_le, Bool, false, if◌then◌else◌, [], Some, None}
+use Rattle.std.specs.Prelude.{ℕ, ◌%◌, ◌==◌, ◌&&◌, not, nat_lt, nat_le, Bool, if◌then◌else◌, [], Some, None, unwrap_or}
 use Rattle.usb_base.specs.Endpoint.{is_in_endpoint}
 use Rattle.usb_base.specs.declared.setup.Setup.{Setup}
 use Rattle.usb_base.specs.declared.transfer.Transfer.{Transfer}
@@ -12,7 +12,7 @@ use Rattle.redir_data.specs.declared.packet.RedirPacket.TheVariants.{Plain, Carr
 use Rattle.control_route.specs.declared.route.Route.{Route}
 use Rattle.control_route.specs.declared.route.Route.TheVariants as route
 use Rattle.model_device.specs.Transfer.{is_control}
-use Rattle.model_device.specs.Submit.{normal}
+use Rattle.model_device.specs.Submit.{control_transfer, setup_of}
 use Rattle.redir_host.specs.declared.request.Asking.{Asking}
 use Rattle.redir_host.specs.declared.request.Asking.TheVariants.{Nothing, Refuses, Asks}
 use Rattle.redir_host.specs.declared.request.Form.{Form}
@@ -41,9 +41,11 @@ asking_of (moving.Interrupt ep status told body) =
     if is_in_endpoint ep then Nothing
     else asked_if (is_other ep) form.Interrupt (record { ep = ep; setup = None; wanted = told; body = body })
 
--- the transfer of a request that has a packet of its own
+-- the transfer of a request that has a packet of its own: that of its route's setup, which sends the device no data
 abbrev pub routed : Route → Transfer
-routed r = normal r (record { kind = 0; request = 0; value = 0; index = 0; length = 0 }) 0 false 0 []
+routed r =
+    let setup : Setup = unwrap_or (setup_of r) (record { kind = 0; request = 0; value = 0; index = 0; length = 0 }) in
+    control_transfer setup setup.length []
 
 -- what a packet asks that moves no data
 abbrev pub asking_plain : RedirControl → Asking

@@ -5,14 +5,16 @@ use Rattle.usb_base.specs.Endpoint.{is_in_endpoint, row_of}
 use Rattle.usb_base.specs.declared.endpoint.EpKind.{EpKind}
 use Rattle.usb_base.specs.declared.endpoint.EpKind.TheVariants as kind
 use Rattle.usb_base.specs.declared.endpoint.EpTable.{EpTable}
+use Rattle.usb_base.specs.declared.status.UsbStatus.TheVariants.{Inval}
 use Rattle.usb_base.specs.declared.transfer.Transfer.{Transfer}
-use Rattle.redir_wire.specs.declared.packet.RedirControl.{RedirControl}
 use Rattle.redir_wire.specs.declared.packet.RedirControl.TheVariants as plain
 use Rattle.redir_data.specs.declared.packet.RedirPacket.{RedirPacket}
 use Rattle.redir_data.specs.declared.packet.RedirPacket.TheVariants.{Plain, Carrying}
 use Rattle.redir_data.specs.Streams.{advanced}
 use Rattle.control_route.specs.declared.route.Route.TheVariants as route
+use Rattle.chapter9.specs.Standard.{ended}
 use Rattle.model_device.specs.Meaning.{Meaning}
+use Rattle.model_device.specs.Transfer.{is_control}
 use Rattle.redir_host.specs.declared.host.Host.{Host}
 use Rattle.redir_host.specs.declared.note.HostNote.TheVariants as note
 use Rattle.redir_host.specs.declared.request.Asking.{Asking}
@@ -23,10 +25,10 @@ use Rattle.redir_host.specs.declared.request.Request.{Request}
 use Rattle.redir_host.specs.declared.running.Running.{Running}
 use Rattle.redir_host.specs.declared.running.StreamKind.{StreamKind}
 use Rattle.redir_host.specs.declared.running.StreamKind.TheVariants.{Iso, Interrupt}
-use Rattle.redir_host.specs.state.Queues.{is_first_queue, is_cancelled_by, after_cancel, leaves_mark}
+use Rattle.redir_host.specs.state.Queues.{is_cancelled_by, after_cancel, leaves_mark}
 use Rattle.redir_host.specs.device.Facts.{connect_of, facts_of}
 use Rattle.redir_host.specs.guest.Asking.{asking_of, routed}
-use Rattle.redir_host.specs.write.Answers.{cancelled, refused}
+use Rattle.redir_host.specs.write.Answers.{answer_by, cancelled}
 use Rattle.redir_host.specs.step.Moves.{Move, quiet, replies}
 
 -- ---- requests
@@ -39,11 +41,12 @@ abbrev pub queued : {S : Type 0} → Host S → Bool → ℕ → Form → Transf
 queued h first id f t = record h { queue = h.queue ++ request (first && h.resets_next) id f t ∷ []; resets_next = not first && h.resets_next }
 
 abbrev pub joins : {S : Type 0} → Host S → ℕ → Form → Transfer → Move S
-joins h id f t = quiet (queued h (is_first_queue (request false id f t)) id f t)
+joins h id f t = quiet (queued h (is_control t.ep) id f t)
 
+-- what can't be asked is refused at once
 abbrev pub data_move : {S : Type 0} → Host S → ℕ → Asking → Move S
 data_move h id Nothing = quiet h
-data_move h id (Refuses f ep) = replies h (refused id f ep)
+data_move h id (Refuses f ep) = replies h (id, answer_by 0 f ep (ended Inval))
 data_move h id (Asks f t) = joins h id f t
 
 -- ---- cancels
@@ -94,22 +97,19 @@ stop_move h id k ep = replies (record h { running = stopped ep h.running }) (id,
 abbrev pub greets : {S : Type 0} → Meaning S → Host S → Move S
 greets m h = record { host = h; sent = facts_of h.guest.caps m h.gadget ++ (0, Plain (plain.Connect (connect_of h.guest.caps m.identity))) ∷ []; notes = [] }
 
-abbrev pub plain_move : {S : Type 0} → Meaning S → Host S → ℕ → RedirControl → Move S
-plain_move m h id (plain.Hello x) = greets m h
-plain_move m h id plain.Reset = quiet (record h { resets_next = true })
-plain_move m h id (plain.SetConfiguration configuration) = joins h id (form.SetConfiguration configuration) (routed (route.SetConfig configuration))
-plain_move m h id plain.GetConfiguration = joins h id form.GetConfiguration (routed route.GetConfig)
-plain_move m h id (plain.SetAlt interface alt) = joins h id (form.SetAlt interface alt) (routed (route.SetAlt interface alt))
-plain_move m h id (plain.GetAlt interface) = joins h id (form.GetAlt interface) (routed (route.GetAlt interface))
-plain_move m h id (plain.StartIso ep pkts_per_urb no_urbs) = start_move (can_start (m.table h.gadget) Iso ep) h id Iso ep
-plain_move m h id (plain.StopIso ep) = stop_move h id Iso ep
-plain_move m h id (plain.StartInterrupt ep) = start_move (can_start (m.table h.gadget) Interrupt ep) h id Interrupt ep
-plain_move m h id (plain.StopInterrupt ep) = stop_move h id Interrupt ep
-plain_move m h id plain.Cancel = cancel_move h id (find (is_cancelled_by id) h.queue)
-plain_move m h id _ = quiet h
-
 abbrev pub packet_move_by : {S : Type 0} → Meaning S → Host S → ℕ → RedirPacket → Move S
-packet_move_by m h id (Plain p) = plain_move m h id p
+packet_move_by m h id (Plain (plain.Hello x)) = greets m h
+packet_move_by m h id (Plain plain.Reset) = quiet (record h { resets_next = true })
+packet_move_by m h id (Plain (plain.SetConfiguration configuration)) = joins h id (form.SetConfiguration configuration) (routed (route.SetConfig configuration))
+packet_move_by m h id (Plain plain.GetConfiguration) = joins h id form.GetConfiguration (routed route.GetConfig)
+packet_move_by m h id (Plain (plain.SetAlt interface alt)) = joins h id (form.SetAlt interface alt) (routed (route.SetAlt interface alt))
+packet_move_by m h id (Plain (plain.GetAlt interface)) = joins h id (form.GetAlt interface) (routed (route.GetAlt interface))
+packet_move_by m h id (Plain (plain.StartIso ep pkts_per_urb no_urbs)) = start_move (can_start (m.table h.gadget) Iso ep) h id Iso ep
+packet_move_by m h id (Plain (plain.StopIso ep)) = stop_move h id Iso ep
+packet_move_by m h id (Plain (plain.StartInterrupt ep)) = start_move (can_start (m.table h.gadget) Interrupt ep) h id Interrupt ep
+packet_move_by m h id (Plain (plain.StopInterrupt ep)) = stop_move h id Interrupt ep
+packet_move_by m h id (Plain plain.Cancel) = cancel_move h id (find (is_cancelled_by id) h.queue)
+packet_move_by m h id (Plain _) = quiet h
 packet_move_by m h id (Carrying d) = data_move h id (asking_of d)
 
 -- an unplugged host answers nothing, but reads on

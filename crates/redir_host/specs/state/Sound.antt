@@ -13,6 +13,7 @@ use Rattle.redir_data.specs.Ranges.{BulkLengthFits}
 use Rattle.redir_data.specs.Written as carrying
 use Rattle.model_device.specs.Transfer.{IsTransfer, is_control}
 use Rattle.redir_host.specs.declared.host.Host.{Host}
+use Rattle.redir_host.specs.guest.Asking.{greatest}
 use Rattle.redir_host.specs.declared.request.Form.{Form}
 use Rattle.redir_host.specs.declared.request.Form.TheVariants as form
 use Rattle.redir_host.specs.declared.request.Request.{Request}
@@ -35,7 +36,7 @@ DoneFits _ done = Unit {0}
 
 -- and so has that of its packet
 abbrev pub WantedFits : Caps → Form → ℕ → Type 0
-WantedFits caps (form.Bulk stream) wanted = (wanted ≤ 16777216) × BulkLengthFits (has caps 6) wanted
+WantedFits caps (form.Bulk stream) wanted = (wanted ≤ greatest) × BulkLengthFits (has caps 6) wanted
 WantedFits caps _ wanted = wanted < 2 ^ 16
 
 -- and so have the fields of its answer that are its own

@@ -36,19 +36,13 @@ use Rattle.redir_host.specs.write.Answers.{answer_by}
 abbrev pub packets : List Item → ℕ
 packets [] = 0
 packets (Asked id p ∷ xs) = packets xs + 1
-packets (Wrong place reason ∷ xs) = packets xs
-packets (Performs ep ∷ xs) = packets xs
-packets (Offers ep ∷ xs) = packets xs
-packets (Unplugs ∷ xs) = packets xs
+packets (_ ∷ xs) = packets xs
 
 -- the device was taken away
 abbrev pub is_gone : List Item → Bool
 is_gone [] = false
-is_gone (Asked id p ∷ xs) = is_gone xs
-is_gone (Wrong place reason ∷ xs) = is_gone xs
-is_gone (Performs ep ∷ xs) = is_gone xs
-is_gone (Offers ep ∷ xs) = is_gone xs
 is_gone (Unplugs ∷ xs) = true
+is_gone (_ ∷ xs) = is_gone xs
 
 abbrev pub request_in : ℕ → ℕ → Asking → List Placed
 request_in place id Nothing = []
@@ -59,10 +53,7 @@ request_in place id (Asks f t) = placed place id f t.ep ∷ []
 abbrev pub requests : List Item → List Placed
 requests [] = []
 requests (Asked id p ∷ xs) = requests xs ++ request_in (packets xs) id (asking p)
-requests (Wrong place reason ∷ xs) = requests xs
-requests (Performs ep ∷ xs) = requests xs
-requests (Offers ep ∷ xs) = requests xs
-requests (Unplugs ∷ xs) = requests xs
+requests (_ ∷ xs) = requests xs
 
 -- ---- the answers
 
@@ -229,9 +220,7 @@ requests_of answered = map (λ (a : Answered). a.request) answered
 
 abbrev pub is_performed_end : End → Bool
 is_performed_end (ByDevice configuration outcome) = true
-is_performed_end ByCancel = false
-is_performed_end ByChange = false
-is_performed_end AtOnce = false
+is_performed_end _ = false
 
 abbrev pub is_performed : Answered → Bool
 is_performed a = is_performed_end a.by
@@ -262,10 +251,7 @@ stream_id id (Carrying d) = []
 abbrev pub stream_ids : List Item → List ℕ
 stream_ids [] = []
 stream_ids (Asked id p ∷ xs) = stream_ids xs ++ (if is_gone xs then [] else stream_id id p)
-stream_ids (Wrong place reason ∷ xs) = stream_ids xs
-stream_ids (Performs ep ∷ xs) = stream_ids xs
-stream_ids (Offers ep ∷ xs) = stream_ids xs
-stream_ids (Unplugs ∷ xs) = stream_ids xs
+stream_ids (_ ∷ xs) = stream_ids xs
 
 abbrev pub is_plain_status : RedirControl → Bool
 is_plain_status (plain.IsoStatus status ep) = true

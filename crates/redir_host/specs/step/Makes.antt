@@ -17,6 +17,7 @@ use Rattle.redir_data.specs.Spelling.{data_count}
 use Rattle.redir_data.specs.Streams.{stream_format}
 use Rattle.control_route.specs.declared.route.Route.{Route}
 use Rattle.redir_host.specs.declared.host.Host.{Host}
+use Rattle.redir_host.specs.guest.Asking.{greatest}
 use Rattle.redir_host.specs.declared.note.HostNote.{HostNote}
 use Rattle.redir_host.specs.declared.note.Performed.{Performed}
 use Rattle.redir_host.specs.declared.request.Form.{Form}
@@ -71,4 +72,4 @@ pub record AnswerFits (caps : Caps) (f : Form) (ep : ℕ) (o : Outcome) : Type 0
   pub done : DoneFits f o.done
   pub length_fits : LengthFits caps f o.done
   pub data_there : length o.body ≡ data_count ToGuest ep o.done
-  pub few_bytes : length o.body ≤ 16777216
+  pub few_bytes : length o.body ≤ greatest

@@ -2,7 +2,7 @@
 -- of them, or by the status packet of their kind.
 use Rattle.std.specs.Prelude.{ℕ, [], if◌then◌else◌, slice_index}
 use Rattle.usb_base.specs.Status.{status_byte, is_success}
-use Rattle.usb_base.specs.declared.status.UsbStatus.TheVariants.{Cancelled, Inval}
+use Rattle.usb_base.specs.declared.status.UsbStatus.TheVariants.{Cancelled}
 use Rattle.usb_base.specs.declared.transfer.Outcome.{Outcome}
 use Rattle.redir_wire.specs.declared.packet.RedirControl.TheVariants as plain
 use Rattle.redir_data.specs.declared.packet.RedirData.TheVariants as moving
@@ -33,6 +33,3 @@ answer configuration q o = (q.id, answer_by configuration q.form q.transfer.ep o
 -- only requests that move data are answered so, and their answers tell no configuration
 abbrev pub cancelled : Request → ℕ × RedirPacket
 cancelled q = answer 0 q (ended Cancelled)
-
-abbrev pub refused : ℕ → Form → ℕ → ℕ × RedirPacket
-refused id f ep = (id, answer_by 0 f ep (ended Inval))

@@ -35,7 +35,7 @@ use Rattle.redir_host.specs.declared.running.StreamKind.TheVariants.{Iso, Interr
 use Rattle.redir_host.specs.guest.Asking.{greatest, is_other, asked_if, asking_of, routed}
 use Rattle.redir_host.specs.step.Makes.{IsTaken}
 use Rattle.redir_host.specs.step.Moves.{Move, quiet}
-use Rattle.redir_host.specs.guest.Packets.{request, queued, data_move, cancel_move, can_start, is_of, runs_at, stopped, start_move, stop_move, plain_move, packet_move}
+use Rattle.redir_host.specs.guest.Packets.{can_start, cancel_move, data_move, is_of, packet_move, packet_move_by, queued, request, runs_at, start_move, stop_move, stopped}
 use Rattle.redir_host.specs.state.Queues.{is_first_queue, is_cancelled_by, marked, with_first_marked, after_cancel}
 use Rattle.redir_host.specs.state.Sound.{Each, FormFits, IsRequest, IsRunning, IsSound, WantedFits}
 use Rattle.redir_host.proofs.lemmas.state.Sound.{Keeps}
@@ -201,7 +201,7 @@ started-in table k ep can = (and_parts (is_in_endpoint ep) (is_of k (row_of tabl
 routed-keeps : {S : Type 0} (h : Host S) (id : ℕ) (f : Form) (t : Transfer) → IsSound h → h.guest.first ≡ false → IdFits (is_wide false h.guest.caps) id → IsRouted t → (t.wanted < 2 ^ 16 → WantedFits h.guest.caps f t.wanted) → FormFits f → Keeps h (queued h (is_control t.ep) id f t)
 routed-keeps h id f t sound greeted fits is few form = joins-keeps h id f t sound greeted fits (record { transfer = is.transfer; wanted_fits = few is.few; form_fits = form })
 
-plain-keeps : {S : Type 0} (m : Meaning S) (h : Host S) (id : ℕ) (c : RedirControl) → IsSound h → h.guest.first ≡ false → IdFits (is_wide false h.guest.caps) id → Keeps h (plain_move m h id c).host
+plain-keeps : {S : Type 0} (m : Meaning S) (h : Host S) (id : ℕ) (c : RedirControl) → IsSound h → h.guest.first ≡ false → IdFits (is_wide false h.guest.caps) id → Keeps h (packet_move_by m h id (Plain c)).host
 plain-keeps m h id plain.Reset sound greeted fits = record { guest = refl; sound = record { requests = sound.requests; streams = sound.streams } }
 plain-keeps m h id (plain.SetConfiguration configuration) sound greeted fits =
     routed-keeps h id (form.SetConfiguration configuration) (routed (route.SetConfig configuration)) sound greeted fits (routed-set configuration) (λ few. few) tt
@@ -240,10 +240,10 @@ hello-sound h guest sound first = record {
   streams = each_weaker (IsRunning h.guest) (IsRunning guest) (λ s is. absurd (true≢false (sym first ∙ is.greeted))) h.running sound.streams;
 }
 
-later-plain : {S : Type 0} (m : Meaning S) (h : Host S) (header : Header) (c : RedirControl) (number : ℕ) → IsSound h → IsTaken h.guest header (Plain c) → header.kind ≡ number → (number == 0) ≡ false → Keeps h (cond h.unplugged (quiet h) (plain_move m h header.id c)).host
+later-plain : {S : Type 0} (m : Meaning S) (h : Host S) (header : Header) (c : RedirControl) (number : ℕ) → IsSound h → IsTaken h.guest header (Plain c) → header.kind ≡ number → (number == 0) ≡ false → Keeps h (cond h.unplugged (quiet h) (packet_move_by m h header.id (Plain c))).host
 later-plain m h header c number sound is kind other =
     let greeted = later h.guest.first header.kind number (header_says is.header).in_turn kind other in
-    keeps-all h (plain_move m h header.id c) h.unplugged sound
+    keeps-all h (packet_move_by m h header.id (Plain c)) h.unplugged sound
     (plain-keeps m h header.id c sound greeted (subst (λ (b : Bool). IdFits (is_wide b h.guest.caps) header.id) greeted is.header.id_fits))
 
 -- a packet that moves data is no hello
@@ -257,7 +257,7 @@ pub keeps-packet : {S : Type 0} (m : Meaning S) (h : Host S) (header : Header) (
 keeps-packet {S = S} m h header (Plain (plain.Hello x)) sound is =
     let g : Host S = record h { guest = advanced h.guest (Plain (plain.Hello x)) } in
     let known = hello-sound h (advanced h.guest (Plain (plain.Hello x))) sound (earlier h.guest.first header.kind (header_says is.header).in_turn is.kind) in
-    keeps-all g (plain_move m g header.id (plain.Hello x)) h.unplugged known (record { guest = refl; sound = known })
+    keeps-all g (packet_move_by m g header.id (Plain (plain.Hello x))) h.unplugged known (record { guest = refl; sound = known })
 keeps-packet m h header (Plain (plain.Connect x)) sound is = later-plain m h header (plain.Connect x) 1 sound is is.kind refl
 keeps-packet m h header (Plain plain.Disconnect) sound is = later-plain m h header plain.Disconnect 2 sound is is.kind refl
 keeps-packet m h header (Plain plain.Reset) sound is = later-plain m h header plain.Reset 3 sound is is.kind refl

@@ -2,6 +2,7 @@
 use Rattle.std.proofs.Common.{◌≡◌, ℕ, Bool, true, false, cond, List, [], ◌∷◌, Some, None, refl, sym, subst, ◌∙◌}
 use Rattle.std.specs.Prelude.{Option, option_map}
 use Rattle.std.specs.List.{find}
+use Rattle.redir_host.proofs.lemmas.state.Each.{each_found}
 use Rattle.usb_base.specs.Status.{is_success}
 use Rattle.usb_base.specs.declared.endpoint.EpTable.{EpTable}
 use Rattle.usb_base.specs.declared.transfer.Outcome.{Outcome}
@@ -93,6 +94,10 @@ each-without P test (x ∷ xs) each =
     elim (test x) as (λ (b : Bool). Each P (cond b xs (x ∷ without_first test xs))) [ true ↦ each.1 | false ↦ (each.0, each-without P test xs each.1) ]
 
 -- without an endpoint's first request
+-- what is known of a queue's first request
+pub sound-first : {S : Type 0} (h : Host S) (ep : ℕ) (q : Request) → IsSound h → find (is_at ep) h.queue ≡ Some q → IsRequest h.guest q
+sound-first h ep q sound found = (each_found (IsRequest h.guest) (is_at ep) h.queue q sound.requests found).0
+
 pub sound-without : {S : Type 0} (h : Host S) (ep : ℕ) (rest : List Request) (s : S) → IsSound h → rest ≡ without_first (is_at ep) h.queue → IsSound (record h { queue = rest; gadget = s })
 sound-without h ep rest s sound is = record {
   requests = subst (Each (IsRequest h.guest)) (sym is) (each-without (IsRequest h.guest) (is_at ep) h.queue sound.requests);

@@ -65,28 +65,28 @@ sub-of (x ∷ xs) (y ∷ ys) (z ∷ zs) first (inr later) = inr (sub-of (x ∷ x
 sub-of (x ∷ xs) (y ∷ ys) (z ∷ zs) (inl here) (inl there) = inl (here.0 ∙ there.0, sub-of xs ys zs here.1 there.1)
 sub-of (x ∷ xs) (y ∷ ys) (z ∷ zs) (inr later) (inl there) = inr (sub-of (x ∷ xs) ys zs later there.1)
 
--- those of a filtered list that pass a test, among those that pass it
-sub-filtered : {A : Type 0} (test takes : A → Bool) (xs : List A) → IsSublist (filter test (filter takes xs)) (filter test xs)
-sub-filtered test takes [] = tt
-sub-filtered test takes (x ∷ xs) =
-    let rest = sub-filtered test takes xs in
-    let left = filter test (filter takes xs) in
-    let all = filter test xs in
-    elim (takes x) as (λ (b : Bool). IsSublist (filter test (cond b (x ∷ filter takes xs) (filter takes xs))) (filter test (x ∷ xs))) [
-      | true ↦ elim (test x) as (λ (c : Bool). IsSublist (cond c (x ∷ left) left) (cond c (x ∷ all) all)) [ true ↦ inl (refl, rest) | false ↦ rest ]
-      | false ↦ elim (test x) as (λ (c : Bool). IsSublist left (cond c (x ∷ all) all)) [ true ↦ sub-behind left x all rest | false ↦ rest ]
-    ]
+-- those that pass a test, among those of a longer list
+sub-tested : {A : Type 0} (test : A → Bool) (xs ys : List A) → IsSublist xs ys → IsSublist (filter test xs) (filter test ys)
+sub-tested test [] ys is = tt
+sub-tested test (x ∷ xs) [] is = absurd is
+sub-tested test (x ∷ xs) (y ∷ ys) (inl here) =
+    let rest = sub-tested test xs ys here.1 in
+    subst (λ z. IsSublist (filter test (x ∷ xs)) (filter test (z ∷ ys))) here.0
+    (elim (test x) as (λ (b : Bool). IsSublist (cond b (x ∷ filter test xs) (filter test xs)) (cond b (x ∷ filter test ys) (filter test ys))) [ true ↦ inl (refl, rest) | false ↦ rest ])
+sub-tested test (x ∷ xs) (y ∷ ys) (inr later) =
+    let rest = sub-tested test (x ∷ xs) ys later in
+    elim (test y) as (λ (b : Bool). IsSublist (filter test (x ∷ xs)) (cond b (y ∷ filter test ys) (filter test ys))) [ true ↦ sub-behind (filter test (x ∷ xs)) y (filter test ys) rest | false ↦ rest ]
 
-sub-without : {A : Type 0} (test takes : A → Bool) (xs : List A) → IsSublist (filter test (without_first takes xs)) (filter test xs)
-sub-without test takes [] = tt
-sub-without test takes (x ∷ xs) =
-    let rest = sub-without test takes xs in
-    let left = filter test (without_first takes xs) in
-    let all = filter test xs in
-    elim (takes x) as (λ (b : Bool). IsSublist (filter test (cond b xs (x ∷ without_first takes xs))) (filter test (x ∷ xs))) [
-      | true ↦ elim (test x) as (λ (c : Bool). IsSublist all (cond c (x ∷ all) all)) [ true ↦ sub-behind all x all (sub-all all) | false ↦ sub-all all ]
-      | false ↦ elim (test x) as (λ (c : Bool). IsSublist (cond c (x ∷ left) left) (cond c (x ∷ all) all)) [ true ↦ inl (refl, rest) | false ↦ rest ]
-    ]
+sub-filter : {A : Type 0} (takes : A → Bool) (xs : List A) → IsSublist (filter takes xs) xs
+sub-filter takes [] = tt
+sub-filter takes (x ∷ xs) =
+    let left = filter takes xs in
+    elim (takes x) as (λ (b : Bool). IsSublist (cond b (x ∷ left) left) (x ∷ xs)) [ true ↦ inl (refl, sub-filter takes xs) | false ↦ sub-behind left x xs (sub-filter takes xs) ]
+
+sub-first : {A : Type 0} (takes : A → Bool) (xs : List A) → IsSublist (without_first takes xs) xs
+sub-first takes [] = tt
+sub-first takes (x ∷ xs) =
+    elim (takes x) as (λ (b : Bool). IsSublist (cond b xs (x ∷ without_first takes xs)) (x ∷ xs)) [ true ↦ sub-behind xs x xs (sub-all xs) | false ↦ inl (refl, sub-first takes xs) ]
 
 -- ---- the first of a queue, before those behind it
 
@@ -173,7 +173,7 @@ keeps-cancel : (e id : ℕ) (l : List Waiting) → Keeps e (by_cancel id l) l []
 keeps-cancel e id l =
     let left = filter (is_of e) (waiting_in (without_cancelled id l)) in
     let all = filter (is_of e) (waiting_in l) in
-    let fewer = subst (λ (ps : List Placed). IsSublist (filter (is_of e) ps) all) (sym (placed-cancelled id l)) (sub-without (is_of e) (is_cancelled id) (waiting_in l)) in
+    let fewer = subst (λ (ps : List Placed). IsSublist (filter (is_of e) ps) all) (sym (placed-cancelled id l)) (sub-tested (is_of e) _ _ (sub-first (is_cancelled id) (waiting_in l))) in
     subst (λ (ps : List Placed). IsSublist (filter (is_of e) ps ++ left) (all ++ [])) (sym (by-cancel-none (first_such (is_cancelled id) (waiting_in l))))
     (sub-more left all [] fewer)
 
@@ -190,7 +190,7 @@ sub-left e [] l = sub-all (filter (is_of e) (waiting_in l))
 sub-left e (c ∷ cs) l =
     let left = filter (stays_in c.0 c.1) l in
     let all = filter (is_of e) (waiting_in l) in
-    let fewer = subst (λ (ps : List Placed). IsSublist (filter (is_of e) ps) all) (sym (placed-left c.0 c.1 l)) (sub-filtered (is_of e) (is_left c.0 c.1) (waiting_in l)) in
+    let fewer = subst (λ (ps : List Placed). IsSublist (filter (is_of e) ps) all) (sym (placed-left c.0 c.1 l)) (sub-tested (is_of e) _ _ (sub-filter (is_left c.0 c.1) (waiting_in l))) in
     sub-of (filter (is_of e) (waiting_in (flushed_in cs left))) (filter (is_of e) (waiting_in left)) all (sub-left e cs left) fewer
 
 keeps-outcome : (e : ℕ) (cs : List (Route × EpTable)) (ep : ℕ) (l : List Waiting) (o : Option (ℕ × Outcome)) → Keeps e (by_outcome cs ep l o) l []

@@ -25,7 +25,7 @@ use Rattle.redir_host.specs.device.Facts.{facts_of}
 use Rattle.redir_host.specs.device.Offering.{offered_by}
 use Rattle.redir_host.specs.device.Performing.{done_by}
 use Rattle.redir_host.specs.guest.Asking.{asking_of}
-use Rattle.redir_host.specs.guest.Packets.{can_start, cancel_move, data_move, packet_move_by, plain_move, start_move}
+use Rattle.redir_host.specs.guest.Packets.{can_start, cancel_move, data_move, packet_move_by, start_move}
 use Rattle.redir_host.specs.state.Queues.{is_at, is_cancelled_by}
 use Rattle.redir_host.specs.state.Sound.{Each}
 use Rattle.redir_host.specs.guest.Line.{Placed}
@@ -107,7 +107,7 @@ start-known h id Iso ep false = (inr (inl refl), tt)
 start-known h id Interrupt ep true = (inr (inl refl), tt)
 start-known h id Interrupt ep false = (inr (inl refl), tt)
 
-plain-known : {S : Type 0} (m : Meaning S) (h : Host S) (id : ℕ) (p : RedirControl) → Each IsAnswered h.queue → IsAll (plain_move m h id p)
+plain-known : {S : Type 0} (m : Meaning S) (h : Host S) (id : ℕ) (p : RedirControl) → Each IsAnswered h.queue → IsAll (packet_move_by m h id (Plain p))
 plain-known m h id (plain.Hello x) answers = (inr (inr refl), (inr (inr refl), (inr (inr refl), tt)))
 plain-known m h id (plain.StartIso ep pkts_per_urb no_urbs) answers = start-known h id Iso ep (can_start (m.table h.gadget) Iso ep)
 plain-known m h id (plain.StopIso ep) answers = (inr (inl refl), tt)

@@ -64,20 +64,23 @@ kept-first x xs is = ap (λ (b : Bool). cond b (x ∷ filter is_answer xs) (filt
 
 -- ---- the lists
 
+-- what is so of no requests, and with one more in front of each list, is so of lists that go together
+zip-all : (P : List Request → List Placed → Type 0) → P [] [] → ((q : Request) (qs : List Request) (p : Placed) (ws : List Placed) → Same q p → AllZip Same qs ws → P qs ws → P (q ∷ qs) (p ∷ ws)) → (qs : List Request) (ws : List Placed) → AllZip Same qs ws → P qs ws
+zip-all P none more [] [] zip = none
+zip-all P none more [] (p ∷ ws) zip = absurd zip
+zip-all P none more (q ∷ qs) [] zip = absurd zip
+zip-all P none more (q ∷ qs) (p ∷ ws) zip = more q qs p ws zip.0 zip.1 (zip-all P none more qs ws zip.1)
+
 pub zip-append : (qs : List Request) (ws : List Placed) (q : Request) (p : Placed) → AllZip Same qs ws → Same q p → AllZip Same (qs ++ q ∷ []) (ws ++ p ∷ [])
-zip-append [] [] q p zip same = (same, tt)
-zip-append [] (w ∷ ws) q p zip same = absurd zip
-zip-append (r ∷ qs) [] q p zip same = absurd zip
-zip-append (r ∷ qs) (w ∷ ws) q p zip same = (zip.0, zip-append qs ws q p zip.1 same)
+zip-append qs ws q p zip same = zip-all (λ xs ys. AllZip Same (xs ++ q ∷ []) (ys ++ p ∷ [])) (same, tt) (λ r rs w ws here zip rest. (here, rest)) qs ws zip
 
 zip-marked : (qs : List Request) (ws : List Placed) → AllZip Same qs ws → AllZip Same (with_first_marked qs) ws
-zip-marked [] ws zip = zip
-zip-marked (q ∷ qs) [] zip = absurd zip
-zip-marked (q ∷ qs) (p ∷ ws) zip =
-    elim (is_first_queue q) as (λ (b : Bool). AllZip Same (cond b (record q { reset = true } ∷ qs) (q ∷ with_first_marked qs)) (p ∷ ws)) [
-      | true ↦ (record { id = zip.0.id; form = zip.0.form; ep = zip.0.ep; answers = zip.0.answers }, zip.1)
-      | false ↦ (zip.0, zip-marked qs ws zip.1)
-    ]
+zip-marked =
+    zip-all (λ qs ws. AllZip Same (with_first_marked qs) ws) tt
+    (λ q qs p ws same zip rest. elim (is_first_queue q) as (λ (b : Bool). AllZip Same (cond b (record q { reset = true } ∷ qs) (q ∷ with_first_marked qs)) (p ∷ ws)) [
+      | true ↦ (record { id = same.id; form = same.form; ep = same.ep; answers = same.answers }, zip)
+      | false ↦ (same, rest)
+    ])
 
 zip-left : (b : Bool) (qs : List Request) (ws : List Placed) → AllZip Same qs ws → AllZip Same (cond b (with_first_marked qs) qs) ws
 zip-left true qs ws zip = zip-marked qs ws zip
@@ -87,14 +90,13 @@ pub same-cancelled : (id : ℕ) (q : Request) (p : Placed) → Same q p → is_c
 same-cancelled id q p same = λ i. is_data (same.form i) && (same.id i == id)
 
 pub zip-cancelled : (id : ℕ) (qs : List Request) (ws : List Placed) → AllZip Same qs ws → AllZip Same (after_cancel id qs) (without_first (is_cancelled id) ws)
-zip-cancelled id [] [] zip = tt
-zip-cancelled id [] (p ∷ ws) zip = absurd zip
-zip-cancelled id (q ∷ qs) [] zip = absurd zip
-zip-cancelled id (q ∷ qs) (p ∷ ws) zip = by (zip-cancelled id qs ws zip.1) (is_cancelled_by id q) (same-cancelled id q p zip.0)
-  where
-    by : AllZip Same (after_cancel id qs) (without_first (is_cancelled id) ws) → (b : Bool) → b ≡ is_cancelled id p → AllZip Same (cond b (cond q.reset (with_first_marked qs) qs) (q ∷ after_cancel id qs)) (without_first (is_cancelled id) (p ∷ ws))
-    by rest true is = subst (λ (c : Bool). AllZip Same (cond q.reset (with_first_marked qs) qs) (cond c ws (p ∷ without_first (is_cancelled id) ws))) is (zip-left q.reset qs ws zip.1)
-    by rest false is = subst (λ (c : Bool). AllZip Same (q ∷ after_cancel id qs) (cond c ws (p ∷ without_first (is_cancelled id) ws))) is (zip.0, rest)
+zip-cancelled id =
+    zip-all (λ qs ws. AllZip Same (after_cancel id qs) (without_first (is_cancelled id) ws)) tt
+    (λ q qs p ws same zip rest. subst (λ (c : Bool). AllZip Same (after_cancel id (q ∷ qs)) (cond c ws (p ∷ without_first (is_cancelled id) ws))) (same-cancelled id q p same)
+    (elim (is_cancelled_by id q) as (λ (b : Bool). AllZip Same (cond b (cond q.reset (with_first_marked qs) qs) (q ∷ after_cancel id qs)) (cond b ws (p ∷ without_first (is_cancelled id) ws))) [
+      | true ↦ zip-left q.reset qs ws zip
+      | false ↦ (same, rest)
+    ]))
 
 -- tests that agree
 abbrev Agree : (Request → Bool) → (Placed → Bool) → Type 0
@@ -105,48 +107,31 @@ FirstOf None ps = ps ≡ []
 FirstOf (Some q) ps = (p : Placed) × ((ps ≡ p ∷ []) × Same q p)
 
 pub zip-first : (test : Request → Bool) (of : Placed → Bool) → Agree test of → (qs : List Request) (ws : List Placed) → AllZip Same qs ws → FirstOf (find test qs) (first_such of ws)
-zip-first test of agree [] [] zip = refl
-zip-first test of agree [] (p ∷ ws) zip = absurd zip
-zip-first test of agree (q ∷ qs) [] zip = absurd zip
-zip-first test of agree (q ∷ qs) (p ∷ ws) zip = by (zip-first test of agree qs ws zip.1) (test q) (agree q p zip.0)
-  where
-    by : FirstOf (find test qs) (first_such of ws) → (b : Bool) → b ≡ of p → FirstOf (cond b (Some q) (find test qs)) (first_such of (p ∷ ws))
-    by rest true is = (p, (sym (ap (λ (c : Bool). cond c (p ∷ []) (first_such of ws)) is), zip.0))
-    by rest false is = subst (λ (c : Bool). FirstOf (find test qs) (cond c (p ∷ []) (first_such of ws))) is rest
+zip-first test of agree =
+    zip-all (λ qs ws. FirstOf (find test qs) (first_such of ws)) refl
+    (λ q qs p ws same zip rest. subst (λ (c : Bool). FirstOf (find test (q ∷ qs)) (cond c (p ∷ []) (first_such of ws))) (agree q p same)
+    (elim (test q) as (λ (b : Bool). FirstOf (cond b (Some q) (find test qs)) (cond b (p ∷ []) (first_such of ws))) [ true ↦ (p, (refl, same)) | false ↦ rest ]))
 
 pub zip-without : (test : Request → Bool) (of : Placed → Bool) → Agree test of → (qs : List Request) (ws : List Placed) → AllZip Same qs ws → AllZip Same (without_first test qs) (without_first of ws)
-zip-without test of agree [] [] zip = tt
-zip-without test of agree [] (p ∷ ws) zip = absurd zip
-zip-without test of agree (q ∷ qs) [] zip = absurd zip
-zip-without test of agree (q ∷ qs) (p ∷ ws) zip = by (zip-without test of agree qs ws zip.1) (test q) (agree q p zip.0)
-  where
-    by : AllZip Same (without_first test qs) (without_first of ws) → (b : Bool) → b ≡ of p → AllZip Same (cond b qs (q ∷ without_first test qs)) (without_first of (p ∷ ws))
-    by rest true is = subst (λ (c : Bool). AllZip Same qs (cond c ws (p ∷ without_first of ws))) is zip.1
-    by rest false is = subst (λ (c : Bool). AllZip Same (q ∷ without_first test qs) (cond c ws (p ∷ without_first of ws))) is (zip.0, rest)
+zip-without test of agree =
+    zip-all (λ qs ws. AllZip Same (without_first test qs) (without_first of ws)) tt
+    (λ q qs p ws same zip rest. subst (λ (c : Bool). AllZip Same (without_first test (q ∷ qs)) (cond c ws (p ∷ without_first of ws))) (agree q p same)
+    (elim (test q) as (λ (b : Bool). AllZip Same (cond b qs (q ∷ without_first test qs)) (cond b ws (p ∷ without_first of ws))) [ true ↦ zip | false ↦ (same, rest) ]))
 
 pub zip-filtered : (test : Request → Bool) (of : Placed → Bool) → Agree test of → (qs : List Request) (ws : List Placed) → AllZip Same qs ws → AllZip Same (filter test qs) (filter of ws)
-zip-filtered test of agree [] [] zip = tt
-zip-filtered test of agree [] (p ∷ ws) zip = absurd zip
-zip-filtered test of agree (q ∷ qs) [] zip = absurd zip
-zip-filtered test of agree (q ∷ qs) (p ∷ ws) zip = by (zip-filtered test of agree qs ws zip.1) (test q) (agree q p zip.0)
-  where
-    by : AllZip Same (filter test qs) (filter of ws) → (b : Bool) → b ≡ of p → AllZip Same (cond b (q ∷ filter test qs) (filter test qs)) (filter of (p ∷ ws))
-    by rest true is = subst (λ (c : Bool). AllZip Same (q ∷ filter test qs) (cond c (p ∷ filter of ws) (filter of ws))) is (zip.0, rest)
-    by rest false is = subst (λ (c : Bool). AllZip Same (filter test qs) (cond c (p ∷ filter of ws) (filter of ws))) is rest
+zip-filtered test of agree =
+    zip-all (λ qs ws. AllZip Same (filter test qs) (filter of ws)) tt
+    (λ q qs p ws same zip rest. subst (λ (c : Bool). AllZip Same (filter test (q ∷ qs)) (cond c (p ∷ filter of ws) (filter of ws))) (agree q p same)
+    (elim (test q) as (λ (b : Bool). AllZip Same (cond b (q ∷ filter test qs) (filter test qs)) (cond b (p ∷ filter of ws) (filter of ws))) [ true ↦ (same, rest) | false ↦ rest ]))
 
 pub zip-flushed : (qs : List Request) (ws : List Placed) → AllZip Same qs ws → filter is_answer (map cancelled qs) ≡ map answer_of (map (ends ByChange) ws)
-zip-flushed [] [] zip = refl
-zip-flushed [] (p ∷ ws) zip = absurd zip
-zip-flushed (q ∷ qs) [] zip = absurd zip
-zip-flushed (q ∷ qs) (p ∷ ws) zip =
-    kept-first (cancelled q) (map cancelled qs) (queue-answers q p zip.0 q.id 0 (ended status.Cancelled))
-    ∙ (λ i. same-answer q p zip.0 0 (ended status.Cancelled) i ∷ zip-flushed qs ws zip.1 i)
+zip-flushed =
+    zip-all (λ qs ws. filter is_answer (map cancelled qs) ≡ map answer_of (map (ends ByChange) ws)) refl
+    (λ q qs p ws same zip rest. kept-first (cancelled q) (map cancelled qs) (queue-answers q p same q.id 0 (ended status.Cancelled))
+    ∙ (λ i. same-answer q p same 0 (ended status.Cancelled) i ∷ rest i))
 
 pub zip-told : (qs : List Request) (ws : List Placed) → AllZip Same qs ws → map told_request qs ≡ map told_placed ws
-zip-told [] [] zip = refl
-zip-told [] (p ∷ ws) zip = absurd zip
-zip-told (q ∷ qs) [] zip = absurd zip
-zip-told (q ∷ qs) (p ∷ ws) zip = λ i. (zip.0.id i, zip.0.form i, zip.0.ep i) ∷ zip-told qs ws zip.1 i
+zip-told = zip-all (λ qs ws. map told_request qs ≡ map told_placed ws) refl (λ q qs p ws same zip rest. λ i. (same.id i, same.form i, same.ep i) ∷ rest i)
 
 pub same-at : (ep : ℕ) → Agree (is_at ep) (is_of ep)
 same-at ep q p same = λ i. queue_of (same.ep i) == queue_of ep

@@ -32,7 +32,7 @@ use Rattle.redir_host.specs.device.Offering.{offered_on, offered_by}
 use Rattle.redir_host.specs.device.Performing.{first_performed, perform_move_by}
 use Rattle.redir_host.specs.guest.Asking.{asking, asking_of, asking_plain, asked_if, greatest, is_other}
 use Rattle.redir_host.specs.guest.Line.{Placed, Waiting, Reset, Waits, placed, asked_line, waiting_in, without_cancelled}
-use Rattle.redir_host.specs.guest.Packets.{can_start, cancel_move, data_move, packet_move_by, plain_move, runs_at, queued, start_move, stop_move, stopped}
+use Rattle.redir_host.specs.guest.Packets.{can_start, cancel_move, data_move, packet_move_by, queued, runs_at, start_move, stop_move, stopped}
 use Rattle.redir_host.specs.state.Queues.{after_cancel, is_at, is_cancelled_by, is_first_queue, leaves_mark}
 use Rattle.redir_host.specs.step.Answered.{ByCancel, packets, request_in, ends, stays, joins, at_once, first_such, is_answer, is_cancelled, answer_of, answers_sent, by_cancel, by_plain, by_packet, by_perform, becomes, is_gone, line, waiting, answered, told_request, told_placed}
 use Rattle.redir_host.specs.step.Items.{Item, Asked, Wrong, Performs, Offers, Unplugs}
@@ -143,7 +143,7 @@ start-gives h l id k ep false into is = record {
 stop-tied : {S : Type 0} {out : Bool} (h : Host S) (l : List Waiting) (id : ℕ) (k : StreamKind) (ep : ℕ) → Tied h out l → Tied (stop_move h id k ep).host out l
 stop-tied h l id k ep is = record { queue = is.queue; running = each_filtered IsIn (λ s. not (runs_at ep s)) h.running is.running; gone = is.gone; in_line = record { queue = is.in_line.queue; reset = is.in_line.reset } }
 
-plain-gives : {S : Type 0} {out : Bool} (m : Meaning S) (h : Host S) (l : List Waiting) (place id : ℕ) (p : RedirControl) → Tied h out l → Gives out (plain_move m h id p) (by_plain place id p l)
+plain-gives : {S : Type 0} {out : Bool} (m : Meaning S) (h : Host S) (l : List Waiting) (place id : ℕ) (p : RedirControl) → Tied h out l → Gives out (packet_move_by m h id (Plain p)) (by_plain place id p l)
 plain-gives m h l place id (plain.SetConfiguration configuration) is = asked-gives h l place id (asking_plain (plain.SetConfiguration configuration)) (plain-answers (plain.SetConfiguration configuration)) is
 plain-gives m h l place id plain.GetConfiguration is = asked-gives h l place id (asking_plain plain.GetConfiguration) (plain-answers plain.GetConfiguration) is
 plain-gives m h l place id (plain.SetAlt interface alt) is = asked-gives h l place id (asking_plain (plain.SetAlt interface alt)) (plain-answers (plain.SetAlt interface alt)) is

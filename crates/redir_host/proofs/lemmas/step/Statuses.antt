@@ -29,7 +29,7 @@ use Rattle.redir_host.specs.device.Facts.{facts_of}
 use Rattle.redir_host.specs.device.Offering.{offered_by}
 use Rattle.redir_host.specs.device.Performing.{done_by}
 use Rattle.redir_host.specs.guest.Asking.{asking_of}
-use Rattle.redir_host.specs.guest.Packets.{can_start, cancel_move, data_move, packet_move_by, plain_move, start_move}
+use Rattle.redir_host.specs.guest.Packets.{can_start, cancel_move, data_move, packet_move_by, start_move}
 use Rattle.redir_host.specs.state.Queues.{is_cancelled_by}
 use Rattle.redir_host.specs.step.Answered.{is_gone, is_status, ids_of, statuses_sent, stream_id, stream_id_in, stream_ids}
 use Rattle.redir_host.specs.step.Items.{Item, Asked, Wrong, Performs, Offers, Unplugs}
@@ -113,7 +113,7 @@ start-one h id Iso ep false = refl
 start-one h id Interrupt ep true = refl
 start-one h id Interrupt ep false = refl
 
-plain-statuses : {S : Type 0} (m : Meaning S) (h : Host S) (id : ℕ) (p : RedirControl) → statuses_of (plain_move m h id p) ≡ stream_id_in id p
+plain-statuses : {S : Type 0} (m : Meaning S) (h : Host S) (id : ℕ) (p : RedirControl) → statuses_of (packet_move_by m h id (Plain p)) ≡ stream_id_in id p
 plain-statuses m h id (plain.StartIso ep pkts_per_urb no_urbs) = start-one h id Iso ep (can_start (m.table h.gadget) Iso ep)
 plain-statuses m h id (plain.StartInterrupt ep) = start-one h id Interrupt ep (can_start (m.table h.gadget) Interrupt ep)
 plain-statuses m h id plain.Cancel = ap ids_of (cancel-none h id (find (is_cancelled_by id) h.queue))

@@ -38,7 +38,7 @@ use Rattle.redir_host.specs.guest.Asking.{greatest, is_other, asked_if, asking_o
 use Rattle.redir_host.specs.device.Facts.{connect_of, facts_of}
 use Rattle.redir_host.specs.step.Makes.{IsTaken}
 use Rattle.redir_host.specs.step.Moves.{Move, quiet}
-use Rattle.redir_host.specs.guest.Packets.{can_start, cancel_move, data_move, greets, packet_move, plain_move, start_move, status_of}
+use Rattle.redir_host.specs.guest.Packets.{can_start, cancel_move, data_move, greets, packet_move, packet_move_by, start_move, status_of}
 use Rattle.redir_host.specs.state.Queues.{is_cancelled_by}
 use Rattle.redir_host.specs.write.Readable.{AreRead, InRange, TakesInRange, Unless}
 use Rattle.redir_host.specs.state.Sound.{Each, FormFits, IsRequest, IsSound}
@@ -83,7 +83,7 @@ data-read h id (moving.Iso ep status told body) fits is = tt
 data-read h id (moving.Interrupt ep status told body) fits is = interrupt-read h id (is_other ep) (is_in_endpoint ep) (record { ep = ep; setup = None; wanted = told; body = body }) fits
 
 -- of one that is no hello
-plain-read : {S : Type 0} (m : Meaning S) (h : Host S) (id : ℕ) (c : RedirControl) → is_hello c ≡ false → IsSound h → IdFits (is_wide false h.guest.caps) id → Reads h (plain_move m h id c)
+plain-read : {S : Type 0} (m : Meaning S) (h : Host S) (id : ℕ) (c : RedirControl) → is_hello c ≡ false → IsSound h → IdFits (is_wide false h.guest.caps) id → Reads h (packet_move_by m h id (Plain c))
 plain-read m h id (plain.Hello x) other sound fits = absurd (true≢false other)
 plain-read m h id (plain.StartIso ep pkts_per_urb no_urbs) other sound fits = start-read h id Iso ep (can_start (m.table h.gadget) Iso ep) fits
 plain-read m h id (plain.StopIso ep) other sound fits = (status-read h.guest.caps id Iso 0 ep fits, tt)
@@ -122,11 +122,11 @@ hello-read {S = S} m lawful h g xs first greeted before b fit = subst (λ (l : L
 
 -- a later one
 later-read : {S : Type 0} (m : Meaning S) (h : Host S) (header : Header) (c : RedirControl) (number : ℕ) (xs : List (ℕ × RedirPacket)) → IsSound h → IsTaken h.guest header (Plain c) → header.kind ≡ number → (number == 0) ≡ false → is_hello c ≡ false → AreRead h.guest xs →
-    AreRead h.guest (xs ++ (cond h.unplugged (quiet h) (plain_move m h header.id c)).sent)
+    AreRead h.guest (xs ++ (cond h.unplugged (quiet h) (packet_move_by m h header.id (Plain c))).sent)
 later-read m h header c number xs sound is kind other same before =
     let greeted = later h.guest.first header.kind number (header_says is.header).in_turn kind other in
-    read-more h.guest xs (cond h.unplugged (quiet h) (plain_move m h header.id c)).sent before
-    (read-all h (plain_move m h header.id c) h.unplugged greeted (plain-read m h header.id c same sound (subst (λ (b : Bool). IdFits (is_wide b h.guest.caps) header.id) greeted is.header.id_fits)))
+    read-more h.guest xs (cond h.unplugged (quiet h) (packet_move_by m h header.id (Plain c))).sent before
+    (read-all h (packet_move_by m h header.id (Plain c)) h.unplugged greeted (plain-read m h header.id c same sound (subst (λ (b : Bool). IdFits (is_wide b h.guest.caps) header.id) greeted is.header.id_fits)))
 
 pub packet-read : {S : Type 0} (m : Meaning S) → IsGadget m → (h : Host S) (header : Header) (p : RedirPacket) (xs : List (ℕ × RedirPacket)) → IsSound h → IsTaken h.guest header p → TakesInRange m h p → AreRead h.guest xs →
     AreRead (advanced h.guest p) (xs ++ (packet_move m h header.id p).sent)

@@ -11,8 +11,7 @@ use Rattle.redir_host.specs.step.Makes.{Performs, Tells}
 use Rattle.std.proofs.lemmas.Result.{IfOk-weaker, on_err_weaker}
 use Rattle.redir_host.specs.declared.request.Request.{Request}
 use Rattle.redir_host.specs.state.Queues.{is_at}
-use Rattle.redir_host.specs.state.Sound.{IsRequest}
-use Rattle.redir_host.proofs.lemmas.state.Each.{each_found}
+use Rattle.redir_host.proofs.lemmas.state.Sound.{sound-first}
 use Rattle.redir_host.proofs.lemmas.step.Makes.{first_done, first_none, on_ok_from}
 use Rattle.redir_host.proofs.lemmas.step.Wanted.{marked-some, on_err_from, unmarked-some}
 use Rattle.redir_host.proofs.host.Host.perform.Goals as goal
@@ -49,7 +48,7 @@ pub returns-then-request-clause-wants : goal.returns-then-request-clause-wants
 returns-then-request-clause-wants g c =
     let h = c.args.self.now in
     let here = sym c.in-Some.ensures in
-    let is = (each_found (IsRequest h.guest) (is_at c.args.ep) h.queue c.in-Some.request.now c.requires.requests here).0 in
+    let is = sound-first h c.args.ep c.in-Some.request.now c.requires here in
     on_err_from c.perform_marked.result _ (marked-some g.G.Gadget.meaning g.met.G.Gadget.lawful h c.args.ep c.in-Some.request.now c.if-self.false here c.if-request.true is)
 
 pub returns-else-request-clause-wants : goal.returns-else-request-clause-wants

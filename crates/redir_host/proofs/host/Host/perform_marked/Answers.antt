@@ -7,9 +7,7 @@ use Rattle.redir_host.specs.device.Performing.{performs_marked, with_id}
 use Rattle.redir_host.specs.device.Resets.{PerformsNow}
 use Rattle.usb_base.specs.Firsts.{without_first}
 use Rattle.redir_host.specs.state.Queues.{is_at}
-use Rattle.redir_host.specs.state.Sound.{IsRequest}
-use Rattle.redir_host.proofs.lemmas.state.Each.{each_found}
-use Rattle.redir_host.proofs.lemmas.state.Sound.{sound-without}
+use Rattle.redir_host.proofs.lemmas.state.Sound.{sound-first, sound-without}
 use Rattle.redir_host.proofs.lemmas.step.Makes.{performs_now, some_same}
 use Rattle.redir_host.proofs.host.Host.perform_marked.Goals as goal
 
@@ -17,9 +15,7 @@ pub perform_reset-requires-clause-sound : goal.perform_reset-requires-clause-sou
 perform_reset-requires-clause-sound g c = sound-without c.args.self.now c.args.ep _ _ c.requires.sound c.remove_first-request.ensures.rest
 
 pub perform_reset-requires-clause-request : goal.perform_reset-requires-clause-request
-perform_reset-requires-clause-request g c =
-    let h = c.args.self.now in
-    (each_found (IsRequest h.guest) (is_at c.args.ep) h.queue c.remove_first-request.result c.requires.sound.requests c.remove_first-request.ensures.request).0
+perform_reset-requires-clause-request g c = sound-first c.args.self.now c.args.ep c.remove_first-request.result c.requires.sound c.remove_first-request.ensures.request
 
 pub returns-clause-ok : goal.returns-clause-ok
 returns-clause-ok g c q is =

@@ -8,24 +8,18 @@ use Rattle.redir_host.specs.step.Makes.{Performs, Tells}
 use Rattle.redir_host.specs.device.Performing.{done_by, performs, with_id}
 use Rattle.usb_base.specs.Firsts.{without_first}
 use Rattle.redir_host.specs.state.Queues.{is_at}
-use Rattle.redir_host.specs.state.Sound.{IsRequest}
-use Rattle.redir_host.proofs.lemmas.state.Each.{each_found}
-use Rattle.redir_host.proofs.lemmas.state.Sound.{sound-without}
+use Rattle.redir_host.proofs.lemmas.state.Sound.{sound-first, sound-without}
 use Rattle.redir_host.proofs.lemmas.step.Makes.{lent_is, outcome_is, performed_is, performs_done, performs_none, not_ready, some_same}
 use Rattle.redir_host.proofs.host.Host.perform_unmarked.Goals as goal
 
 pub perform-requires : goal.perform-requires
-perform-requires g c =
-    let h = c.args.self.now in
-    (each_found (IsRequest h.guest) (is_at c.args.ep) h.queue c.unwrap.result.now c.requires.sound.requests (sym c.first.ensures ∙ ap option_copied c.unwrap.ensures)).0.transfer
+perform-requires g c = (sound-first c.args.self.now c.args.ep c.unwrap.result.now c.requires.sound (sym c.first.ensures ∙ ap option_copied c.unwrap.ensures)).transfer
 
 pub finish-requires-clause-sound : goal.finish-requires-clause-sound
 finish-requires-clause-sound g c = sound-without c.args.self.now c.args.ep _ _ c.requires.sound c.remove_first-request.ensures.rest
 
 pub finish-requires-clause-request : goal.finish-requires-clause-request
-finish-requires-clause-request g c =
-    let h = c.args.self.now in
-    (each_found (IsRequest h.guest) (is_at c.args.ep) h.queue c.remove_first-request.result c.requires.sound.requests c.remove_first-request.ensures.request).0
+finish-requires-clause-request g c = sound-first c.args.self.now c.args.ep c.remove_first-request.result c.requires.sound c.remove_first-request.ensures.request
 
 pub finish-requires-clause-outcome : goal.finish-requires-clause-outcome
 finish-requires-clause-outcome g c =
@@ -33,7 +27,7 @@ finish-requires-clause-outcome g c =
     let q = c.remove_first-request.result in
     let m = g.G.Gadget.meaning in
     let read = lent_is c.first.result c.unwrap.result q (find (is_at c.args.ep) h.queue) c.first.ensures c.unwrap.ensures c.remove_first-request.ensures.request in
-    let is = (each_found (IsRequest h.guest) (is_at c.args.ep) h.queue q c.requires.sound.requests c.remove_first-request.ensures.request).0 in
+    let is = sound-first h c.args.ep q c.requires.sound c.remove_first-request.ensures.request in
     outcome_is m g.met.G.Gadget.lawful h.gadget q.transfer c.in-Some.outcome is.transfer
     (sym c.in-Some.is ∙ c.in_ok-outcome.ensures.outcome ∙ ap (λ (r : Request). given_in (m.perform h.gadget r.transfer)) read)
 
