@@ -232,17 +232,17 @@ module _ {keys : List ℕ} {lives : List Live} {index : Index} (s : IsIndexed ke
         changes = s.changes ∙ sym (count_changed changes lives i x y is (rw kind refl));
       }
 
-  pub number_room : length index.numbers.items ≤ length lives
+  pub number_room : length index.numbers ≤ length lives
   number_room = let a = order_short s.numbers in let b = zip_short keys lives s.long in omega (arith, a, b)
 
-  pub held_room : length index.held.items ≤ length lives
+  pub held_room : length index.held ≤ length lives
   held_room = let a = order_short s.held in let b = zip_short keys lives s.long in omega (arith, a, b)
 
   pub changes_few : index.changes ≤ length lives
   changes_few = let a = s.changes in let b = count_by-le-length changes lives in omega (arith, a, b)
 
   -- the parts are written out, so that the callers' clauses fit
-  pub index_pushed : (index' : Index) (k : ℕ) (x : Live) → IsOrderOf Number (zip keys lives ++ (k, x) ∷ []) index'.numbers.items → IsOrderOf Id (zip keys lives ++ (k, x) ∷ []) index'.held.items → index'.changes ≡ index.changes + cond (changes x) 1 0 → IsIndexed (keys ++ k ∷ []) (lives ++ x ∷ []) index'
+  pub index_pushed : (index' : Index) (k : ℕ) (x : Live) → IsOrderOf Number (zip keys lives ++ (k, x) ∷ []) index'.numbers → IsOrderOf Id (zip keys lives ++ (k, x) ∷ []) index'.held → index'.changes ≡ index.changes + cond (changes x) 1 0 → IsIndexed (keys ++ k ∷ []) (lives ++ x ∷ []) index'
   index_pushed index' k x numbers held more =
       let whole = zip_pushed keys lives k x s.long in
       record {
@@ -257,7 +257,7 @@ module _ {keys : List ℕ} {lives : List Live} {index : Index} (s : IsIndexed ke
     pub change_counted : cond (changes x) 1 0 ≤ index.changes
     change_counted = omega (arith, s.changes, count_removed changes lives i x live)
 
-    pub index_removed : (index' : Index) → IsOrderOf Number (remove (zip keys lives) i) index'.numbers.items → IsOrderOf Id (remove (zip keys lives) i) index'.held.items → index'.changes + cond (changes x) 1 0 ≡ index.changes → IsIndexed (remove keys i) (remove lives i) index'
+    pub index_removed : (index' : Index) → IsOrderOf Number (remove (zip keys lives) i) index'.numbers → IsOrderOf Id (remove (zip keys lives) i) index'.held → index'.changes + cond (changes x) 1 0 ≡ index.changes → IsIndexed (remove keys i) (remove lives i) index'
     index_removed index' numbers held less =
         let left = zip_removed keys lives i in
         record {

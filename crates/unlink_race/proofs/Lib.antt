@@ -10,6 +10,7 @@ pub mod Ids
 pub mod Indexes
 pub mod Lanes
 pub mod Leading
+pub mod Moves
 pub mod Ordered
 pub mod Passing
 pub mod Placing

@@ -6,14 +6,13 @@ ghost use Rattle.std.specs.List.{find, position};
 ghost use Rattle.std.specs.List.Sorted.{IsNonDecreasingBy};
 ghost use Rattle.std.specs.Option.{option_cmp};
 ghost use Rattle.std.specs.Ordering.{nat_cmp};
-ghost use Rattle.arrayvec.specs.ArrayVec.{array_vec_len};
 ghost use Rattle.urb_arena.specs.Lanes.{find_in};
 ghost use Rattle.unlink_race.specs.declared.live.Live.{Live};
 ghost use Rattle.unlink_race.specs.Inner.Listed.{Distinct};
 ghost use Rattle.unlink_race.specs.Inner.Indexed.{number_by, any_by, found_by, number_at, Before, Behind, Reads, Stand, IsOrderOf};
 
+use crate::keys::Keys;
 use crate::live::Live;
-use arrayvec::ArrayVec;
 use std::cmp::Ordering;
 use urb_arena::{Arena, Key};
 use usbip_urb::MAX_LIVE;
@@ -95,30 +94,18 @@ pub fn first(arena: &Arena<(u64, Live)>, keys: &[Key], by: By, number: u64) -> O
 }
 
 /// Puts the key of a request behind those that have its number.
-pub fn put(
-    arena: &Arena<(u64, Live)>,
-    keys: &mut ArrayVec<Key, MAX_LIVE>,
-    by: By,
-    key: Key,
-    live: &Live,
-)
-    requires { array_vec_len keys.old < MAX_LIVE }
-    ensures { (requests : List (ℕ × Live)) → Stand arena.now.lanes requests → IsOrderOf by requests keys.old.items → any_by by live.now ≡ true → IsOrderOf by (requests ++ (key, live.now) ∷ []) keys.new.items }
+pub fn put(arena: &Arena<(u64, Live)>, keys: &mut Keys, by: By, key: Key, live: &Live)
+    requires { length keys.old < MAX_LIVE }
+    ensures { (requests : List (ℕ × Live)) → Stand arena.now.lanes requests → IsOrderOf by requests keys.old → any_by by live.now ≡ true → IsOrderOf by (requests ++ (key, live.now) ∷ []) keys.new }
 {
     let place = place_behind(arena, keys, by, by.of(live));
     keys.insert(place, key);
 }
 
 /// Takes the key of a request out.
-pub fn take(
-    arena: &Arena<(u64, Live)>,
-    keys: &mut ArrayVec<Key, MAX_LIVE>,
-    by: By,
-    key: Key,
-    live: &Live,
-)
-    requires { (requests : List (ℕ × Live)) × (place : ℕ) × Stand arena.now.lanes requests × IsOrderOf by requests keys.old.items × (any_by by live.now ≡ true) × (slice_get requests place ≡ Some (key, live.now)) }
-    ensures { (requests : List (ℕ × Live)) (place : ℕ) → Stand arena.now.lanes requests → IsOrderOf by requests keys.old.items → any_by by live.now ≡ true → slice_get requests place ≡ Some (key, live.now) → Distinct (λ (r : ℕ × Live). r.0) requests → IsOrderOf by (remove requests place) keys.new.items }
+pub fn take(arena: &Arena<(u64, Live)>, keys: &mut Keys, by: By, key: Key, live: &Live)
+    requires { (requests : List (ℕ × Live)) × (place : ℕ) × Stand arena.now.lanes requests × IsOrderOf by requests keys.old × (any_by by live.now ≡ true) × (slice_get requests place ≡ Some (key, live.now)) }
+    ensures { (requests : List (ℕ × Live)) (place : ℕ) → Stand arena.now.lanes requests → IsOrderOf by requests keys.old → any_by by live.now ≡ true → slice_get requests place ≡ Some (key, live.now) → Distinct (λ (r : ℕ × Live). r.0) requests → IsOrderOf by (remove requests place) keys.new }
 {
     let first = place_before(arena, keys, by, by.of(live));
     let behind = place_of(&keys[first..], key);

@@ -8,8 +8,8 @@ ghost use Rattle.unlink_race.specs.Inner.Listed.{Distinct};
 ghost use Rattle.unlink_race.specs.Inner.Indexed.{Stand, IsIndexed, IsOrderOf, found_by};
 
 use crate::by_number::{By, first, put, take};
+use crate::keys::Keys;
 use crate::live::Live;
-use arrayvec::ArrayVec;
 use urb_arena::{Arena, Key};
 use usbip_urb::MAX_LIVE;
 
@@ -18,24 +18,24 @@ use usbip_urb::MAX_LIVE;
 /// nothing. What it needs of a request it reads in the arena.
 #[derive(Drop)]
 pub struct Index {
-    numbers: ArrayVec<Key, MAX_LIVE>,
+    numbers: Keys,
     // of the wire and route requests
-    held: ArrayVec<Key, MAX_LIVE>,
+    held: Keys,
     changes: usize,
 }
 
-fn put_id(arena: &Arena<(u64, Live)>, held: &mut ArrayVec<Key, MAX_LIVE>, key: Key, live: &Live)
-    requires { length held.old.items < MAX_LIVE }
-    ensures { (requests : List (ℕ × Live)) → Stand arena.now.lanes requests → IsOrderOf By.Id requests held.old.items → IsOrderOf By.Id (requests ++ (key, live.now) ∷ []) held.new.items }
+fn put_id(arena: &Arena<(u64, Live)>, held: &mut Keys, key: Key, live: &Live)
+    requires { length held.old < MAX_LIVE }
+    ensures { (requests : List (ℕ × Live)) → Stand arena.now.lanes requests → IsOrderOf By.Id requests held.old → IsOrderOf By.Id (requests ++ (key, live.now) ∷ []) held.new }
 {
     if !live.kind.is_stream() {
         put(arena, held, By::Id, key, live);
     }
 }
 
-fn take_id(arena: &Arena<(u64, Live)>, held: &mut ArrayVec<Key, MAX_LIVE>, key: Key, live: &Live)
-    requires { (requests : List (ℕ × Live)) × (place : ℕ) × Stand arena.now.lanes requests × IsOrderOf By.Id requests held.old.items × (slice_get requests place ≡ Some (key, live.now)) }
-    ensures { (requests : List (ℕ × Live)) (place : ℕ) → Stand arena.now.lanes requests → IsOrderOf By.Id requests held.old.items → slice_get requests place ≡ Some (key, live.now) → Distinct (λ (r : ℕ × Live). r.0) requests → IsOrderOf By.Id (remove requests place) held.new.items }
+fn take_id(arena: &Arena<(u64, Live)>, held: &mut Keys, key: Key, live: &Live)
+    requires { (requests : List (ℕ × Live)) × (place : ℕ) × Stand arena.now.lanes requests × IsOrderOf By.Id requests held.old × (slice_get requests place ≡ Some (key, live.now)) }
+    ensures { (requests : List (ℕ × Live)) (place : ℕ) → Stand arena.now.lanes requests → IsOrderOf By.Id requests held.old → slice_get requests place ≡ Some (key, live.now) → Distinct (λ (r : ℕ × Live). r.0) requests → IsOrderOf By.Id (remove requests place) held.new }
 {
     if !live.kind.is_stream() {
         take(arena, held, By::Id, key, live);
@@ -54,8 +54,8 @@ impl Index {
         ensures { IsIndexed [] [] result }
     {
         Index {
-            numbers: ArrayVec::new(),
-            held: ArrayVec::new(),
+            numbers: Keys::new(),
+            held: Keys::new(),
             changes: 0,
         }
     }

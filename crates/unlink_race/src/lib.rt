@@ -5,6 +5,7 @@
 mod by_number;
 mod ending;
 mod index;
+mod keys;
 mod live;
 mod lives;
 mod numbered;

@@ -15,10 +15,10 @@ ghost use Rattle.unlink_race.specs.Searches.{has_number, has_id, waits_for, touc
 
 use crate::by_number::By;
 use crate::index::Index;
+use crate::keys::Keys;
 use crate::live::{Live, StreamEnd};
 use crate::numbered::{mark, renumber};
 use crate::search::{earliest_in_lane, earliest_of_all, first_of_all, nth_in_lane, number_of};
-use arrayvec::ArrayVec;
 use control_route::Route;
 use std::marker::Model;
 use urb_arena::{Arena, Key};
@@ -37,7 +37,7 @@ pub struct Table {
     // above all numbers
     next: u64,
     // in order of acceptance
-    keys: ArrayVec<Key, MAX_LIVE>,
+    keys: Keys,
     index: Index,
 }
 
@@ -49,9 +49,9 @@ impl Model for Table {
 
     ghost Value = { List Live };
 
-    ghost view = { λ t. lives_of t.arena t.keys.items };
+    ghost view = { λ t. lives_of t.arena t.keys };
 
-    ghost invariant = { λ t. IsSound t.arena t.keys.items × IsIndexed t.keys.items (lives_of t.arena t.keys.items) t.index × Rises 0 (numbers_of t.arena t.keys.items) t.next };
+    ghost invariant = { λ t. IsSound t.arena t.keys × IsIndexed t.keys (lives_of t.arena t.keys) t.index × Rises 0 (numbers_of t.arena t.keys) t.next };
 }
 
 // The place of the key whose request has this number: the numbers rise with the keys.
@@ -99,7 +99,7 @@ impl Table {
         Table {
             arena,
             next: 0,
-            keys: ArrayVec::new(),
+            keys: Keys::new(),
             index: Index::new(),
         }
     }

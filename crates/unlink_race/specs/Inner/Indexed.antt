@@ -69,6 +69,6 @@ pub record IsOrderOf (by : By) (requests : List (ℕ × Live)) (keys : List ℕ)
 -- by the submits' numbers, and by the ids of wire and route requests
 pub record IsIndexed (keys : List ℕ) (lives : List Live) (index : Index) : Type 0 where
   pub long : length keys ≡ length lives
-  pub numbers : IsOrderOf Number (zip keys lives) index.numbers.items
-  pub held : IsOrderOf Id (zip keys lives) index.held.items
+  pub numbers : IsOrderOf Number (zip keys lives) index.numbers
+  pub held : IsOrderOf Id (zip keys lives) index.held
   pub changes : index.changes ≡ count_by changes lives

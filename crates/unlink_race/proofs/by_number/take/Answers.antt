@@ -1,4 +1,4 @@
-use Rattle.std.proofs.Common.{◌==◌, drop, length, ap, sym, ◌∙◌, arith, lit<}
+use Rattle.std.proofs.Common.{◌==◌, drop, length, ap, sym, ◌∙◌, arith}
 use Rattle.std.specs.List.{position}
 use Rattle.unlink_race.proofs.Ordered.{from_place}
 use Rattle.unlink_race.proofs.Reading.{key_there, place_in, order_left}
@@ -6,16 +6,16 @@ use Rattle.unlink_race.proofs.by_number.take.Goals as goal
 
 pub unwrap-requires : goal.unwrap-requires
 unwrap-requires c =
-    let from = from_place c.deref-2.result.now c.place_before-first.result ∙ ap (λ ks. drop c.place_before-first.result ks) c.deref-2.ensures.0 in
-    rw (c.place_of-behind.ensures, from) (key_there c.requires.3 c.args.arena.now.lanes c.requires.2 c.requires.1 c.args.key c.args.live.now c.requires.5 c.requires.4 c.place_before-first.result c.of.result c.of.ensures (omega (arith, c.place_before-first.ensures.bound, ap length c.deref.ensures.0)) (λ pairs keys. c.place_before-first.ensures.parted pairs (c.deref.ensures.0 ∙ keys)))
+    let from = from_place c.deref-2.result.now c.place_before-first.result ∙ ap (λ ks. drop c.place_before-first.result ks) c.deref-2.ensures in
+    rw (c.place_of-behind.ensures, from) (key_there c.requires.3 c.args.arena.now.lanes c.requires.2 c.requires.1 c.args.key c.args.live.now c.requires.5 c.requires.4 c.place_before-first.result c.of.result c.of.ensures (omega (arith, c.place_before-first.ensures.bound, ap length c.deref.ensures)) (λ pairs keys. c.place_before-first.ensures.parted pairs (c.deref.ensures ∙ keys)))
 
 pub remove-requires : goal.remove-requires
 remove-requires c =
-    let from = from_place c.deref-2.result.now c.place_before-first.result ∙ ap (λ ks. drop c.place_before-first.result ks) c.deref-2.ensures.0 in
-    (lit< tt, place_in c.requires.3 c.args.arena.now.lanes c.requires.2 c.requires.1 c.args.key c.args.live.now c.requires.5 c.requires.4 c.place_before-first.result c.of.result c.of.ensures (omega (arith, c.place_before-first.ensures.bound, ap length c.deref.ensures.0)) (λ pairs keys. c.place_before-first.ensures.parted pairs (c.deref.ensures.0 ∙ keys)) c.unwrap.result (sym (ap (position (λ k. k == c.args.key)) from) ∙ sym c.place_of-behind.ensures ∙ c.unwrap.ensures))
+    let from = from_place c.deref-2.result.now c.place_before-first.result ∙ ap (λ ks. drop c.place_before-first.result ks) c.deref-2.ensures in
+    place_in c.requires.3 c.args.arena.now.lanes c.requires.2 c.requires.1 c.args.key c.args.live.now c.requires.5 c.requires.4 c.place_before-first.result c.of.result c.of.ensures (omega (arith, c.place_before-first.ensures.bound, ap length c.deref.ensures)) (λ pairs keys. c.place_before-first.ensures.parted pairs (c.deref.ensures ∙ keys)) c.unwrap.result (sym (ap (position (λ k. k == c.args.key)) from) ∙ sym c.place_of-behind.ensures ∙ c.unwrap.ensures)
 
 pub returns : goal.returns
 returns c =
     λ requests place stand order found at apart.
-    let from = from_place c.deref-2.result.now c.place_before-first.result ∙ ap (λ ks. drop c.place_before-first.result ks) c.deref-2.ensures.0 in
-    rw c.remove.ensures.items (order_left order c.args.arena.now.lanes stand place c.args.key c.args.live.now at found c.place_before-first.result c.of.result c.of.ensures (omega (arith, c.place_before-first.ensures.bound, ap length c.deref.ensures.0)) (λ pairs keys. c.place_before-first.ensures.parted pairs (c.deref.ensures.0 ∙ keys)) c.unwrap.result (sym (ap (position (λ k. k == c.args.key)) from) ∙ sym c.place_of-behind.ensures ∙ c.unwrap.ensures) apart)
+    let from = from_place c.deref-2.result.now c.place_before-first.result ∙ ap (λ ks. drop c.place_before-first.result ks) c.deref-2.ensures in
+    rw c.remove.ensures.rest (order_left order c.args.arena.now.lanes stand place c.args.key c.args.live.now at found c.place_before-first.result c.of.result c.of.ensures (omega (arith, c.place_before-first.ensures.bound, ap length c.deref.ensures)) (λ pairs keys. c.place_before-first.ensures.parted pairs (c.deref.ensures ∙ keys)) c.unwrap.result (sym (ap (position (λ k. k == c.args.key)) from) ∙ sym c.place_of-behind.ensures ∙ c.unwrap.ensures) apart)

@@ -16,4 +16,4 @@ unwrap-entry-requires c = let found = led c.self.invariant.0 c.self.view_is (fou
 pub returns : goal.returns
 returns c =
     let earliest_is = numbered c.self.invariant.0 c.self.view_is (found_by c.args.by c.args.number) c.first.result (c.first.ensures _ _ c.self.invariant.1 (standing c.self.invariant.0 refl)) c.in_ok-key.key c.unwrap-entry.result.now c.in_ok-key.was (sym c.get.ensures ∙ ap option_copied c.unwrap-entry.ensures) in
-    search_gives c.self.invariant.0 c.self.view_is (found_by c.args.by c.args.number) c.deref.result.now c.place_numbered.result c.unwrap-entry.result.now.0 c.self.inside.next c.deref.ensures.0 earliest_is c.self.invariant.2 c.place_numbered.ensures
+    search_gives c.self.invariant.0 c.self.view_is (found_by c.args.by c.args.number) c.deref.result.now c.place_numbered.result c.unwrap-entry.result.now.0 c.self.inside.next c.deref.ensures earliest_is c.self.invariant.2 c.place_numbered.ensures
