@@ -14,7 +14,7 @@ pub mod Moves
 pub mod Ordered
 pub mod Passing
 pub mod Placing
-pub mod Reading
+pub mod Parting
 pub mod Rising
 pub mod Rows
 pub mod Tables
