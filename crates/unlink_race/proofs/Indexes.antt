@@ -205,22 +205,19 @@ module _ (any : Live → Bool) (number : Live → ℕ) where
 pub zip_short : (keys : List ℕ) (lives : List Live) → length keys ≡ length lives → length (zip keys lives) ≤ length lives
 zip_short keys lives long = let e = length-zip keys lives in omega (arith, e, long)
 
-module _ {by : By} {requests : List (ℕ × Live)} {keys : List ℕ} (o : IsOrderOf by requests keys) where
-  long_order : length keys ≡ length o.pairs
-  long_order = ap length o.keys_are ∙ length-map o.pairs (λ (p : ℕ × ℕ). p.1)
-
-  pub order_short : length keys ≤ length requests
-  order_short = let a = long_order in let b = o.ordering in let c = b.size in let d = column_short (any_by by) (number_by by) requests in omega (arith, a, c, d)
+module _ {by : By} {requests : List (ℕ × Live)} {ps : Pairs} (o : IsOrderOf by requests ps) where
+  pub order_short : length ps ≤ length requests
+  order_short = let b = o.ordering in let c = b.size in let d = column_short (any_by by) (number_by by) requests in omega (arith, c, d)
 
   -- by each name of the column
-  pub same_column : (others : List (ℕ × Live)) → column (any_by by) (number_by by) others ≡ column (any_by by) (number_by by) requests → IsOrderOf by others keys
-  same_column others same = record { pairs = o.pairs; keys_are = o.keys_are; rises = o.rises; ordering = rw same o.ordering }
+  pub same_column : (others : List (ℕ × Live)) → column (any_by by) (number_by by) others ≡ column (any_by by) (number_by by) requests → IsOrderOf by others ps
+  same_column others same = record { rises = o.rises; ordering = rw same o.ordering }
 
-  pub leads : (n : ℕ) → option_map (λ (p : ℕ × ℕ). p.1) (find (λ (p : ℕ × ℕ). p.0 == n) o.pairs) ≡ option_map (λ (r : ℕ × Live). r.0) (find (λ (r : ℕ × Live). found_by by n r.1) requests)
+  pub leads : (n : ℕ) → option_map (λ (p : ℕ × ℕ). p.1) (find (λ (p : ℕ × ℕ). p.0 == n) ps) ≡ option_map (λ (r : ℕ × Live). r.0) (find (λ (r : ℕ × Live). found_by by n r.1) requests)
   leads n = ap (option_map (λ (p : ℕ × ℕ). p.1)) (same_first o.ordering n) ∙ column_found (any_by by) (number_by by) n requests
 
-pub order_of : {by : By} {requests others : List (ℕ × Live)} {keys : List ℕ} → others ≡ requests → IsOrderOf by requests keys → IsOrderOf by others keys
-order_of {by = by} {keys = keys} same o = let P : List (ℕ × Live) → Type 0 = λ rs. IsOrderOf by rs keys in subst P (sym same) o
+pub order_of : {by : By} {requests others : List (ℕ × Live)} {ps : Pairs} → others ≡ requests → IsOrderOf by requests ps → IsOrderOf by others ps
+order_of {by = by} {ps = ps} same o = let P : List (ℕ × Live) → Type 0 = λ rs. IsOrderOf by rs ps in subst P (sym same) o
 
 module _ {keys : List ℕ} {lives : List Live} {index : Index} (s : IsIndexed keys lives index) where
   pub index_changed : (i : ℕ) (x y : Live) → slice_get lives i ≡ Some x → y.kind ≡ x.kind → y.seqnum ≡ x.seqnum → y.id ≡ x.id → IsIndexed keys (set lives i y) index
@@ -232,17 +229,17 @@ module _ {keys : List ℕ} {lives : List Live} {index : Index} (s : IsIndexed ke
         changes = s.changes ∙ sym (count_changed changes lives i x y is (rw kind refl));
       }
 
-  pub number_room : length index.numbers.items ≤ length lives
+  pub number_room : length index.numbers ≤ length lives
   number_room = let a = order_short s.numbers in let b = zip_short keys lives s.long in omega (arith, a, b)
 
-  pub held_room : length index.held.items ≤ length lives
+  pub held_room : length index.held ≤ length lives
   held_room = let a = order_short s.held in let b = zip_short keys lives s.long in omega (arith, a, b)
 
   pub changes_few : index.changes ≤ length lives
   changes_few = let a = s.changes in let b = count_by-le-length changes lives in omega (arith, a, b)
 
   -- the parts are written out, so that the callers' clauses fit
-  pub index_pushed : (index' : Index) (k : ℕ) (x : Live) → IsOrderOf Number (zip keys lives ++ (k, x) ∷ []) index'.numbers.items → IsOrderOf Id (zip keys lives ++ (k, x) ∷ []) index'.held.items → index'.changes ≡ index.changes + cond (changes x) 1 0 → IsIndexed (keys ++ k ∷ []) (lives ++ x ∷ []) index'
+  pub index_pushed : (index' : Index) (k : ℕ) (x : Live) → IsOrderOf Number (zip keys lives ++ (k, x) ∷ []) index'.numbers → IsOrderOf Id (zip keys lives ++ (k, x) ∷ []) index'.held → index'.changes ≡ index.changes + cond (changes x) 1 0 → IsIndexed (keys ++ k ∷ []) (lives ++ x ∷ []) index'
   index_pushed index' k x numbers held more =
       let whole = zip_pushed keys lives k x s.long in
       record {
@@ -257,7 +254,7 @@ module _ {keys : List ℕ} {lives : List Live} {index : Index} (s : IsIndexed ke
     pub change_counted : cond (changes x) 1 0 ≤ index.changes
     change_counted = omega (arith, s.changes, count_removed changes lives i x live)
 
-    pub index_removed : (index' : Index) → IsOrderOf Number (remove (zip keys lives) i) index'.numbers.items → IsOrderOf Id (remove (zip keys lives) i) index'.held.items → index'.changes + cond (changes x) 1 0 ≡ index.changes → IsIndexed (remove keys i) (remove lives i) index'
+    pub index_removed : (index' : Index) → IsOrderOf Number (remove (zip keys lives) i) index'.numbers → IsOrderOf Id (remove (zip keys lives) i) index'.held → index'.changes + cond (changes x) 1 0 ≡ index.changes → IsIndexed (remove keys i) (remove lives i) index'
     index_removed index' numbers held less =
         let left = zip_removed keys lives i in
         record {

@@ -10,10 +10,11 @@ pub mod Ids
 pub mod Indexes
 pub mod Lanes
 pub mod Leading
+pub mod Moves
 pub mod Ordered
 pub mod Passing
 pub mod Placing
-pub mod Reading
+pub mod Parting
 pub mod Rising
 pub mod Rows
 pub mod Tables

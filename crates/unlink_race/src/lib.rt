@@ -8,6 +8,7 @@ mod index;
 mod live;
 mod lives;
 mod numbered;
+mod queue;
 mod search;
 mod table;
 mod unlink;

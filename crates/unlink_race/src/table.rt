@@ -17,8 +17,8 @@ use crate::by_number::By;
 use crate::index::Index;
 use crate::live::{Live, StreamEnd};
 use crate::numbered::{mark, renumber};
+use crate::queue::Queue;
 use crate::search::{earliest_in_lane, earliest_of_all, first_of_all, nth_in_lane, number_of};
-use arrayvec::ArrayVec;
 use control_route::Route;
 use std::marker::Model;
 use urb_arena::{Arena, Key};
@@ -37,7 +37,7 @@ pub struct Table {
     // above all numbers
     next: u64,
     // in order of acceptance
-    keys: ArrayVec<Key, MAX_LIVE>,
+    keys: Queue<Key>,
     index: Index,
 }
 
@@ -49,9 +49,9 @@ impl Model for Table {
 
     ghost Value = { List Live };
 
-    ghost view = { λ t. lives_of t.arena t.keys.items };
+    ghost view = { λ t. lives_of t.arena t.keys };
 
-    ghost invariant = { λ t. IsSound t.arena t.keys.items × IsIndexed t.keys.items (lives_of t.arena t.keys.items) t.index × Rises 0 (numbers_of t.arena t.keys.items) t.next };
+    ghost invariant = { λ t. IsSound t.arena t.keys × IsIndexed t.keys (lives_of t.arena t.keys) t.index × Rises 0 (numbers_of t.arena t.keys) t.next };
 }
 
 // The place of the key whose request has this number: the numbers rise with the keys.
@@ -99,7 +99,7 @@ impl Table {
         Table {
             arena,
             next: 0,
-            keys: ArrayVec::new(),
+            keys: Queue::new(),
             index: Index::new(),
         }
     }
@@ -116,23 +116,21 @@ impl Table {
     pub fn has_number(&self, seqnum: u32) -> bool
         ensures { result ≡ list_any (has_number seqnum) self.now }
     {
-        self.index
-            .first(&self.arena, By::Number, u64::from(seqnum))
-            .is_some()
+        self.index.first(By::Number, u64::from(seqnum)).is_some()
     }
 
     /// Whether a request flies with this id.
     pub fn has_id(&self, id: u64) -> bool
         ensures { result ≡ list_any (has_id id) self.now }
     {
-        self.index.first(&self.arena, By::Id, id).is_some()
+        self.index.first(By::Id, id).is_some()
     }
 
     // The first request that this number finds.
     fn found(&self, by: By, number: u64) -> Option<&Live>
         ensures { option_copied result ≡ find (found_by by number) self.now }
     {
-        let key = self.index.first(&self.arena, by, number)?;
+        let key = self.index.first(by, number)?;
         let entry = self.arena.get(key).unwrap();
         Some(&entry.1)
     }
@@ -141,7 +139,7 @@ impl Table {
     fn place_found(&self, by: By, number: u64) -> Option<usize>
         ensures { result ≡ position (found_by by number) self.now }
     {
-        let key = self.index.first(&self.arena, by, number)?;
+        let key = self.index.first(by, number)?;
         let entry = self.arena.get(key).unwrap();
         place_numbered(&self.arena, &self.keys, entry.0)
     }
@@ -233,7 +231,7 @@ impl Table {
     {
         let key = self.keys.remove(place);
         let entry = self.arena.get(key).unwrap();
-        self.index.forget(&self.arena, key, &entry.1);
+        self.index.forget(key, &entry.1);
         self.arena.remove(key).unwrap().1
     }
 
@@ -247,7 +245,7 @@ impl Table {
         let pushed = self.arena.push_back(live.kind.lane(), (number, live));
         let key = pushed.ok().unwrap();
         let entry = self.arena.get(key).unwrap();
-        self.index.note(&self.arena, key, &entry.1);
+        self.index.note(key, &entry.1);
         self.keys.push(key);
     }
 

@@ -7,7 +7,7 @@ use Rattle.unlink_race.proofs.table.Table.mark.Goals as goal
 pub invariant_of-self : goal.invariant_of-self
 invariant_of-self c =
     let key = c.index-deref-place.result in
-    let read : key ≡ get_or c.self.inside.keys.items c.args.place key = rw (← c.deref.ensures.0) c.index-deref-place.is in
+    let read : key ≡ get_or c.self.inside.keys c.args.place key = rw (← c.deref.ensures) c.index-deref-place.is in
     let found = found_at c.self.invariant.0 c.self.view_is c.args.place key c.requires read in
     let marked = unlinked_by c.args.by found.0.1 in
     let made = changed c.self.invariant.0 c.self.view_is c.mark.new.arena c.args.place key found.0 marked c.requires read found.1 (c.mark.ensures found.0 found.1) refl in
@@ -21,7 +21,7 @@ pub returns : goal.returns
 returns c =
     λ live is.
     let key = c.index-deref-place.result in
-    let read : key ≡ get_or c.self.inside.keys.items c.args.place key = rw (← c.deref.ensures.0) c.index-deref-place.is in
+    let read : key ≡ get_or c.self.inside.keys c.args.place key = rw (← c.deref.ensures) c.index-deref-place.is in
     let found = found_at c.self.invariant.0 c.self.view_is c.args.place key c.requires read in
     let was = read_at c.self.invariant.0 c.self.view_is c.args.place key found.0 c.requires read found.1 in
     let same : Some live ≡ Some found.0.1 = sym is ∙ was in

@@ -14,4 +14,4 @@ returns-in_err-number c =
 pub returns : goal.returns
 returns c =
     let earliest_is = least_passing c.self.invariant.0 (touched_by c.args.route.now) c.self.inside.next c.self.invariant.2 in
-    search_gives c.self.invariant.0 c.self.view_is (touched_by c.args.route.now) c.deref.result.now c.place_numbered.result c.in_ok-number.number c.self.inside.next c.deref.ensures.0 (sym earliest_is ∙ sym c.earliest_of_all.ensures ∙ c.in_ok-number.was) c.self.invariant.2 c.place_numbered.ensures
+    search_gives c.self.invariant.0 c.self.view_is (touched_by c.args.route.now) c.deref.result.now c.place_numbered.result c.in_ok-number.number c.self.inside.next c.deref.ensures (sym earliest_is ∙ sym c.earliest_of_all.ensures ∙ c.in_ok-number.was) c.self.invariant.2 c.place_numbered.ensures

@@ -14,4 +14,4 @@ returns-in_err-number c =
 pub returns : goal.returns
 returns c =
     let earliest_is = waiting_is c.self.invariant.0 c.args.ep c.byte.result c.index.result c.byte.ensures.value c.index.ensures.value c.index.ensures.in_range in
-    search_gives c.self.invariant.0 c.self.view_is (waits_for c.args.ep) c.deref.result.now c.place_numbered.result c.in_ok-number.number c.self.inside.next c.deref.ensures.0 (sym earliest_is ∙ sym c.earliest_in_lane.ensures ∙ c.in_ok-number.was) c.self.invariant.2 c.place_numbered.ensures
+    search_gives c.self.invariant.0 c.self.view_is (waits_for c.args.ep) c.deref.result.now c.place_numbered.result c.in_ok-number.number c.self.inside.next c.deref.ensures (sym earliest_is ∙ sym c.earliest_in_lane.ensures ∙ c.in_ok-number.was) c.self.invariant.2 c.place_numbered.ensures
