@@ -1,6 +1,5 @@
 -- The history of a list of events: the items in the order in which packets become whole, with what each means.
-use Rattle.std.specs.Option.{option_map_or}
-use Rattle.std.specs.Prelude.{Option, ℕ, ◌+◌, if◌then◌else◌, List, [], ◌∷◌, ◌++◌, length, map, drop, fold}
+use Rattle.std.specs.Prelude.{Option, Some, None, ℕ, ◌+◌, if◌then◌else◌, List, [], ◌∷◌, ◌++◌, length, map, drop, fold}
 use Rattle.usb_base.specs.declared.reason.Reason.{Reason}
 use Rattle.packet_stream.specs.Split.{Splitting, split}
 use Rattle.redir_wire.specs.declared.packet.Header.{Header}
@@ -25,7 +24,8 @@ host_split bytes = split host_reader host_start bytes
 
 -- of the wrong place, where there is one
 abbrev pub wrong_items : (ℕ → Reason → Item) → Option (ℕ × Reason) → List Item
-wrong_items wrong w = option_map_or (λ at. wrong at.0 at.1 ∷ []) w []
+wrong_items wrong None = []
+wrong_items wrong (Some w) = wrong w.0 w.1 ∷ []
 
 -- the items of a client's bytes, and of the host's
 abbrev pub client_items : List ℕ → List Item
