@@ -69,6 +69,11 @@ module _ (arena : Seen (ℕ × Live)) (keys : List ℕ) (kept : IsKeyed key_of (
         let at = position_or_len_is (λ n. n == number) (numbers_of arena keys) i 0 (omega (arith, inside)) (λ k before. ne_eqb _ number (λ same. (let less = up k i before within in omega (arith, less, same, is)))) (λ _. eq-eqb _ number is) in
         rw (at, lt-ltb i (length (numbers_of arena keys)) inside) refl
 
+    pub number_first : 0 < length keys → number_at arena (get_or keys 0 0) ≡ Some number → Some 0 ≡ position (λ n. n == number) (numbers_of arena keys)
+    number_first some is =
+        let e : Some (get_or (numbers_of arena keys) 0 0) ≡ Some number = sym (leads 0 some) ∙ is in
+        number_at_place 0 some (cc)
+
     number_nowhere : ((k : ℕ) → k < length keys → get_or (numbers_of arena keys) k 0 ≢ number) → None ≡ position (λ n. n == number) (numbers_of arena keys)
     number_nowhere none =
         let e = long in

@@ -9,8 +9,8 @@ use std::marker::Model;
 use std::ops::DerefSlice;
 use usbip_urb::MAX_LIVE;
 
-// Twice as many as there are items at most: between two moves of all, no fewer come than there may be.
-const ROOM: usize = 8192;
+// 512 more than there are items at most: between two moves of all items, no fewer come than that.
+const ROOM: usize = 4608;
 
 /// At most 4,096 items; contracts see their list.
 #[derive(Drop)]

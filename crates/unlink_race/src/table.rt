@@ -2,8 +2,9 @@
 //! stream are looked for, and beside it their keys in order of acceptance. By its number or its id a request is found
 //! by an index, which says its key.
 
-ghost use Rattle.std.specs.Prelude.{◌≡◌, ◌==◌, ◌<◌, ◌≤◌, ◌+◌, ◌^◌, ℕ, not, true, List, [], ◌∷◌, ◌++◌, length, filter, remove, replicate, slice_get, slice_set, option_copied, Some};
+ghost use Rattle.std.specs.Prelude.{◌≡◌, ◌==◌, ◌<◌, ◌≤◌, ◌+◌, ◌^◌, ℕ, not, true, List, [], ◌∷◌, ◌++◌, length, filter, remove, replicate, get_or, slice_get, slice_set, option_copied, option_map, Some};
 ghost use Rattle.std.specs.List.{find, position, list_any};
+ghost use Rattle.urb_arena.specs.Lanes.{find_in};
 ghost use Rattle.urb_arena.specs.Seen.{seen};
 ghost use Rattle.unlink_race.specs.declared.live.Live.{Live};
 ghost use Rattle.unlink_race.specs.Firsts.{without_first};
@@ -54,10 +55,26 @@ impl Model for Table {
     ghost invariant = { λ t. IsSound t.arena t.keys × IsIndexed t.keys (lives_of t.arena t.keys) t.index × Rises 0 (numbers_of t.arena t.keys) t.next };
 }
 
+// Whether it is the first's number: most requests end first of all.
+fn is_first(arena: &Arena<(u64, Live)>, keys: &[Key], number: u64) -> bool
+    ensures { result ≡ true → (0 < length keys.now) × (option_map (λ (entry : ℕ × Live). entry.0) (find_in (get_or keys.now 0 0) arena.now.lanes) ≡ Some number) }
+{
+    let Some(key) = keys.first() else {
+        return false;
+    };
+    let Some(first) = number_of(arena, *key) else {
+        return false;
+    };
+    first == number
+}
+
 // The place of the key whose request has this number: the numbers rise with the keys.
 fn place_numbered(arena: &Arena<(u64, Live)>, keys: &[Key], number: u64) -> Option<usize>
     ensures { (high : ℕ) → IsKeyed (λ k. k) (entry_of arena.now) keys.now → Rises 0 (numbers_of arena.now keys.now) high → result ≡ position (λ n. n == number) (numbers_of arena.now keys.now) }
 {
+    if is_first(arena, keys, number) {
+        return Some(0);
+    }
     let found = keys.binary_search_by_key(&Some(number), |key| number_of(arena, *key));
     found.ok()
 }

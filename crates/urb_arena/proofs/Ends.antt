@@ -5,6 +5,7 @@ use Rattle.urb_arena.specs.Inner.Turns.{ring_of, row, total, In}
 use Rattle.urb_arena.specs.Lanes.{find, without, first_key, count, or_else, find_in}
 use Rattle.urb_arena.specs.Inner.Tables.{pairs, IsTable, lanes_of}
 use Rattle.urb_arena.specs.declared.table.Table.{Table}
+use Rattle.urb_arena.proofs.Joins.{total_at}
 use Rattle.urb_arena.proofs.Lanes.{listed-length}
 use Rattle.urb_arena.proofs.Views.{table_len}
 
@@ -56,13 +57,6 @@ module _ {X : Type 0} where
         let long = is.filled.long in let size = is.tied.size in let n = table_len t is in let all = is.len in
         all_bare t.block.values (λ i lt. bare i (omega (arith, lt, long))) ∙ ap (λ k. replicate k None) (omega (arith, long, size))
       where
-        part : (f : ℕ → List ℕ) (n i : ℕ) → i < n → length (f i) ≤ total f n
-        part f zero i lt = absurd (omega arith)
-        part f (suc n) i lt = elim (cases_eq i n) [
-          | inl e ↦ (let here = ap (λ j. length (f j)) e in omega (arith, here))
-          | inr ne ↦ (let rest = part f n i (omega (arith, lt, ne)) in omega (arith, rest))
-        ]
-
         not_in : (k : ℕ) (ks : List ℕ) → length ks ≡ 0 → In k ks → ⊥
         not_in k [] e i = i
         not_in k (j ∷ ks) e i = absurd (omega (arith, e))
@@ -75,7 +69,7 @@ module _ {X : Type 0} where
               elim (cases_eq (ring_of t.block.links i) t.lanes) [
                 | inl e ↦ is.filled.bare i lt (inr e)
                 | inr ne ↦ (
-                    let rm = at.0 in let few = part (row t.block.links) t.lanes (ring_of t.block.links i) (omega (arith, ne, rm)) in let n = table_len t is in let all = is.len in
+                    let rm = at.0 in let few = total_at (row t.block.links) t.lanes (ring_of t.block.links i) (omega (arith, ne, rm)) in let n = table_len t is in let all = is.len in
                     absurd (not_in i (row t.block.links (ring_of t.block.links i)) (omega (arith, few, n, all, nothing)) at.1))
               ])
         ]

@@ -1,5 +1,5 @@
 -- What a move of a cell makes of the rings.
-use Rattle.std.proofs.Common.{◌≡◌, ◌≢◌, ℕ, zero, suc, ◌+◌, ◌<◌, ◌⊎◌, inl, inr, List, [], ◌∷◌, ◌++◌, length, get_or, Some, None, refl, ap, sym, subst, ◌∙◌, arith}
+use Rattle.std.proofs.Common.{◌≤◌, ◌≡◌, ◌≢◌, ℕ, zero, suc, ◌+◌, ◌<◌, ◌⊎◌, inl, inr, List, [], ◌∷◌, ◌++◌, length, get_or, Some, None, refl, ap, sym, subst, ◌∙◌, arith}
 use lib.ListN.{length-set}
 use Rattle.std.proofs.lemmas.List.{get_or-set_same, get_or-set_other}
 use Rattle.std.proofs.lemmas.Bool.{ne_eqb, eq-eqb, cases_eq}
@@ -109,6 +109,14 @@ Distinct-more (x ∷ ks) k d absent =
     (λ i. elim (In-either x ks (k ∷ []) i) [ inl l ↦ d.0 l | inr r ↦ elim r [ inl e ↦ absent (inl (sym e)) | inr z ↦ z ] ], Distinct-more ks k d.1 (λ i. absent (inr i)))
 
 -- ---- how many there are together
+
+-- one of them has no more than all together
+pub total_at : {Y : Type 0} (f : ℕ → List Y) (n i : ℕ) → i < n → length (f i) ≤ total f n
+total_at f zero i lt = absurd (omega arith)
+total_at f (suc n) i lt = elim (cases_eq i n) [
+  | inl e ↦ (let here = ap (λ j. length (f j)) e in omega (arith, here))
+  | inr ne ↦ (let rest = total_at f n i (omega (arith, lt, ne)) in omega (arith, rest))
+]
 
 pub total_same : {Y : Type 0} (f g : ℕ → List Y) (n : ℕ) → ((r : ℕ) → r < n → g r ≡ f r) → total g n ≡ total f n
 total_same f g zero same = refl

@@ -33,13 +33,17 @@ module _ {X : Type 0} where
       let x = there k (inl refl) in
       ap length (pairs_there vs k ks x.0 x.1) ∙ ap suc (pairs-length vs ks (λ j i. there j (inr i)))
 
-  pub find-absent : (vs : List (Option X)) (k : ℕ) (ks : List ℕ) → (In k ks → ⊥) → find k (pairs vs ks) ≡ None
-  find-absent vs k [] absent = refl
-  find-absent vs k (j ∷ ks) absent = step (get_or vs j None) (find-absent vs k ks (λ i. absent (inr i)))
+  -- what passes by the pairs of other keys finds nothing where the key is absent
+  absent_from : {Y : Type 0} (g : List (ℕ × X) → Option Y) (k : ℕ) → g [] ≡ None → ((p : ℕ × X) (ps : List (ℕ × X)) → p.0 ≢ k → g (p ∷ ps) ≡ g ps) → (vs : List (Option X)) (ks : List ℕ) → (In k ks → ⊥) → g (pairs vs ks) ≡ None
+  absent_from g k none past vs [] absent = none
+  absent_from {Y} g k none past vs (j ∷ ks) absent = step (get_or vs j None) (absent_from g k none past vs ks (λ i. absent (inr i)))
     where
-      step : (c : Option X) → find k (pairs vs ks) ≡ None → find k (consed j c (pairs vs ks)) ≡ None
+      step : (c : Option X) → g (pairs vs ks) ≡ None → g (consed j c (pairs vs ks)) ≡ None
       step None rest = rest
-      step (Some x) rest = rw (ne_eqb j k (λ e. absent (inl e))) rest
+      step (Some x) rest = past (j, x) (pairs vs ks) (λ e. absent (inl e)) ∙ rest
+
+  pub find-absent : (vs : List (Option X)) (k : ℕ) (ks : List ℕ) → (In k ks → ⊥) → find k (pairs vs ks) ≡ None
+  find-absent vs k ks = absent_from (find k) k refl (λ p ps other. rw (ne_eqb p.0 k other) refl) vs ks
 
   pub find-there : (vs : List (Option X)) (k : ℕ) (ks : List ℕ) (x : X) → get_or vs k None ≡ Some x → In k ks → find k (pairs vs ks) ≡ Some x
   find-there vs k [] x e i = elim i [ ]
@@ -76,12 +80,7 @@ module _ {X : Type 0} where
       tail = rw (eq-eqb k k refl) (without-absent vs k ys (λ h. absent (In-right k xs ys h)))
 
   pub after-absent : (vs : List (Option X)) (k : ℕ) (ks : List ℕ) → (In k ks → ⊥) → key_after k (pairs vs ks) ≡ None
-  after-absent vs k [] absent = refl
-  after-absent vs k (j ∷ ks) absent = step (get_or vs j None) (after-absent vs k ks (λ i. absent (inr i)))
-    where
-      step : (c : Option X) → key_after k (pairs vs ks) ≡ None → key_after k (consed j c (pairs vs ks)) ≡ None
-      step None rest = rest
-      step (Some x) rest = rw (ne_eqb j k (λ e. absent (inl e))) rest
+  after-absent vs k ks = absent_from (key_after k) k refl (λ p ps other. rw (ne_eqb p.0 k other) refl) vs ks
 
   pub after-there : (vs : List (Option X)) (xs : List ℕ) (k : ℕ) (ys : List ℕ) (x : X) → get_or vs k None ≡ Some x → (In k xs → ⊥) → key_after k (pairs vs (xs ++ k ∷ ys)) ≡ first_key (pairs vs ys)
   after-there vs [] k ys x e absent = ap (key_after k) (pairs_there vs k ys x e) ∙ rw (eq-eqb k k refl) refl

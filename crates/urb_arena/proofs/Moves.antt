@@ -3,7 +3,7 @@ use Rattle.std.proofs.Common.{◌≡◌, ◌≢◌, ℕ, zero, suc, ◌+◌, ◌
 use lib.ListN.{length-append}
 use Rattle.std.proofs.lemmas.Bool.{ne_eqb, eq-eqb, cases_eq}
 use Rattle.urb_arena.specs.Inner.Turns.{Cells, next_of, prev_of, ring_of, unlinked, moved, Sound, Path, In, Distinct, row, total, Tied, without_cell, with_cell}
-use Rattle.urb_arena.proofs.Joins.{kept, skipped, added, last_edge, follow-path, In-left, In-right, In-either, Distinct-without, Distinct-more, total_same, total_changed, unlinked-length, unlinked-Sound, unlinked-on, unlinked-next, unlinked-back, unlinked-prev, unlinked-ring, linked-length, linked-Sound, linked-from, linked-to, linked-ring_here, linked-ring, linked-on, linked-next, linked-back, linked-prev}
+use Rattle.urb_arena.proofs.Joins.{kept, skipped, added, last_edge, follow-path, In-left, In-right, In-either, Distinct-without, Distinct-more, total_same, total_changed, unlinked-length, unlinked-Sound, unlinked-on, unlinked-next, unlinked-back, unlinked-prev, unlinked-ring, linked-length, linked-Sound, linked-from, linked-to, linked-ring_here, linked-ring, linked-on, linked-next, linked-back, linked-prev, total_at}
 
 -- the two edges at a place on a path
 mid_edges : (n p : ℕ → ℕ) (a : ℕ) (xs : List ℕ) (k : ℕ) (ys : List ℕ) (b : ℕ) → Path n p a (xs ++ k ∷ ys) b → (n (p k) ≡ k) × (p (n k) ≡ k)
@@ -199,13 +199,6 @@ module _ (ls : Cells) (m cap : ℕ) (rows : ℕ → List ℕ) (t : Tied ls m cap
   }
 
 -- ---- the rings are those that a walk finds
-
-total_at : {Y : Type 0} (f : ℕ → List Y) (n i : ℕ) → i < n → length (f i) ≤ total f n
-total_at f zero i lt = absurd (omega arith)
-total_at f (suc n) i lt = elim (cases_eq i n) [
-  | inl e ↦ (let here = ap (λ j. length (f j)) e in omega (arith, here))
-  | inr ne ↦ (let rest = total_at f n i (omega (arith, lt, ne)) in omega (arith, rest))
-]
 
 module _ (ls : Cells) (m cap : ℕ) (rows : ℕ → List ℕ) (t : Tied ls m cap rows) where
   pub row_is : (r : ℕ) → r ≤ m → row ls r ≡ rows r

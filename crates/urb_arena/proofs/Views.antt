@@ -9,7 +9,7 @@ use Rattle.urb_arena.specs.Lanes.{find, without, replaced, first_key, key_after,
 use Rattle.urb_arena.specs.Inner.Tables.{pairs, Filled, consed, IsTable, lanes_of}
 use Rattle.urb_arena.specs.declared.cells.Block.{Block}
 use Rattle.urb_arena.specs.declared.table.Table.{Table}
-use Rattle.urb_arena.proofs.Joins.{In-left, In-right, In-split, Distinct-without, total_same, total_changed}
+use Rattle.urb_arena.proofs.Joins.{In-left, In-right, In-split, Distinct-without, total_same, total_changed, total_at}
 use Rattle.urb_arena.proofs.Lanes.{pairs-append, pairs_there, pairs-set, pairs-length, find-absent, find-there, without-absent, without-pairs, after-absent, after-there, listed_same, listed_at, listed_changed, listed-map, search-none, search-one}
 use Rattle.urb_arena.proofs.Moves.{without_here, without_other, with_here, with_other, moved-ring, moved-ring_here, Tied-moved, row_is, Tied-row}
 
@@ -346,14 +346,7 @@ module _ {X : Type 0} (t : Table X) (is : IsTable t) where
   pub table_some : (k : ℕ) → LiveIn k → 1 ≤ t.len
   table_some k live =
       let f = ring_of t.block.links k in let r = row t.block.links in let cut = In-split k (r f) (is.tied.found k live.0 live.1).1 in
-      let n = ap length cut.1.1 ∙ length-append cut.0 (k ∷ cut.1.0) in let all = total_part r t.lanes f live.2 in let len = is.len in omega (arith, n, all, len)
-    where
-      total_part : (f : ℕ → List ℕ) (n i : ℕ) → i < n → length (f i) ≤ total f n
-      total_part f zero i lt = absurd (omega arith)
-      total_part f (suc n) i lt = elim (cases_eq i n) [
-        | inl e ↦ (let here = ap (λ j. length (f j)) e in omega (arith, here))
-        | inr ne ↦ (let rest = total_part f n i (omega (arith, lt, ne)) in omega (arith, rest))
-      ]
+      let n = ap length cut.1.1 ∙ length-append cut.0 (k ∷ cut.1.0) in let all = total_at r t.lanes f live.2 in let len = is.len in omega (arith, n, all, len)
 
   pub table_front : (r : ℕ) → r < t.lanes
       → ((next_of t.block.links r ≤ t.lanes) × (first_key (get_or (lanes_of t) r []) ≡ None)) ⊎ ((t.lanes < next_of t.block.links r) × (first_key (get_or (lanes_of t) r []) ≡ Some (next_of t.block.links r)))

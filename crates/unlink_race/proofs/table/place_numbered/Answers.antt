@@ -1,7 +1,13 @@
 use Rattle.std.proofs.Common.{rules, ◌∙◌}
 use Rattle.std.proofs.lemmas.Fn.{always_returns_same}
-use Rattle.unlink_race.proofs.Halving.{number_at, halved}
+use Rattle.unlink_race.proofs.Halving.{number_at, number_first, halved}
 use Rattle.unlink_race.proofs.table.place_numbered.Goals as goal
+
+pub returns-then-is_first : goal.returns-then-is_first
+returns-then-is_first c =
+    λ high kept rises.
+    let first = c.is_first.ensures c.if-is_first.true in
+    number_first c.args.arena.now c.args.keys.now kept high rises c.args.number first.0 first.1
 
 pub returns : goal.returns
 returns c =

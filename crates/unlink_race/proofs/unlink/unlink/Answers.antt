@@ -1,9 +1,9 @@
 use Rattle.std.proofs.Common.{◌≡◌, ◌∙◌, sym, ap, refl, Some}
-use Rattle.unlink_race.proofs.Firsts.{took_first, took_none, changed_first}
-use Rattle.unlink_race.proofs.Unlinks.{told_at, left_at}
+use Rattle.unlink_race.proofs.Firsts.{took_first, took_none}
+use Rattle.unlink_race.proofs.Unlinks.{told_at, left_at, marked_at}
 use Rattle.unlink_race.specs.declared.unlink.UnlinkTold.TheVariants.{Taken}
 use Rattle.unlink_race.specs.Searches.{has_number}
-use Rattle.unlink_race.specs.Unlinking.{told_of, left_by, unlinked_by}
+use Rattle.unlink_race.specs.Unlinking.{told_of, left_by}
 use Rattle.unlink_race.proofs.unlink.unlink.Goals as goal
 
 pub returns-in-None-clause-told : goal.returns-in-None-clause-told
@@ -45,9 +45,7 @@ returns-in-Wire-clause-told c =
 
 pub returns-in-Wire-clause-left : goal.returns-in-Wire-clause-left
 returns-in-Wire-clause-left c =
-    let is = sym c.place_of_number.ensures ∙ c.in-Some.is in
-    let at = took_first (has_number c.args.target) _ _ is in
-    c.mark.ensures _ c.at-live.ensures ∙ changed_first (has_number c.args.target) (unlinked_by c.args.by) _ _ _ is c.at-live.ensures ∙ sym (left_at c.args.target c.args.by c.args.table.now _ _ _ (sym at.0 ∙ c.at-live.ensures) c.in_default.is c.in-Wire.is)
+    c.mark.ensures _ c.at-live.ensures ∙ marked_at c.args.target c.args.by _ c.args.table.now _ _ (sym c.place_of_number.ensures ∙ c.in-Some.is) c.at-live.ensures c.in_default.is c.in-Wire.is refl
 
 pub returns-in-Routed-clause-told : goal.returns-in-Routed-clause-told
 returns-in-Routed-clause-told c =
@@ -56,6 +54,4 @@ returns-in-Routed-clause-told c =
 
 pub returns-in-Routed-clause-left : goal.returns-in-Routed-clause-left
 returns-in-Routed-clause-left c =
-    let is = sym c.place_of_number.ensures ∙ c.in-Some.is in
-    let at = took_first (has_number c.args.target) _ _ is in
-    c.mark-in-Routed.ensures _ c.at-live.ensures ∙ changed_first (has_number c.args.target) (unlinked_by c.args.by) _ _ _ is c.at-live.ensures ∙ sym (left_at c.args.target c.args.by c.args.table.now _ _ _ (sym at.0 ∙ c.at-live.ensures) c.in_default.is c.in-Routed.is)
+    c.mark-in-Routed.ensures _ c.at-live.ensures ∙ marked_at c.args.target c.args.by _ c.args.table.now _ _ (sym c.place_of_number.ensures ∙ c.in-Some.is) c.at-live.ensures c.in_default.is c.in-Routed.is refl

@@ -2,7 +2,7 @@ use Rattle.std.proofs.Common.{◌≡◌, ◌∙◌, ap, Bool, not, length, sym, 
 use Rattle.unlink_race.specs.declared.live.Live.{Live}
 use Rattle.unlink_race.specs.declared.live.StreamEnd.{StreamEnd}
 use Rattle.unlink_race.specs.Searches.{ended_by}
-use Rattle.unlink_race.proofs.Passing.{none_tried, untried_stand, step_fails, step_passes, tried_from}
+use Rattle.unlink_race.proofs.Passing.{none_tried, untried_stand, step_tried, tried_from}
 use Rattle.unlink_race.proofs.table.Table.drop_ended.Goals as goal
 
 abbrev stays : StreamEnd → Live → Bool
@@ -28,14 +28,14 @@ loop-place-preserved-then-ends_with c =
     let same : Some c.at.result.now ≡ Some c.remove.result = sym c.at.ensures ∙ c.remove.ensures.live in
     let one : c.at.result.now ≡ c.remove.result = cc in
     let fails : stays c.args.end.now c.remove.result ≡ false = ap not (sym (c.ends_with.ensures ∙ ap (λ (live : Live). ended_by c.args.end.now live) one) ∙ c.if-ends_with.true) in
-    c.remove.ensures.rest ∙ step_fails (stays c.args.end.now) c.args.self.now c.loop-place.self c.loop-place.place c.remove.result c.loop-place-test.true (omega (arith, c.loop-place.auto.place, c.len-place.ensures.len)) c.loop-place.invariant c.remove.ensures.live fails
+    c.remove.ensures.rest ∙ step_tried (stays c.args.end.now) c.args.self.now c.loop-place.self c.loop-place.place c.remove.result false c.loop-place-test.true (omega (arith, c.loop-place.auto.place, c.len-place.ensures.len)) c.loop-place.invariant c.remove.ensures.live fails
 
 pub loop-place-preserved : goal.loop-place-preserved
 loop-place-preserved c =
     let stand = untried_stand (stays c.args.end.now) c.args.self.now c.loop-place.place (omega (arith, c.loop-place.auto.place, c.len-place.ensures.len)) in
     let long = ap length c.loop-place.invariant in
     let passes : stays c.args.end.now c.at.result.now ≡ true = ap not (sym c.ends_with.ensures ∙ c.if-ends_with.false) in
-    step_passes (stays c.args.end.now) c.args.self.now c.loop-place.self c.loop-place.place _ c.loop-place-test.true (omega (arith, c.loop-place.auto.place, c.len-place.ensures.len)) c.loop-place.invariant c.at.ensures passes
+    step_tried (stays c.args.end.now) c.args.self.now c.loop-place.self c.loop-place.place _ true c.loop-place-test.true (omega (arith, c.loop-place.auto.place, c.len-place.ensures.len)) c.loop-place.invariant c.at.ensures passes
 
 pub returns : goal.returns
 returns c =
