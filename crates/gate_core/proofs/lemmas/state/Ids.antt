@@ -10,7 +10,6 @@ use Rattle.gate_history.specs.state.Ids.{draw, draws, greatest, last_of}
 use Rattle.gate_history.specs.write.Packets.{stops, route_packets, asked_packets}
 use Rattle.gate_core.specs.declared.state.kept.Kept.{Kept}
 use Rattle.gate_history.specs.declared.verdict.Verdict.{Verdict}
-use Rattle.gate_history.specs.declared.verdict.Verdict.TheVariants.{Now, Wire, Routed, IsoOut, Stream}
 use Rattle.gate_history.specs.client.Verdict.{goes_by_id, changes}
 use Rattle.gate_history.specs.step.Marks.{Submission, Effect}
 use Rattle.gate_history.specs.client.Submits.{Pending}
