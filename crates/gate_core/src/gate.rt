@@ -10,9 +10,8 @@ ghost use Rattle.gate_history.specs.write.Bytes.{out_host};
 ghost use Rattle.gate_core.specs.step.Stands.{Stands, StandsFor, Takes, Stops, HasFailed};
 
 use crate::step::inner::Inner;
-use crate::write::outputs::Outputs;
 use gate_history::{Counts, Event, Notes};
-use gate_parts::write_hello;
+use gate_parts::{Outputs, write_hello};
 use std::alloc::Global;
 use std::marker::Model;
 use std::mem::swap;

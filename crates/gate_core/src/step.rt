@@ -2,5 +2,4 @@
 
 pub mod inner;
 pub mod side;
-pub mod take;
 pub mod translator;

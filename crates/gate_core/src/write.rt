@@ -1,4 +1,3 @@
 //! What is sent and told.
 
-pub mod outputs;
 pub mod stop;

@@ -1,2 +1,3 @@
 -- What is sent and told.
 pub mod Extends
+pub mod Outputs

@@ -17,8 +17,9 @@ pub use state::id::draw;
 pub use state::streams::{Streams, Up};
 pub use write::answer::{write_all_sent, write_ret_unlink, write_without_packets};
 pub use write::ask::{
-    acknowledge, packet_count, wire_packet, write_cancel, write_cancel_of, write_hello, write_iso,
+    acknowledge, packet_count, wire_packet, write_cancel, write_cancel_of, write_hello,
     write_route, write_start, write_stop,
 };
-pub use write::finish::{row_of, write_completed, write_end_of, write_lost};
+pub use write::finish::{has_won, row_of, write_completed, write_end_of, write_lost};
+pub use write::outputs::Outputs;
 pub use write::refusal::{client_refusal, host_refusal};

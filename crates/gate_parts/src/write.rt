@@ -4,4 +4,5 @@ pub mod answer;
 pub mod ask;
 pub mod field;
 pub mod finish;
+pub mod outputs;
 pub mod refusal;

@@ -60,42 +60,31 @@ asked_rows target by ls = map (asked_row target by) (filter (λ l. not (is_taken
 
 abbrev pub left_told : UnlinkAnswer → ℕ → ℕ → List Live → List Live
 left_told Late target by ls = ls
-left_told (Cancel id) target by ls = change_first (has_number target) (unlinked_by by) ls
-left_told Waits target by ls = change_first (has_number target) (unlinked_by by) ls
 left_told Taken target by ls = without_first (has_number target) ls
+left_told _ target by ls = change_first (has_number target) (unlinked_by by) ls
 
 abbrev pub is_late : UnlinkAnswer → Bool
 is_late Late = true
-is_late (Cancel id) = false
-is_late Waits = false
-is_late Taken = false
+is_late _ = false
 
 -- so many are taken back
 abbrev pub taken_count : UnlinkAnswer → ℕ
-taken_count Late = 0
-taken_count (Cancel id) = 0
-taken_count Waits = 0
 taken_count Taken = 1
+taken_count _ = 0
 
 -- and answered so, where the unlink is the one with this number
 abbrev pub taken_bytes : ℕ → UnlinkAnswer → List ℕ
-taken_bytes by Late = []
-taken_bytes by (Cancel id) = []
-taken_bytes by Waits = []
 taken_bytes by Taken = spelling (ret_unlink by ECONNRESET)
+taken_bytes by _ = []
 
 abbrev pub told_bytes : Caps → UnlinkAnswer → List ℕ
-told_bytes caps Late = []
 told_bytes caps (Cancel id) = host_packet_bytes caps (id, Plain plain.Cancel)
-told_bytes caps Waits = []
-told_bytes caps Taken = []
+told_bytes caps _ = []
 
 -- the id that is cancelled fits its width
 abbrev pub CancelFits : Caps → UnlinkAnswer → Type 0
-CancelFits caps Late = Unit {0}
 CancelFits caps (Cancel id) = IdFits (wide_ids caps) id
-CancelFits caps Waits = Unit {0}
-CancelFits caps Taken = Unit {0}
+CancelFits caps _ = Unit {0}
 
 -- the first unlink is kept
 pub record HasMarked (target by : ℕ) (old new : Kept) : Type 0 where

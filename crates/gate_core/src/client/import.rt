@@ -12,9 +12,8 @@ ghost use Rattle.gate_history.specs.step.Meaning.{mark_as, asked_meaning, import
 ghost use Rattle.gate_core.specs.inner.Holds.{IsKept, Holds, Does, StopsShort};
 
 use crate::state::kept::Kept;
-use crate::write::outputs::Outputs;
 use gate_history::Note;
-use gate_parts::{client_refusal, failed_import, import_reply, is_exported, list_reply};
+use gate_parts::{Outputs, client_refusal, failed_import, import_reply, is_exported, list_reply};
 use redir_wire::Connect;
 use usb_base::{Memory, Reason};
 use usbip_op::{OpPacket, write_op};

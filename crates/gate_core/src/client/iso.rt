@@ -16,9 +16,9 @@ ghost use Rattle.gate_core.specs.inner.Holds.{IsKept, Holds, Does, StopsShort};
 ghost use Rattle.gate_parts.specs.write.Extends.{Extends};
 
 use crate::state::kept::Kept;
-use crate::write::outputs::Outputs;
 use gate_history::{Note, Request};
-use gate_parts::{Called, write_all_sent, write_iso, write_start};
+use gate_parts::{Called, Outputs, write_all_sent, write_start};
+use redir_data::write_iso_out;
 use usb_base::{Bytes, EpAddr, EpRow, Memory};
 use usbip_urb::part;
 
@@ -39,10 +39,8 @@ impl Kept {
             → OnOk result (Does st (mark_as st (Opens (submission st request.now (IsoOut row) [])) None) self.old self.new out.old out.new) }
         ensures err { OnErr result (StopsShort self.old self.new out.old out.new) }
     {
-        out.notes.push(Note::Submitted {
-            seqnum: request.number,
-            id: 0,
-        })?;
+        let seqnum = request.number;
+        out.notes.push(Note::Submitted { seqnum, id: 0 })?;
         let ep = request.transfer.ep;
         let called = self.write_start(ep, row, &mut out.to_host)?;
         let last = self.write_packets(request, called.last, &mut out.to_host)?;
@@ -92,7 +90,7 @@ impl Kept {
         for place in 0..request.descs.len() {
             let data = part(&request.descs, body, place);
             let id = self.draw(last);
-            write_iso(request.transfer.ep, data, id, self.caps, to_host)?;
+            write_iso_out(request.transfer.ep.byte(), data, id, self.caps, to_host)?;
             last = id;
         }
         Ok(last)

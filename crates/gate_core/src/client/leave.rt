@@ -17,9 +17,8 @@ ghost use Rattle.gate_parts.specs.write.Extends.{Extends};
 ghost use Rattle.gate_parts.specs.state.Rows.{cancel_bytes, is_cancelled_row};
 
 use crate::state::kept::Kept;
-use crate::write::outputs::Outputs;
 use gate_history::{Note, Notes};
-use gate_parts::{Called, write_cancel_of};
+use gate_parts::{Called, Outputs, write_cancel_of};
 use usb_base::{Bytes, Memory, Refusal};
 
 impl Kept {

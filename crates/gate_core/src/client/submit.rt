@@ -26,12 +26,11 @@ ghost use Rattle.gate_parts.specs.state.Rows.{kind_of, IsFine};
 ghost use Rattle.gate_core.specs.inner.Holds.{IsKept, Holds, Does, StopsShort, IsFree, CanAnswer, CanGo, HasOpened};
 
 use crate::state::kept::Kept;
-use crate::write::outputs::Outputs;
 use control_route::Route;
 use gate_history::errno::ESHUTDOWN;
 use gate_history::{Note, Pipe, Request, Verdict};
 use gate_parts::{
-    Calls, client_refusal, decide, draw, packet_count, row_of, wire_packet, write_route,
+    Calls, Outputs, client_refusal, decide, draw, packet_count, row_of, wire_packet, write_route,
     write_without_packets,
 };
 use redir_data::move_data;
@@ -101,10 +100,8 @@ impl Kept {
             → OnOk result (Does st (mark_as st (Opens (submission st request.now (Now status) [])) None) self.old self.new out.old out.new) }
         ensures err { OnErr result (StopsShort self.old self.new out.old out.new) }
     {
-        out.notes.push(Note::Submitted {
-            seqnum: request.number,
-            id: 0,
-        })?;
+        let seqnum = request.number;
+        out.notes.push(Note::Submitted { seqnum, id: 0 })?;
         write_without_packets(self.alloc, &request.asked(), status, &mut out.to_client)?;
         self.answered = self.answered.saturating_add(1);
         Ok(())
@@ -122,18 +119,15 @@ impl Kept {
         ensures err { OnErr result (StopsShort self.old self.new out.old out.new) }
     {
         let id = self.draw(self.last);
-        out.notes.push(Note::Submitted {
-            seqnum: request.number,
-            id,
-        })?;
         let Request {
-            number,
+            number: seqnum,
             is_in,
             flags,
             packets,
             descs,
             transfer,
         } = request;
+        out.notes.push(Note::Submitted { seqnum, id })?;
         let wanted = transfer.wanted;
         let kind = LiveKind::Wire {
             ep: transfer.ep,
@@ -142,7 +136,7 @@ impl Kept {
         let packet = wire_packet(pipe, transfer);
         move_data(packet, id, Way::ToHost, self.caps, &mut out.to_host)?;
         let live = Live {
-            seqnum: number,
+            seqnum,
             id,
             kind,
             is_in,
@@ -177,10 +171,8 @@ impl Kept {
         self.write_ends(&end, ESHUTDOWN, &mut out.to_client)?;
         let called = self.write_stops(Some(route), &mut out.to_host)?;
         let id = self.ask_route(&route, called.last, &mut out.to_host)?;
-        out.notes.push(Note::Submitted {
-            seqnum: request.number,
-            id,
-        })?;
+        let seqnum = request.number;
+        out.notes.push(Note::Submitted { seqnum, id })?;
         let live = row_of(request, LiveKind::Routed(route), id);
         self.open(live, id);
         self.drop_ended(&end);

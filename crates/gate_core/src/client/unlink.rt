@@ -17,10 +17,9 @@ ghost use Rattle.gate_core.specs.inner.Unlink.{asked_of, CancelFits, HasMarked, 
 ghost use Rattle.gate_core.specs.inner.Holds.{IsKept, Holds, Does, StopsShort};
 
 use crate::state::kept::Kept;
-use crate::write::outputs::Outputs;
 use gate_history::Note;
 use gate_history::errno::ECONNRESET;
-use gate_parts::{client_refusal, write_cancel, write_ret_unlink};
+use gate_parts::{Outputs, client_refusal, write_cancel, write_ret_unlink};
 use unlink_race::LiveKind;
 use usb_base::{Memory, Reason};
 use usbip_urb::Unlink;

@@ -10,14 +10,13 @@ ghost use Rattle.gate_history.specs.state.Sound.{IsSound};
 ghost use Rattle.gate_parts.specs.host.Fill.{up_fill, up_bytes, filled_notes};
 ghost use Rattle.gate_core.specs.inner.Fill.{HasJoined, joined_rows};
 ghost use Rattle.gate_core.specs.inner.Holds.{IsKept, Holds, Does, StopsShort, IsFree, CanWait};
-ghost use Rattle.gate_parts.specs.write.Extends.{Extends};
+ghost use Rattle.gate_parts.specs.write.Outputs.{with_answers, HasSome};
 
 use crate::state::kept::Kept;
-use crate::write::outputs::Outputs;
-use gate_history::{Note, Notes, Request};
-use gate_parts::{Up, row_of};
+use gate_history::{Note, Request};
+use gate_parts::{Outputs, Up, row_of};
 use unlink_race::LiveKind;
-use usb_base::{Bytes, EpRow, Memory};
+use usb_base::{EpRow, Memory};
 
 impl Kept {
     /// A request waits for packets of its endpoint's stream. It is started where it isn't up; one that is up keeps its
@@ -35,35 +34,25 @@ impl Kept {
         let Some(mut up) = self.streams.take(ep) else {
             return self.start(row, request, out);
         };
-        let joined = self.join(&mut up, request, &mut out.to_client, &mut out.notes);
+        let joined = self.join(&mut up, request, out);
         self.streams.put(ep, up);
         joined
     }
 
     /// A request waits for a stream that is up.
-    fn join(
-        &mut self,
-        up: &mut Up,
-        request: Request,
-        to_client: &mut Bytes,
-        notes: &mut Notes,
-    ) -> Result<(), Memory>
+    fn join(&mut self, up: &mut Up, request: Request, out: &mut Outputs) -> Result<(), Memory>
         requires kept { IsKept self.old }
         requires free { IsFree self.old request.number }
         requires waits { CanWait request }
         ensures kept { IsKept self.new }
         ensures joined { OnOk result (HasJoined up.old up.new request self.old self.new) }
-        ensures sent { OnOk result (to_client.new ≡ to_client.old ++ up_bytes request.transfer.ep up.old (joined_rows up.old request self.old)) }
-        ensures told { OnOk result (notes.new ≡ notes.old ++ Submitted request.number 0 ∷ filled_notes (up_fill request.transfer.ep up.old (joined_rows up.old request self.old))) }
+        ensures sent { OnOk result (out.new ≡ with_answers out.old (up_bytes request.transfer.ep up.old (joined_rows up.old request self.old)) (Submitted request.number 0 ∷ filled_notes (up_fill request.transfer.ep up.old (joined_rows up.old request self.old)))) }
         ensures same { OnErr result (self.new ≡ self.old) }
         ensures same_up { OnErr result (up.new ≡ up.old) }
-        ensures err { OnErr result (Extends to_client.old to_client.new) }
-        ensures err_notes { OnErr result (Extends notes.old notes.new) }
+        ensures err { OnErr result (HasSome out.old out.new) }
     {
-        notes.push(Note::Submitted {
-            seqnum: request.number,
-            id: 0,
-        })?;
+        let seqnum = request.number;
+        out.notes.push(Note::Submitted { seqnum, id: 0 })?;
         let ep = request.ep();
         let kind = LiveKind::Stream {
             ep,
@@ -71,7 +60,7 @@ impl Kept {
         };
         let live = row_of(request, kind, 0);
         self.lives.accept(live).unwrap();
-        match self.fill(ep, up, to_client, notes) {
+        match self.fill(ep, up, out) {
             Ok(()) => Ok(()),
             Err(memory) => {
                 self.lives.take_last();
@@ -91,10 +80,8 @@ impl Kept {
             → OnOk result (Does st (mark_as st (accepts st request (Stream row)) None) self.old self.new out.old out.new) }
         ensures err { OnErr result (StopsShort self.old self.new out.old out.new) }
     {
-        out.notes.push(Note::Submitted {
-            seqnum: request.number,
-            id: 0,
-        })?;
+        let seqnum = request.number;
+        out.notes.push(Note::Submitted { seqnum, id: 0 })?;
         let ep = request.ep();
         let called = self.write_start(ep, row, &mut out.to_host)?;
         let kind = LiveKind::Stream {

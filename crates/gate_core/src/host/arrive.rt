@@ -10,13 +10,12 @@ ghost use Rattle.gate_history.specs.step.Wants.{GivesSome};
 ghost use Rattle.gate_parts.specs.host.Fill.{up_fill, up_bytes, filled_notes};
 ghost use Rattle.gate_core.specs.inner.Fill.{HasEnded, HasReceived, received_bytes, received_notes};
 ghost use Rattle.gate_core.specs.inner.Holds.{IsKept, Holds, Does, StopsShort};
-ghost use Rattle.gate_parts.specs.write.Extends.{Extends};
+ghost use Rattle.gate_parts.specs.write.Outputs.{with_answers, HasSome};
 
 use crate::state::kept::Kept;
-use crate::write::outputs::Outputs;
-use gate_history::{Note, Notes};
-use gate_parts::{StreamIn, Up, finish_fronts, write_fillings};
-use usb_base::{Bytes, EpAddr, Memory, StreamPacket};
+use gate_history::Note;
+use gate_parts::{Outputs, StreamIn, Up, finish_fronts, write_fillings};
+use usb_base::{EpAddr, Memory, StreamPacket};
 
 impl Kept {
     /// A packet comes from an endpoint. It means nothing where no stream of that is up.
@@ -39,14 +38,7 @@ impl Kept {
         let Some(mut up) = self.streams.take(ep) else {
             return Ok(());
         };
-        let received = self.receive(
-            ep,
-            &mut up,
-            stream.is_iso,
-            packet,
-            &mut out.to_client,
-            &mut out.notes,
-        );
+        let received = self.receive(ep, &mut up, stream.is_iso, packet, out);
         self.streams.put(ep, up);
         received
     }
@@ -58,24 +50,21 @@ impl Kept {
         up: &mut Up,
         is_iso: bool,
         packet: StreamPacket,
-        to_client: &mut Bytes,
-        notes: &mut Notes,
+        out: &mut Outputs,
     ) -> Result<(), Memory>
         requires kept { IsKept self.old }
         ensures kept { IsKept self.new }
         ensures received { OnOk result (HasReceived ep is_iso packet up.old up.new self.old self.new) }
-        ensures sent { OnOk result (to_client.new ≡ to_client.old ++ received_bytes ep is_iso packet up.old self.old.lives.live) }
-        ensures told { OnOk result (notes.new ≡ notes.old ++ Arrived ep ∷ received_notes ep is_iso packet up.old self.old.lives.live) }
+        ensures sent { OnOk result (out.new ≡ with_answers out.old (received_bytes ep is_iso packet up.old self.old.lives.live) (Arrived ep ∷ received_notes ep is_iso packet up.old self.old.lives.live)) }
         ensures same { OnErr result (self.new ≡ self.old) }
         ensures same_up { OnErr result (up.new ≡ up.old) }
-        ensures err { OnErr result (Extends to_client.old to_client.new) }
-        ensures err_notes { OnErr result (Extends notes.old notes.new) }
+        ensures err { OnErr result (HasSome out.old out.new) }
     {
-        notes.push(Note::Arrived { ep })?;
+        out.notes.push(Note::Arrived { ep })?;
         if up.is_iso() != is_iso || !up.receive(packet)? {
             return Ok(());
         }
-        match self.fill(ep, up, to_client, notes) {
+        match self.fill(ep, up, out) {
             Ok(()) => Ok(()),
             Err(memory) => {
                 up.withdraw();
@@ -85,24 +74,16 @@ impl Kept {
     }
 
     /// The requests that the packets of a stream fill are answered, and gone with those packets.
-    pub fn fill(
-        &mut self,
-        ep: EpAddr,
-        up: &mut Up,
-        to_client: &mut Bytes,
-        notes: &mut Notes,
-    ) -> Result<(), Memory>
+    pub fn fill(&mut self, ep: EpAddr, up: &mut Up, out: &mut Outputs) -> Result<(), Memory>
         requires kept { IsKept self.old }
         ensures kept { IsKept self.new }
         ensures ended { OnOk result (HasEnded ep up.old up.new self.old self.new) }
-        ensures sent { OnOk result (to_client.new ≡ to_client.old ++ up_bytes ep up.old self.old.lives.live) }
-        ensures told { OnOk result (notes.new ≡ notes.old ++ filled_notes (up_fill ep up.old self.old.lives.live)) }
+        ensures sent { OnOk result (out.new ≡ with_answers out.old (up_bytes ep up.old self.old.lives.live) (filled_notes (up_fill ep up.old self.old.lives.live))) }
         ensures same { OnErr result (self.new ≡ self.old) }
         ensures same_up { OnErr result (up.new ≡ up.old) }
-        ensures err { OnErr result (Extends to_client.old to_client.new) }
-        ensures err_notes { OnErr result (Extends notes.old notes.new) }
+        ensures err { OnErr result (HasSome out.old out.new) }
     {
-        let filled = write_fillings(self.alloc, &self.lives, ep, up, to_client, notes)?;
+        let filled = write_fillings(self.alloc, &self.lives, ep, up, out)?;
         finish_fronts(&mut self.lives, ep, filled.requests);
         up.skip(filled.packets);
         self.answered = self.answered.saturating_add(filled.requests as u64);

@@ -17,9 +17,8 @@ ghost use Rattle.gate_parts.specs.write.Extends.{Extends};
 ghost use Rattle.gate_parts.specs.state.Rows.{lost_bytes, is_asked_back};
 
 use crate::state::kept::Kept;
-use crate::write::outputs::Outputs;
 use gate_history::{Facts, Note, Notes};
-use gate_parts::{acknowledge, write_lost};
+use gate_parts::{Outputs, acknowledge, write_lost};
 use usb_base::{Bytes, Memory, Refusal};
 
 impl Kept {

@@ -26,11 +26,10 @@ ghost use Rattle.gate_core.specs.inner.Holds.{IsKept, Holds, Does, StopsShort};
 ghost use Rattle.gate_history.specs.step.Fits.{ResponseFits, ToldFits};
 
 use crate::state::kept::Kept;
-use crate::write::outputs::Outputs;
 use gate_history::Note;
 use gate_parts::{
-    Response, data_of, head_size, lifted, mismatch, status_of, stream_in, stream_packet,
-    write_completed,
+    Outputs, Response, data_of, has_won, head_size, lifted, mismatch, status_of, stream_in,
+    stream_packet, write_completed,
 };
 use redir_data::{RedirData, RedirPacket};
 use redir_wire::{ANNOUNCED, Caps, Header, Hello, RedirControl};
@@ -254,14 +253,9 @@ impl Kept {
             self.lives.finish_at(at);
             return Ok(());
         };
-        let won = write_completed(
-            self.alloc,
-            live,
-            response,
-            &mut out.to_client,
-            &mut out.notes,
-        )?;
+        let ending = write_completed(self.alloc, live, response, out)?;
         self.lives.finish_at(at);
+        let won = has_won(ending);
         self.answered = self.answered.saturating_add(u64::from(!won));
         self.unlinked = self.unlinked.saturating_add(u64::from(won));
         Ok(())

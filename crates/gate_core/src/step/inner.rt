@@ -11,8 +11,8 @@ ghost use Rattle.gate_core.specs.inner.Sides.{IsSide, IsAt, FitsNext, TakesPiece
 use crate::state::kept::Kept;
 use crate::step::side::GateSide;
 use crate::step::translator::Translator;
-use crate::write::outputs::Outputs;
 use gate_history::{Event, Item};
+use gate_parts::Outputs;
 use packet_stream::{ReadError, Stream};
 use redir_data::{FromHost, RedirState};
 use std::alloc::Global;

@@ -14,7 +14,7 @@ use Rattle.unlink_race.specs.declared.live.Live.{Live}
 use Rattle.unlink_race.specs.declared.live.LiveKind.{LiveKind}
 use Rattle.unlink_race.specs.declared.live.LiveKind.TheVariants as live_kind
 use Rattle.unlink_race.specs.declared.ending.Ending.{Ending}
-use Rattle.unlink_race.specs.declared.ending.Ending.TheVariants.{Completed, Unlinked, CompletedThenLate}
+use Rattle.unlink_race.specs.declared.ending.Ending.TheVariants.{Unlinked}
 use Rattle.gate_parts.specs.declared.host.response.Response.{Response as RawResponse}
 use Rattle.gate_parts.specs.declared.host.response.Response.TheVariants as raw
 use Rattle.gate_parts.specs.declared.host.response.StreamIn.{StreamIn}
@@ -35,10 +35,9 @@ status_outcome status tells value = got (status_of status) (if tells then value 
 
 -- the IN endpoint of whose stream a packet is, and whether it is an isochronous one
 abbrev pub stream_in : RedirData → Option StreamIn
-stream_in (data_packet.Control endpoint request kind status value index length body) = None
-stream_in (data_packet.Bulk endpoint status length stream body) = None
 stream_in (data_packet.Interrupt endpoint status length body) = if is_in_endpoint endpoint then Some (record { endpoint = endpoint; is_iso = false }) else None
 stream_in (data_packet.Iso endpoint status length body) = if is_in_endpoint endpoint then Some (record { endpoint = endpoint; is_iso = true }) else None
+stream_in _ = None
 
 abbrev pub packet_in : RedirData → StreamPacket
 packet_in (data_packet.Control endpoint request kind status value index length body) = record { status = status_of status; body = body }
@@ -52,9 +51,7 @@ packet_in (data_packet.Iso endpoint status length body) = record { status = stat
 abbrev pub wire_answer : EpKind → ℕ
 wire_answer kind.Control = 100
 wire_answer kind.Interrupt = 103
-wire_answer kind.Bulk = 101
-wire_answer kind.Iso = 101
-wire_answer kind.Invalid = 101
+wire_answer _ = 101
 
 abbrev pub row_answer : LiveKind → ℕ
 row_answer (live_kind.Wire ep kind) = wire_answer kind
@@ -68,9 +65,8 @@ row_ep (live_kind.Routed route) = 0
 row_ep (live_kind.Stream ep interface) = ep
 
 abbrev pub row_gets : LiveKind → Bool
-row_gets (live_kind.Wire ep kind) = false
 row_gets (live_kind.Routed route) = route_gets route
-row_gets (live_kind.Stream ep interface) = false
+row_gets _ = false
 
 abbrev pub row_mismatch : ℕ → ℕ → Live → ℕ → Response → Option Refusal
 row_mismatch place head l kind (Status status value) = if kind == row_answer l.kind then None else Some (mismatched place (row_answer l.kind) kind)
@@ -93,9 +89,8 @@ completes id response None = Idle
 completes id response (Some s) = Answers id (seen s.request s.verdict response)
 
 abbrev pub has_won : Ending → Bool
-has_won Completed = false
 has_won (Unlinked by) = true
-has_won (CompletedThenLate by) = false
+has_won _ = false
 
 -- the answers of one request: its unlink has won, or it is answered itself
 pub record IsCounted (packets : List ClientPacket) (won : Bool) : Type 0 where

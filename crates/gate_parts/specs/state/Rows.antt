@@ -61,8 +61,7 @@ left_row s = row_of s None
 
 abbrev pub is_wire_row : LiveKind → Bool
 is_wire_row (live_kind.Wire ep kind) = true
-is_wire_row (live_kind.Routed route) = false
-is_wire_row (live_kind.Stream ep interface) = false
+is_wire_row _ = false
 
 pub record IsRowOf (s : Submission) (l : Live) : Type 0 where
   pub number : l.seqnum ≡ s.request.number

@@ -1,6 +1,6 @@
 //! The requests that the packets of their stream fill: their answers first, and then they go.
 
-ghost use Rattle.std.specs.Prelude.{◌≡◌, ◌++◌, ◌+◌, ◌<◌, ◌≤◌, [], length, OnOk, OnErr, IfOk};
+ghost use Rattle.std.specs.Prelude.{◌≡◌, ◌+◌, ◌<◌, ◌≤◌, length, OnOk, OnErr, IfOk};
 ghost use Rattle.std.specs.List.{AllByRecursion};
 ghost use Rattle.usbip_urb.specs.declared.code.TheConstants.{MAX_LIVE};
 ghost use Rattle.stream_buffers.specs.declared.inbox.TheConstants.{MAX_HELD};
@@ -8,14 +8,15 @@ ghost use Rattle.unlink_race.specs.Searches.{waits_for};
 ghost use Rattle.redir_wire.specs.declared.packet.Caps.{Caps};
 ghost use Rattle.gate_parts.specs.state.Rows.{IsFine};
 ghost use Rattle.gate_parts.specs.host.Fill.{up_fill, up_bytes, filled_notes, HasFilled, without_firsts};
-ghost use Rattle.gate_parts.specs.write.Extends.{Extends};
+ghost use Rattle.gate_parts.specs.write.Outputs.{with_answers, HasSome};
 
 use crate::host::filling::write_filling;
 use crate::state::streams::Up;
-use gate_history::{Note, Notes};
+use crate::write::outputs::Outputs;
+use gate_history::Note;
 use std::alloc::Global;
 use unlink_race::Lives;
-use usb_base::{Bytes, EpAddr, Memory};
+use usb_base::{EpAddr, Memory};
 
 /// How many of the requests that wait for a stream its packets fill, and how many packets these take.
 #[derive(Clone, Copy)]
@@ -45,16 +46,13 @@ pub fn write_fillings(
     lives: &Lives,
     ep: EpAddr,
     up: &mut Up,
-    to_client: &mut Bytes,
-    notes: &mut Notes,
+    out: &mut Outputs,
 ) -> Result<Filled, Memory>
     requires { (caps : Caps) × AllByRecursion (IsFine caps) lives.now.live }
     ensures same { up.new ≡ up.old }
     ensures filled { IfOk result (HasFilled ep up.old lives.now.live) }
-    ensures sent { OnOk result (to_client.new ≡ to_client.old ++ up_bytes ep up.old lives.now.live) }
-    ensures told { OnOk result (notes.new ≡ notes.old ++ filled_notes (up_fill ep up.old lives.now.live)) }
-    ensures err { OnErr result (Extends to_client.old to_client.new) }
-    ensures err_notes { OnErr result (Extends notes.old notes.new) }
+    ensures sent { OnOk result (out.new ≡ with_answers out.old (up_bytes ep up.old lives.now.live) (filled_notes (up_fill ep up.old lives.now.live))) }
+    ensures err { OnErr result (HasSome out.old out.new) }
     ensures wants { OnErr result (0 < length (up_fill ep up.old lives.now.live).fillings) }
 {
     let mut filled = Filled {
@@ -69,10 +67,10 @@ pub fn write_fillings(
         let Some(live) = lives.waiting(ep, nth) else {
             return Ok(filled);
         };
-        let Some(taken) = write_filling(alloc, live, up, filled.packets, to_client)? else {
+        let Some(taken) = write_filling(alloc, live, up, filled.packets, &mut out.to_client)? else {
             return Ok(filled);
         };
-        notes.push(Note::Answered {
+        out.notes.push(Note::Answered {
             seqnum: live.seqnum,
         })?;
         filled = filled.and(taken);

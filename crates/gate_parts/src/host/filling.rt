@@ -44,53 +44,21 @@ pub fn write_filling(
     ensures wants { OnErr result (IsSome (row_cut up.old.row.max_packet live.now (drop from up.old.held))) }
 {
     let before = out.len();
-    let pushed = push_filling(alloc, live, up, from, out);
-    out.cut_on_err(before, pushed)
-}
-
-// For want of memory some of the bytes may be there.
-fn push_filling(
-    alloc: Global,
-    live: &Live,
-    up: &mut Up,
-    from: usize,
-    out: &mut Bytes,
-) -> Result<Option<usize>, Memory>
-    requires from { from ≤ length up.old.held }
-    requires few_bytes { live.now.wanted ≤ MAX_LENGTH }
-    requires lies { IsTrue (laid live.now.descs live.now.wanted) }
-    ensures same { up.new ≡ up.old }
-    ensures taken { IfOk result (λ taken. HasTaken taken (drop from up.old.held) (row_cut up.old.row.max_packet live.now (drop from up.old.held))) }
-    ensures sent { AppendsSome result out.old out.new (cut_bytes live.now (row_cut up.old.row.max_packet live.now (drop from up.old.held))) }
-    ensures wants { OnErr result (IsSome (row_cut up.old.row.max_packet live.now (drop from up.old.held))) }
-{
     if live.descs.is_empty() {
-        push_interrupt(alloc, live, up, from, out)
+        let Some(filling) = up.filling(from, live.wanted) else {
+            return Ok(None);
+        };
+        let pushed = push_transferred(alloc, live, up, from, filling, out);
+        out.cut_on_err(before, pushed)?;
+        Ok(Some(filling.count))
     } else {
-        push_iso(alloc, live, up, from, out)
+        let Some(filling) = up.inbox().iso_filling(from, &live.descs) else {
+            return Ok(None);
+        };
+        let pushed = push_pieces(alloc, live, up, from, filling, out);
+        out.cut_on_err(before, pushed)?;
+        Ok(Some(live.descs.len()))
     }
-}
-
-// That of an interrupt request.
-fn push_interrupt(
-    alloc: Global,
-    live: &Live,
-    up: &mut Up,
-    from: usize,
-    out: &mut Bytes,
-) -> Result<Option<usize>, Memory>
-    requires from { from ≤ length up.old.held }
-    requires none { live.now.descs ≡ [] }
-    ensures same { up.new ≡ up.old }
-    ensures taken { IfOk result (λ taken. HasTaken taken (drop from up.old.held) (interrupt_given up.old.row.max_packet live.now (drop from up.old.held))) }
-    ensures sent { AppendsSome result out.old out.new (cut_bytes live.now (interrupt_given up.old.row.max_packet live.now (drop from up.old.held))) }
-    ensures wants { OnErr result (IsSome (interrupt_given up.old.row.max_packet live.now (drop from up.old.held))) }
-{
-    let Some(filling) = up.filling(from, live.wanted) else {
-        return Ok(None);
-    };
-    push_transferred(alloc, live, up, from, filling, out)?;
-    Ok(Some(filling.count))
 }
 
 // The bytes of these packets fill it.
@@ -109,28 +77,6 @@ fn push_transferred(
     push_front(alloc, live, filling.status.errno(), filling.done, 0, out)?;
     up.inbox().append_bodies(from, filling, out)?;
     Ok(())
-}
-
-// That of an isochronous request.
-fn push_iso(
-    alloc: Global,
-    live: &Live,
-    up: &Up,
-    from: usize,
-    out: &mut Bytes,
-) -> Result<Option<usize>, Memory>
-    requires from { from ≤ length up.now.held }
-    requires few_bytes { live.now.wanted ≤ MAX_LENGTH }
-    requires lies { IsTrue (laid live.now.descs live.now.wanted) }
-    ensures taken { IfOk result (λ taken. HasTaken taken (drop from up.now.held) (iso_given live.now (drop from up.now.held))) }
-    ensures sent { AppendsSome result out.old out.new (cut_bytes live.now (iso_given live.now (drop from up.now.held))) }
-    ensures wants { OnErr result (IsSome (iso_given live.now (drop from up.now.held))) }
-{
-    let Some(filling) = up.inbox().iso_filling(from, &live.descs) else {
-        return Ok(None);
-    };
-    push_pieces(alloc, live, up, from, filling, out)?;
-    Ok(Some(live.descs.len()))
 }
 
 // These packets fill it, one for each descriptor.

@@ -4,10 +4,9 @@
 ghost use Rattle.std.specs.Prelude.{◌≡◌, ◌≤◌, ◌++◌, ◌∷◌, [], true, false, length, zip, All, OnOk, OnErr, None, ◌<◌};
 ghost use Rattle.std.specs.List.{flat_map};
 ghost use Rattle.redir_wire.specs.Header.{IdFits};
-ghost use Rattle.redir_wire.specs.Capability.{has, no_caps};
-ghost use Rattle.redir_wire.specs.declared.packet.RedirControl.TheVariants.{Cancel, DisconnectAck, Reset as ResetPacket, GetConfiguration as GetConfigurationPacket};
+ghost use Rattle.redir_wire.specs.Capability.{no_caps};
+ghost use Rattle.redir_wire.specs.declared.packet.RedirControl.TheVariants.{Cancel, Reset as ResetPacket, GetConfiguration as GetConfigurationPacket};
 ghost use Rattle.redir_data.specs.declared.packet.RedirPacket.TheVariants.{Plain, Carrying};
-ghost use Rattle.redir_data.specs.declared.packet.RedirData.TheVariants as data_packet;
 ghost use Rattle.gate_history.specs.write.Packets.{wire_packet, route_packets, start_packet, stop_packet};
 ghost use Rattle.gate_history.specs.write.Bytes.{host_packet_bytes, gateway_hello};
 ghost use Rattle.gate_history.specs.state.Flight.{wide_ids};
@@ -20,7 +19,7 @@ use crate::state::streams::Up;
 use crate::write::field::field;
 use control_route::Route;
 use gate_history::Pipe;
-use redir_data::{RedirData, write_iso_out};
+use redir_data::RedirData;
 use redir_wire::{ANNOUNCED, Caps, DISCONNECT_ACK, Hello, RedirControl, Words, write_control};
 use std::alloc::Global;
 use unlink_race::{Live, LiveKind};
@@ -169,22 +168,6 @@ pub fn write_stop(up: &Up, id: u64, caps: Caps, out: &mut Bytes) -> Result<(), M
     }
 }
 
-/// Appends an isochronous packet to the device with these data. For want of memory `out` stands.
-pub fn write_iso(
-    ep: EpAddr,
-    body: &[u8],
-    id: u64,
-    caps: Caps,
-    out: &mut Bytes,
-) -> Result<(), Memory>
-    requires few { length body.now ≤ 65535 }
-    requires id_fits { IdFits (wide_ids caps) id }
-    ensures ok { OnOk result (out.new ≡ out.old ++ host_packet_bytes caps (id, Carrying (data_packet.Iso ep 0 (length body.now) body.now))) }
-    ensures err { OnErr result (out.new ≡ out.old) }
-{
-    write_iso_out(ep.byte(), body, id, caps, out)
-}
-
 /// Appends the cancel of the packet that has this id. For want of memory `out` stands.
 pub fn write_cancel(id: u64, caps: Caps, out: &mut Bytes) -> Result<(), Memory>
     requires { IdFits (wide_ids caps) id }
@@ -192,17 +175,6 @@ pub fn write_cancel(id: u64, caps: Caps, out: &mut Bytes) -> Result<(), Memory>
     ensures err { OnErr result (out.new ≡ out.old) }
 {
     write_control(&RedirControl::Cancel, id, caps, out)
-}
-
-/// Appends the acknowledgement of the disconnect that has this id, which is sent where capability 3 is agreed. For want
-/// of memory `out` stands.
-pub fn write_disconnect_ack(id: u64, caps: Caps, out: &mut Bytes) -> Result<(), Memory>
-    requires agreed { has caps 3 ≡ true }
-    requires id_fits { IdFits (wide_ids caps) id }
-    ensures ok { OnOk result (out.new ≡ out.old ++ host_packet_bytes caps (id, Plain DisconnectAck)) }
-    ensures err { OnErr result (out.new ≡ out.old) }
-{
-    write_control(&RedirControl::DisconnectAck, id, caps, out)
 }
 
 /// Appends the gateway's hello: its name, and the capabilities that it announces. For want of memory `out` stands.
@@ -240,7 +212,7 @@ pub fn acknowledge(id: u64, caps: Caps, to_host: &mut Bytes) -> Result<(), Memor
     ensures wants { OnErr result (0 < length (acknowledgements caps (Disconnects id))) }
 {
     if caps.has(DISCONNECT_ACK) {
-        write_disconnect_ack(id, caps, to_host)?;
+        write_control(&RedirControl::DisconnectAck, id, caps, to_host)?;
     }
     Ok(())
 }

@@ -12,19 +12,22 @@ ghost use Rattle.gate_history.specs.declared.note.Note.TheVariants.{Answered};
 ghost use Rattle.gate_history.specs.host.Responses.{seen};
 ghost use Rattle.gate_parts.specs.host.Responses.{response_view, IsAnswer, IsCounted, has_won};
 ghost use Rattle.gate_parts.specs.write.Extends.{Extends};
+ghost use Rattle.unlink_race.specs.Endings.{ending_of};
 ghost use Rattle.unlink_race.specs.Searches.{ended_by};
+ghost use Rattle.gate_parts.specs.write.Outputs.{with_answers};
 
 use crate::host::response::{Response, gets, seen};
 use crate::write::answer::{write_outcome, write_ret_unlink, write_without_packets};
+use crate::write::outputs::Outputs;
 use gate_history::errno::{ECONNRESET, ESHUTDOWN};
-use gate_history::{AnsweredSubmit, Note, Notes, Request};
+use gate_history::{AnsweredSubmit, Note, Request};
 use std::alloc::Global;
 use unlink_race::{Ending, Live, LiveKind, StreamEnd, ending_of};
 use usb_base::{Bytes, Memory, Outcome};
 
 /// What the answer of a request in flight has of its submit.
 pub fn asked_by(live: &Live) -> AnsweredSubmit<'_>
-    ensures { asked_view result ≡ record { number = live.now.seqnum; is_in = live.now.is_in; flags = live.now.flags; packets = live.now.packets; descs = live.now.descs; transfer = record { ep = 0; setup = None; wanted = live.now.wanted; body = [] } } }
+    ensures { asked_view result ≡ row_request live.now }
 {
     AnsweredSubmit {
         number: live.seqnum,
@@ -59,24 +62,27 @@ pub fn write_ended(alloc: Global, live: &Live, status: i32, out: &mut Bytes) -> 
 }
 
 /// Appends the answers of a request that the host has answered so: its own, its unlink's, or both. The outcome's body
-/// is moved to `out`, by one copy where it is short; `out` stands for want of memory.
+/// is moved to `out`, by one copy where it is short; `out` stands for want of memory. It gives how the request ends.
 pub fn write_answers(
     alloc: Global,
     live: &Live,
     outcome: Outcome,
     out: &mut Bytes,
-) -> Result<(), Memory>
+) -> Result<Ending, Memory>
     requires asked { HasItsPackets live.now.packets live.now.descs }
     requires moved { IsMoved live.now.is_in outcome }
+    ensures ending { IfOk result (λ ending. ending ≡ ending_of live.now.unlinker live.now.kind outcome.status) }
     ensures ok { (s : Submission) → IsRowOf s live.now → OnOk result (out.new ≡ out.old ++ flat_map spelling (answers_by s outcome live.now.unlinker)) }
     ensures err { OnErr result (out.new ≡ out.old) }
 {
     let asked = asked_by(live);
-    match ending_of(live, outcome.status) {
-        Ending::Completed => write_outcome(alloc, &asked, outcome, out),
-        Ending::Unlinked { by } => write_ret_unlink(by, ECONNRESET, out),
-        Ending::CompletedThenLate { by } => write_late(alloc, &asked, outcome, by, out),
+    let ending = ending_of(live, outcome.status);
+    match ending {
+        Ending::Completed => write_outcome(alloc, &asked, outcome, out)?,
+        Ending::Unlinked { by } => write_ret_unlink(by, ECONNRESET, out)?,
+        Ending::CompletedThenLate { by } => write_late(alloc, &asked, outcome, by, out)?,
     }
+    Ok(ending)
 }
 
 // The unlink `by` came too late.
@@ -98,33 +104,31 @@ fn write_late(
     out.cut_on_err(before, answered)
 }
 
-/// Tells that a request was answered, and appends its answers. It gives whether its unlink has won.
+/// Tells that a request was answered, and appends its answers. It gives how the request ends.
 pub fn write_completed(
     alloc: Global,
     live: &Live,
     response: Response,
-    to_client: &mut Bytes,
-    notes: &mut Notes,
-) -> Result<bool, Memory>
+    out: &mut Outputs,
+) -> Result<Ending, Memory>
     requires packets { HasItsPackets live.now.packets live.now.descs }
     requires read { (live.now.wanted ≡ 0) ⊎ IsRead live.now.is_in live.now.kind }
     requires answer { IsAnswer live.now (response_view response) }
-    ensures ok { (s : Submission) → row_of s live.now.unlinker ≡ live.now → OnOk result (to_client.new ≡ to_client.old ++ flat_map spelling (answers_by s (seen s.request s.verdict (response_view response)) live.now.unlinker)) }
-    ensures counted { (s : Submission) → row_of s live.now.unlinker ≡ live.now → IfOk result (IsCounted (map Urb (answers_by s (seen s.request s.verdict (response_view response)) live.now.unlinker))) }
-    ensures notes { OnOk result (notes.new ≡ notes.old ++ Answered live.now.seqnum ∷ []) }
-    ensures err { OnErr result (to_client.new ≡ to_client.old) }
-    ensures err_notes { OnErr result (Extends notes.old notes.new) }
+    ensures ok { (s : Submission) → row_of s live.now.unlinker ≡ live.now
+        → OnOk result (out.new ≡ with_answers out.old (flat_map spelling (answers_by s (seen s.request s.verdict (response_view response)) live.now.unlinker)) (Answered live.now.seqnum ∷ [])) }
+    ensures counted { (s : Submission) → row_of s live.now.unlinker ≡ live.now
+        → IfOk result (λ ending. IsCounted (map Urb (answers_by s (seen s.request s.verdict (response_view response)) live.now.unlinker)) (has_won ending)) }
+    ensures err { OnErr result (out.new ≡ record out.old { notes = out.new.notes }) }
+    ensures err_notes { OnErr result (Extends out.old.notes out.new.notes) }
 {
     let outcome = seen(alloc, gets(&live.kind), live.wanted, response)?;
-    let ending = ending_of(live, outcome.status);
-    notes.push(Note::Answered {
+    out.notes.push(Note::Answered {
         seqnum: live.seqnum,
     })?;
-    write_answers(alloc, live, outcome, to_client)?;
-    Ok(has_won(ending))
+    write_answers(alloc, live, outcome, &mut out.to_client)
 }
 
-/// Whether a request ends by its unlink.
+/// Whether a request ends by its unlink, which has won.
 pub fn has_won(ending: Ending) -> bool
     ensures { result ≡ has_won ending }
 {

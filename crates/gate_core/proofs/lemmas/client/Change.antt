@@ -14,7 +14,7 @@ use Rattle.unlink_race.specs.declared.live.StreamEnd.TheVariants.{Change}
 use Rattle.unlink_race.specs.Searches.{touched_by}
 use Rattle.gate_history.specs.declared.note.Note.{Note}
 use Rattle.gate_history.specs.declared.note.Note.TheVariants as note
-use Rattle.gate_core.specs.declared.write.outputs.Outputs.{Outputs}
+use Rattle.gate_parts.specs.declared.write.outputs.Outputs.{Outputs}
 use Rattle.gate_core.specs.declared.state.kept.Kept.{Kept}
 use Rattle.usb_base.specs.Number.{capped}
 use Rattle.gate_history.specs.declared.errno.TheConstants.{ESHUTDOWN}

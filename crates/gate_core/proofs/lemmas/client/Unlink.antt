@@ -14,7 +14,7 @@ use Rattle.redir_data.specs.declared.packet.RedirPacket.TheVariants.{Plain}
 use Rattle.unlink_race.specs.declared.live.Live.{Live}
 use Rattle.unlink_race.specs.Searches.{has_number}
 use Rattle.gate_history.specs.declared.note.Note.TheVariants as note
-use Rattle.gate_core.specs.declared.write.outputs.Outputs.{Outputs}
+use Rattle.gate_parts.specs.declared.write.outputs.Outputs.{Outputs}
 use Rattle.gate_core.specs.declared.state.kept.Kept.{Kept}
 use Rattle.gate_core.specs.declared.client.unlink.UnlinkAnswer.{UnlinkAnswer}
 use Rattle.usb_base.specs.Number.{capped}

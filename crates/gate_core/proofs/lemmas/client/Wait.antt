@@ -14,7 +14,7 @@ use Rattle.unlink_race.specs.declared.live.LiveKind.TheVariants as live_kind
 use Rattle.unlink_race.specs.Searches.{waits_for, has_number}
 use Rattle.gate_history.specs.declared.note.Note.{Note}
 use Rattle.gate_history.specs.declared.note.Note.TheVariants as note
-use Rattle.gate_core.specs.declared.write.outputs.Outputs.{Outputs}
+use Rattle.gate_parts.specs.declared.write.outputs.Outputs.{Outputs}
 use Rattle.gate_core.specs.declared.state.kept.Kept.{Kept}
 use Rattle.usb_base.specs.Number.{capped}
 use Rattle.gate_history.specs.declared.request.Request.{Request}
@@ -34,6 +34,7 @@ use Rattle.gate_history.specs.write.Output.{fresh, present}
 use Rattle.gate_history.specs.write.Bytes.{host_packet_bytes}
 use Rattle.gate_parts.specs.state.Rows.{row, row_for}
 use Rattle.gate_parts.specs.host.Fill.{filled_notes, waiting_rows, without_firsts, up_fill, up_bytes}
+use Rattle.gate_parts.specs.write.Outputs.{with_answers}
 use Rattle.gate_core.specs.inner.Fill.{joining_row, with_row, HasJoined}
 use Rattle.gate_core.specs.inner.Holds.{IsKept, Holds, Does}
 use Rattle.gate_history.proofs.lemmas.Lists.{Each, Each-append}
@@ -108,20 +109,19 @@ accepts-up st r told up at =
     ap (λ (v : Verdict). accepted_as st (submission st r v (drawn_for st r v)) v) (ap (λ (o : Option Up). by_stream o (Stream told)) at)
     ∙ ap (λ (o : Option Up). Waits (submission st r (Stream up.row) []) (fill up.row.max_packet (waiting st r.transfer.ep ++ r ∷ []) (held_of o))) at
 
-pub does-join : (st : State) (sound : IsSound st) (r : Request) (told : EpRow) (up up_new : Up) (old emptied mid new : Kept) (out : Outputs) (client_new : List ℕ) (notes_new : List Note) → Holds old st → IsKept old →
+pub does-join : (st : State) (sound : IsSound st) (r : Request) (told : EpRow) (up up_new : Up) (old emptied mid new : Kept) (out out_new : Outputs) → Holds old st → IsKept old →
     list_any (has_number r.number) old.lives.live ≡ false → stream_at old.streams r.transfer.ep ≡ Some up →
     emptied ≡ record old { streams = slice_set old.streams (endpoint_index r.transfer.ep) None } →
     HasJoined up up_new r emptied mid →
     new ≡ record mid { streams = slice_set mid.streams (endpoint_index r.transfer.ep) (Some up_new) } →
-    client_new ≡ out.to_client ++ up_bytes r.transfer.ep up (emptied.lives.live ++ joining_row up r ∷ []) →
-    notes_new ≡ out.notes ++ note.Submitted r.number 0 ∷ filled_notes (up_fill r.transfer.ep up (emptied.lives.live ++ joining_row up r ∷ [])) →
-    Does st (mark_as st (accepts st r (Stream told)) None) old new out (record out { to_client = client_new; notes = notes_new })
-does-join st sound r told up up_new old emptied mid new out client_new notes_new h k free at emptied-is joined is client notes =
+    out_new ≡ with_answers out (up_bytes r.transfer.ep up (emptied.lives.live ++ joining_row up r ∷ [])) (note.Submitted r.number 0 ∷ filled_notes (up_fill r.transfer.ep up (emptied.lives.live ++ joining_row up r ∷ []))) →
+    Does st (mark_as st (accepts st r (Stream told)) None) old new out out_new
+does-join st sound r told up up_new old emptied mid new out out_new h k free at emptied-is joined is gives =
     let there : stream_at st.streams r.transfer.ep ≡ Some up = ap (λ (ups : List (Option Up)). stream_at ups r.transfer.ep) (sym h.streams) ∙ at in
     let same = ap (λ (t : Kept). t.lives.live) emptied-is in
-    subst (λ (x : Effect). Does st (mark_as st x None) old new out (record out { to_client = client_new; notes = notes_new })) (sym (accepts-up st r told up there))
+    subst (λ (x : Effect). Does st (mark_as st x None) old new out out_new) (sym (accepts-up st r told up there))
     (does-fill-up st (e st sound r up.row up.held) up.row.max_packet r.transfer.ep up.held refl (fills st sound r up.row up.held) (all st sound r up.row up.held old.lives.live h.live free)
-    up up_new old (with_row (joining_row up r) emptied) mid new out (record out { to_client = client_new; notes = notes_new }) (f st sound r up.row up.held) h k.unlinked_fits k.dropped_fits at refl
+    up up_new old (with_row (joining_row up r) emptied) mid new out out_new (f st sound r up.row up.held) h k.unlinked_fits k.dropped_fits at refl
     (filled st sound r up.row up.held)
     (ap (λ (o : Option Up). next_ids st (length (starts o r.transfer.ep up.row))) there)
     (ap (λ (o : Option Up). hold r.transfer.ep (f st sound r up.row up.held).left (cond (is_some o) old.streams (slice_set old.streams (endpoint_index r.transfer.ep) (Some (record { ep = r.transfer.ep; row = up.row; held = [] }))))) at)
@@ -129,7 +129,7 @@ does-join st sound r told up up_new old emptied mid new out client_new notes_new
     (ap (λ (t : Kept). with_row (joining_row up r) t) emptied-is ∙ ap (λ (ls : List Live). record old { lives = record { live = ls ++ joining_row up r ∷ []; abandoned = old.lives.abandoned }; streams = slice_set old.streams (endpoint_index r.transfer.ep) None }) (sym same)
     ∙ ap (λ (ls : List Live). record old { lives = record { live = emptied.lives.live ++ joining_row up r ∷ []; abandoned = ls }; streams = slice_set old.streams (endpoint_index r.transfer.ep) None }) (sym (ap (λ (t : Kept). t.lives.abandoned) emptied-is)))
     (ap (λ (t : Kept). t.lives.abandoned) emptied-is)
-    joined is client refl notes)
+    joined is gives)
 
 -- ---- it is started
 

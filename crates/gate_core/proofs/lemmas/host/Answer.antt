@@ -28,7 +28,7 @@ use Rattle.unlink_race.specs.Requests.{Requests, in_flight}
 use Rattle.unlink_race.proofs.Firsts.{took_none}
 use Rattle.gate_history.specs.declared.note.Note.{Note}
 use Rattle.gate_history.specs.declared.note.Note.TheVariants as note
-use Rattle.gate_core.specs.declared.write.outputs.Outputs.{Outputs}
+use Rattle.gate_parts.specs.declared.write.outputs.Outputs.{Outputs}
 use Rattle.gate_core.specs.declared.state.kept.Kept.{Kept}
 use Rattle.usb_base.specs.Number.{capped}
 use Rattle.gate_history.specs.declared.facts.Facts.{Facts}
@@ -48,6 +48,8 @@ use Rattle.gate_history.specs.write.All.{is_ret_submit, is_won_unlink}
 use Rattle.gate_history.specs.write.Bytes.{host_packet_bytes}
 use Rattle.gate_parts.specs.state.Rows.{row_of, row, unmarked, left_row, IsFine}
 use Rattle.gate_parts.specs.host.Responses.{row_mismatch, completes, IsAnswer, IsCounted}
+use Rattle.gate_parts.specs.write.Outputs.{with_answers}
+use Rattle.gate_parts.proofs.lemmas.write.Outputs.{with-none}
 use Rattle.gate_core.specs.inner.Holds.{Holds, Does}
 use Rattle.gate_history.specs.step.Fits.{ResponseFits}
 use Rattle.gate_history.proofs.lemmas.Lists.{Each, every, filter-same, filter-map, flat_map-map}
@@ -197,7 +199,7 @@ module _ (st : State) (id : ℕ) (o : Outcome) where
   abbrev pub told_of : List Pending → List Note
   told_of ps = map (λ p. note.Answered p.submit.request.number) ps
 
-  pub does-answer : (old new : Kept) (rows left : List Live) (found : List Pending) (out : Outputs) (client_new : List ℕ) (notes_new : List Note) → Holds old st → old.dropped ≤ 2 ^ 64 - 1 →
+  pub does-answer : (old new : Kept) (rows left : List Live) (found : List Pending) (out out_new : Outputs) → Holds old st → old.dropped ≤ 2 ^ 64 - 1 →
       filter (pending_has_id id) st.live ≡ found →
       rows ≡ map row (filter (λ p. not (pending_has_id id p)) st.live) →
       map unmarked left ≡ map left_row (filter (λ s. not (has_id id s)) st.abandoned) →
@@ -206,19 +208,18 @@ module _ (st : State) (id : ℕ) (o : Outcome) where
         answered = capped (old.answered + length (filter is_ret_submit (sent found)));
         unlinked = capped (old.unlinked + length (filter is_won_unlink (sent found)));
       } →
-      client_new ≡ out.to_client ++ flat_map client_spelling (sent found) →
-      notes_new ≡ out.notes ++ told_of found →
-      Does st (mark_as st (Answers id o) None) old new out (record out { to_client = client_new; notes = notes_new })
-  does-answer old new rows left found out client_new notes_new h few one live_is left_is is client notes =
+      out_new ≡ with_answers out (flat_map client_spelling (sent found)) (told_of found) →
+      Does st (mark_as st (Answers id o) None) old new out out_new
+  does-answer old new rows left found out out_new h few one live_is left_is is gives =
       let sends : sent found ≡ to_client st (mark_as st (Answers id o) None) = sym (answer-sent st id o ∙ ap sent one) in
       let tells : told_of found ≡ answer_notes st (Answers id o) = sym (answer-noted st id o ∙ ap told_of one) in
-      does-quiet st (Answers id o) refl old new rows left (length (filter is_ret_submit (sent found))) (length (filter is_won_unlink (sent found))) out (record out { to_client = client_new; notes = notes_new }) h few is
+      does-quiet st (Answers id o) refl old new rows left (length (filter is_ret_submit (sent found))) (length (filter is_won_unlink (sent found))) out out_new h few is
       (live_is ∙ ap (map row) (sym (answer-left st id o))) left_is
       (ap (λ (ps : List ClientPacket). length (filter is_ret_submit ps)) sends) (ap (λ (ps : List ClientPacket). length (filter is_won_unlink ps)) sends) (answer-dropped st id o)
-      (client ∙ ap (λ (ps : List ClientPacket). out.to_client ++ flat_map client_spelling ps) sends)
-      (host-same st.agreed (Answers id o) out.to_host st.live stays-uncancelled
+      (ap (λ (x : Outputs). x.to_client) gives ∙ ap (λ (ps : List ClientPacket). out.to_client ++ flat_map client_spelling ps) sends)
+      (ap (λ (x : Outputs). x.to_host) gives ∙ host-same st.agreed (Answers id o) out.to_host st.live stays-uncancelled
       ∙ ap (λ (ps : List (ℕ × RedirPacket)). out.to_host ++ flat_map (host_packet_bytes st.agreed) ps) (sym (append-nil (map cancel (filter (cancels (Answers id o)) st.live)))))
-      (notes ∙ ap (λ (ns : List Note). out.notes ++ ns) tells)
+      (ap (λ (x : Outputs). x.notes) gives ∙ ap (λ (ns : List Note). out.notes ++ ns) tells)
 
 -- ---- the answer of the one that waits
 
@@ -227,16 +228,15 @@ module _ (st : State) (id : ℕ) (response : Response) (sound : IsSound st) wher
   waits = find-append (has_id id) (submits st) st.abandoned ∙ ap (λ (o : Option Submission). option_or o (find (has_id id) st.abandoned)) (find-map (has_id id) (λ (p : Pending). p.submit) st.live)
 
   -- of a live one, by its row
-  pub does-live : (old : Kept) (lives : Requests) (l : Live) (won : Bool) (answered unlinked : ℕ) (out : Outputs) (client_new : List ℕ) (notes_new : List Note) → Holds old st → old.dropped ≤ 2 ^ 64 - 1 →
+  pub does-live : (old : Kept) (lives : Requests) (l : Live) (won : Bool) (answered unlinked : ℕ) (out out_new : Outputs) → Holds old st → old.dropped ≤ 2 ^ 64 - 1 →
       find (has_row_id id) old.lives.live ≡ Some l →
       lives ≡ record old.lives { live = without_first (has_row_id id) old.lives.live } →
-      ((s : Submission) → row_of s l.unlinker ≡ l → client_new ≡ out.to_client ++ flat_map spelling (answers_by s (seen s.request s.verdict response) l.unlinker)) →
+      ((s : Submission) → row_of s l.unlinker ≡ l → out_new ≡ with_answers out (flat_map spelling (answers_by s (seen s.request s.verdict response) l.unlinker)) (note.Answered l.seqnum ∷ [])) →
       ((s : Submission) → row_of s l.unlinker ≡ l → IsCounted (map Urb (answers_by s (seen s.request s.verdict response) l.unlinker)) won) →
-      notes_new ≡ out.notes ++ note.Answered l.seqnum ∷ [] →
       answered ≡ capped (old.answered + cond won 0 1) →
       unlinked ≡ capped (old.unlinked + cond won 1 0) →
-      Does st (mark_as st (completes id response (find (has_id id) (submits st ++ st.abandoned))) None) old (record old { lives = lives; answered = answered; unlinked = unlinked }) out (record out { to_client = client_new; notes = notes_new })
-  does-live old lives l won answered unlinked out client_new notes_new h few found rest client counted notes answered_is unlinked_is =
+      Does st (mark_as st (completes id response (find (has_id id) (submits st ++ st.abandoned))) None) old (record old { lives = lives; answered = answered; unlinked = unlinked }) out out_new
+  does-live old lives l won answered unlinked out out_new h few found rest gives counted answered_is unlinked_is =
       let p = map-some row (find (pending_has_id id) st.live) l (sym (find-rows id st.live) ∙ ap (find (has_row_id id)) (sym h.live) ∙ found) in
       let s = p.from.submit in
       let by : l.unlinker ≡ p.from.unlinker = ap (λ (k : Live). k.unlinker) (sym p.is) in
@@ -246,8 +246,8 @@ module _ (st : State) (id : ℕ) (response : Response) (sound : IsSound st) wher
       let count = counted s its in
       let effect : Answers id o ≡ completes id response (find (has_id id) (submits st ++ st.abandoned)) =
       sym (ap (completes id response) (waits ∙ ap (λ (q : Option Pending). option_or (option_map (λ (r : Pending). r.submit) q) (find (has_id id) st.abandoned)) p.found)) in
-      subst (λ (e : Effect). Does st (mark_as st e None) old (record old { lives = lives; answered = answered; unlinked = unlinked }) out (record out { to_client = client_new; notes = notes_new })) effect
-      (does-answer st id o old (record old { lives = lives; answered = answered; unlinked = unlinked }) lives.live lives.abandoned (p.from ∷ []) out client_new notes_new h few
+      subst (λ (e : Effect). Does st (mark_as st e None) old (record old { lives = lives; answered = answered; unlinked = unlinked }) out out_new) effect
+      (does-answer st id o old (record old { lives = lives; answered = answered; unlinked = unlinked }) lives.live lives.abandoned (p.from ∷ []) out out_new h few
       (found-alone st id sound ∙ ap option_to_list p.found)
       (ap (λ (r : Requests). r.live) rest ∙ ap (without_first (has_row_id id)) h.live ∙ live-without st id sound)
       (ap (λ (r : Requests). map unmarked r.abandoned) rest ∙ h.abandoned
@@ -257,8 +257,7 @@ module _ (st : State) (id : ℕ) (response : Response) (sound : IsSound st) wher
         answered = (answered_is ∙ ap (λ (n : ℕ). capped (old.answered + n)) (sym count.answered ∙ sym (ap (λ (ps : List ClientPacket). length (filter is_ret_submit ps)) one))) i;
         unlinked = (unlinked_is ∙ ap (λ (n : ℕ). capped (old.unlinked + n)) (sym count.unlinked ∙ sym (ap (λ (ps : List ClientPacket). length (filter is_won_unlink ps)) one))) i;
       })
-      (client s its ∙ ap (λ (bs : List ℕ). out.to_client ++ bs) (sym (flat_map-map client_spelling Urb (answers_by s o l.unlinker)) ∙ sym (ap (flat_map client_spelling) one)))
-      (notes ∙ ap (λ (n : ℕ). out.notes ++ note.Answered n ∷ []) (ap (λ (k : Live). k.seqnum) (sym p.is))))
+      (gives s its ∙ (λ i. with_answers out ((sym (flat_map-map client_spelling Urb (answers_by s o l.unlinker)) ∙ sym (ap (flat_map client_spelling) one)) i) (note.Answered (sym p.is i).seqnum ∷ []))))
 
   -- which is told
   pub live-gives : (old : Kept) (l : Live) → Holds old st → find (has_row_id id) old.lives.live ≡ Some l →
@@ -289,11 +288,11 @@ module _ (st : State) (id : ℕ) (response : Response) (sound : IsSound st) wher
 
       of : (o : Option Submission) → find (has_id id) st.abandoned ≡ o → Does st (mark_as st (completes id response o) None) old (record old { lives = lives }) out out
       of (Some s) e =
-          does-answer st id (seen s.request s.verdict response) old (record old { lives = lives }) lives.live lives.abandoned [] out out.to_client out.notes h dropped_fits
+          does-answer st id (seen s.request s.verdict response) old (record old { lives = lives }) lives.live lives.abandoned [] out out h dropped_fits
           (found-alone st id sound ∙ ap option_to_list none) rows
           (ap (λ (r : Requests). map unmarked r.abandoned) rest ∙ abandoned-without st id sound old.lives.abandoned h.abandoned)
           (λ i. record old { lives = lives; answered = capped-same old.answered answered_fits i; unlinked = capped-same old.unlinked unlinked_fits i })
-          (sym (append-nil out.to_client)) (sym (append-nil out.notes))
+          (sym (with-none out))
       of None e =
           let nobody = map-none unmarked (find (has_row_id id) old.lives.abandoned) (find-unmarked id old.lives.abandoned ∙ ap (find (has_row_id id)) h.abandoned ∙ find-left id st.abandoned ∙ ap (option_map left_row) e) in
           let same : lives ≡ old.lives = rest ∙ ap (λ (ls : List Live). record old.lives { abandoned = ls }) (without-none (has_row_id id) old.lives.abandoned nobody) in

@@ -6,9 +6,8 @@ use Rattle.std.proofs.lemmas.Bool.{lt-ltb, ltb-true, cases_Bool}
 use Rattle.std.proofs.lemmas.List.{append-nil}
 use Rattle.usb_base.specs.Endpoint.{IsEndpoint, endpoint_index}
 use Rattle.usb_base.specs.declared.transfer.StreamPacket.{StreamPacket}
-use Rattle.gate_history.specs.declared.note.Note.{Note}
 use Rattle.gate_history.specs.declared.note.Note.TheVariants as note
-use Rattle.gate_core.specs.declared.write.outputs.Outputs.{Outputs}
+use Rattle.gate_parts.specs.declared.write.outputs.Outputs.{Outputs}
 use Rattle.gate_core.specs.declared.state.kept.Kept.{Kept}
 use Rattle.gate_history.specs.declared.request.Request.{Request}
 use Rattle.gate_history.specs.host.Fillings.{Fill, none_filled, fill}
@@ -23,10 +22,11 @@ use Rattle.gate_parts.specs.state.Rows.{row}
 use Rattle.gate_parts.specs.host.Fill.{up_fill, up_bytes, filled_notes}
 use Rattle.gate_core.specs.inner.Fill.{with_packet, received_bytes, received_notes, HasEnded, HasReceivedIf, HasReceived}
 use Rattle.gate_core.specs.inner.Holds.{IsKept, Holds, Does, StopsShort}
-use Rattle.gate_parts.specs.write.Extends.{Extends}
+use Rattle.gate_parts.specs.write.Outputs.{with_answers, HasSome}
 use Rattle.gate_history.proofs.lemmas.Lists.{Each, filter-map, map-map}
 use Rattle.gate_core.proofs.lemmas.client.WaitRows.{IsGoing, all-going}
 use Rattle.gate_core.proofs.lemmas.step.Quiet.{silent-is}
+use Rattle.gate_core.proofs.lemmas.write.InTurn.{leaves-some}
 use Rattle.gate_core.proofs.lemmas.step.Steady.{does-steady, rows-same, host-same}
 use Rattle.gate_history.proofs.lemmas.step.NoCancel.{stays-uncancelled}
 use Rattle.gate_core.proofs.lemmas.host.Fill.{Differ, number, requests, waiters, fillings, FillsAll, fills-all}
@@ -109,20 +109,19 @@ module _ (st : State) (sound : IsSound st) (ep : ℕ) (packet : StreamPacket) (u
       (subst Differ (sym here) (all-differ st.live sound.numbers))
 
   -- it is held, and may fill requests
-  pub does-hold : (up_new : Up) (old between mid new : Kept) (out : Outputs) (client_new : List ℕ) (notes_new : List Note) → Holds old st → IsKept old →
+  pub does-hold : (up_new : Up) (old between mid new : Kept) (out out_new : Outputs) → Holds old st → IsKept old →
       stream_at old.streams ep ≡ Some up →
       between ≡ record old { streams = slice_set old.streams (endpoint_index ep) None } →
       HasEnded ep (with_packet packet up) up_new between mid →
       new ≡ record mid { streams = slice_set mid.streams (endpoint_index ep) (Some up_new) } →
-      client_new ≡ out.to_client ++ up_bytes ep (with_packet packet up) between.lives.live →
-      notes_new ≡ out.notes ++ note.Arrived ep ∷ filled_notes (up_fill ep (with_packet packet up) between.lives.live) →
-      Does st (mark_as st held None) old new out (record out { to_client = client_new; notes = notes_new })
-  does-hold up_new old between mid new out client_new notes_new h k at between-is ended is client notes =
-      does-fill-up st held up.row.max_packet ep (up.held ++ packet ∷ []) refl fills all up up_new old between mid new out (record out { to_client = client_new; notes = notes_new })
+      out_new ≡ with_answers out (up_bytes ep (with_packet packet up) between.lives.live) (note.Arrived ep ∷ filled_notes (up_fill ep (with_packet packet up) between.lives.live)) →
+      Does st (mark_as st held None) old new out out_new
+  does-hold up_new old between mid new out out_new h k at between-is ended is gives =
+      does-fill-up st held up.row.max_packet ep (up.held ++ packet ∷ []) refl fills all up up_new old between mid new out out_new
       (fill up.row.max_packet (waiting st ep) (up.held ++ packet ∷ [])) h k.unlinked_fits k.dropped_fits at refl filled refl refl
       (ap (λ (t : Kept). t.lives.live) between-is ∙ h.live ∙ ap (map row) (sym here))
       (between-is ∙ ap (λ (t : Kept). record old { lives = t.lives; streams = slice_set old.streams (endpoint_index ep) None }) (sym between-is))
-      (ap (λ (t : Kept). t.lives.abandoned) between-is) ended is client refl notes
+      (ap (λ (t : Kept). t.lives.abandoned) between-is) ended is gives
 
 -- ---- a packet that is lost
 
@@ -134,12 +133,13 @@ module _ (st : State) (ep : ℕ) (up : Up) (at : stream_at st.streams ep ≡ Som
   none-ends s = elim (waits_at ep s) as (λ b. cond b (option_map ByPackets None) None ≡ None) [ true ↦ refl | false ↦ refl ]
 
   -- it is told, and nothing changes
-  pub does-lose : (old new : Kept) (out : Outputs) (notes_new : List Note) → Holds old st → IsKept old → new ≡ old →
-      notes_new ≡ out.notes ++ note.Arrived ep ∷ [] → Does st (mark_as st lost None) old new out (record out { notes = notes_new })
-  does-lose old new out notes_new h k is notes =
-      does-steady st lost refl (silent-is st lost refl) none-ends old new old.lives.live out (record out { notes = notes_new }) h k.answered_fits k.unlinked_fits k.dropped_fits
+  pub does-lose : (old new : Kept) (out out_new : Outputs) → Holds old st → IsKept old → new ≡ old →
+      out_new ≡ with_answers out [] (note.Arrived ep ∷ []) → Does st (mark_as st lost None) old new out out_new
+  does-lose old new out out_new h k is gives =
+      does-steady st lost refl (silent-is st lost refl) none-ends old new old.lives.live out out_new h k.answered_fits k.unlinked_fits k.dropped_fits
       (rows-same lost old.lives.live st.live (λ s. refl) h.live)
-      (is ∙ ap (λ (ups : List (Option Up)). record old { streams = ups }) (sym same)) (sym (append-nil out.to_client)) (host-same st.agreed lost out.to_host st.live stays-uncancelled) notes
+      (is ∙ ap (λ (ups : List (Option Up)). record old { streams = ups }) (sym same)) (ap (λ (o : Outputs). o.to_client) gives) (ap (λ (o : Outputs). o.to_host) gives ∙ host-same st.agreed lost out.to_host st.live stays-uncancelled)
+      (ap (λ (o : Outputs). o.notes) gives)
     where
       there : stream_at old.streams ep ≡ Some up
       there = ap (λ (ups : List (Option Up)). stream_at ups ep) h.streams ∙ at
@@ -153,53 +153,46 @@ module _ (st : State) (ep : ℕ) (up : Up) (at : stream_at st.streams ep ≡ Som
 -- ---- either
 
 -- both of what holds where it succeeds
-pub on-ok : {T E : Type 0} {P Q R S : Type 0} (r : Result T E) → (P → Q → R → S) → OnOk r P → OnOk r Q → OnOk r R → OnOk r S
-on-ok (Ok v) f p q r = f p q r
-on-ok (Err e) f p q r = tt
+pub on-ok : {T E : Type 0} {P Q R : Type 0} (r : Result T E) → (P → Q → R) → OnOk r P → OnOk r Q → OnOk r R
+on-ok (Ok v) f p q = f p q
+on-ok (Err e) f p q = tt
 
-pub does-receive : (st : State) (sound : IsSound st) (endpoint : ℕ) (iso : Bool) (packet : StreamPacket) (up up_new : Up) (old between mid new : Kept) (out : Outputs) (client_new : List ℕ) (notes_new : List Note) → Holds old st → IsKept old →
+pub does-receive : (st : State) (sound : IsSound st) (endpoint : ℕ) (iso : Bool) (packet : StreamPacket) (up up_new : Up) (old between mid new : Kept) (out out_new : Outputs) → Holds old st → IsKept old →
     IsEndpoint endpoint → stream_at old.streams endpoint ≡ Some up →
     between ≡ record old { streams = slice_set old.streams (endpoint_index endpoint) None } →
     new ≡ record mid { streams = slice_set mid.streams (endpoint_index endpoint) (Some up_new) } →
     HasReceived endpoint iso packet up up_new between mid →
-    client_new ≡ out.to_client ++ received_bytes endpoint iso packet up between.lives.live →
-    notes_new ≡ out.notes ++ note.Arrived endpoint ∷ received_notes endpoint iso packet up between.lives.live →
-    Does st (mark_as st (arrives st endpoint iso packet (stream_of st.streams endpoint)) None) old new out (record out { to_client = client_new; notes = notes_new })
-does-receive st sound endpoint iso packet up up_new old between mid new out client_new notes_new h k byte at between-is is received client notes =
+    out_new ≡ with_answers out (received_bytes endpoint iso packet up between.lives.live) (note.Arrived endpoint ∷ received_notes endpoint iso packet up between.lives.live) →
+    Does st (mark_as st (arrives st endpoint iso packet (stream_of st.streams endpoint)) None) old new out out_new
+does-receive st sound endpoint iso packet up up_new old between mid new out out_new h k byte at between-is is received gives =
     let there : stream_of st.streams endpoint ≡ Some up = of-address st.streams endpoint byte ∙ ap (λ (ups : List (Option Up)). stream_at ups endpoint) (sym h.streams) ∙ at in
-    subst (λ (o : Option Up). Does st (mark_as st (arrives st endpoint iso packet o) None) old new out (record out { to_client = client_new; notes = notes_new })) (sym there)
-    (by (is_held iso up) received client notes)
+    subst (λ (o : Option Up). Does st (mark_as st (arrives st endpoint iso packet o) None) old new out out_new) (sym there) (by (is_held iso up) received gives)
   where
     by : (b : Bool) → HasReceivedIf endpoint b packet up up_new between mid →
-        client_new ≡ out.to_client ++ cond b (up_bytes endpoint (with_packet packet up) between.lives.live) [] →
-        notes_new ≡ out.notes ++ note.Arrived endpoint ∷ cond b (filled_notes (up_fill endpoint (with_packet packet up) between.lives.live)) [] →
-        Does st (mark_as st (Arrives endpoint (cond b (fill up.row.max_packet (waiting st endpoint) (up.held ++ packet ∷ [])) (none_filled up.held))) None) old new out (record out { to_client = client_new; notes = notes_new })
-    by true r cl nt = does-hold st sound endpoint packet up up_new old between mid new out client_new notes_new h k at between-is r is cl nt
-    by false r cl nt =
+        out_new ≡ with_answers out (cond b (up_bytes endpoint (with_packet packet up) between.lives.live) []) (note.Arrived endpoint ∷ cond b (filled_notes (up_fill endpoint (with_packet packet up) between.lives.live)) []) →
+        Does st (mark_as st (Arrives endpoint (cond b (fill up.row.max_packet (waiting st endpoint) (up.held ++ packet ∷ [])) (none_filled up.held))) None) old new out out_new
+    by true r gave = does-hold st sound endpoint packet up up_new old between mid new out out_new h k at between-is r is gave
+    by false r gave =
         let same : new ≡ old =
         is ∙ ap (λ (t : Kept). record t { streams = slice_set t.streams (endpoint_index endpoint) (Some up_new) }) (r.same ∙ between-is)
         ∙ ap (λ (ups : List (Option Up)). record old { streams = ups })
         (set-twice old.streams (endpoint_index endpoint) None (Some up_new) ∙ ap (slice_set old.streams (endpoint_index endpoint)) (ap (λ (u : Up). Some u) r.up_same ∙ sym at)
         ∙ set-back old.streams (endpoint_index endpoint) None) in
-        subst (λ (bs : List ℕ). Does st (mark_as st (Arrives endpoint (none_filled up.held)) None) old new out (record out { to_client = bs; notes = notes_new })) (sym (cl ∙ append-nil out.to_client))
-        (does-lose st endpoint up (ap (λ (ups : List (Option Up)). stream_at ups endpoint) (sym h.streams) ∙ at) old new out notes_new h k same nt)
+        does-lose st endpoint up (ap (λ (ups : List (Option Up)). stream_at ups endpoint) (sym h.streams) ∙ at) old new out out_new h k same gave
 
-on-err : {T E : Type 0} {P Q R U S : Type 0} (r : Result T E) → (P → Q → R → U → S) → OnErr r P → OnErr r Q → OnErr r R → OnErr r U → OnErr r S
-on-err (Ok v) f p q r u = tt
-on-err (Err e) f p q r u = f p q r u
+on-err : {T E : Type 0} {P Q R S : Type 0} (r : Result T E) → (P → Q → R → S) → OnErr r P → OnErr r Q → OnErr r R → OnErr r S
+on-err (Ok v) f p q r = tt
+on-err (Err e) f p q r = f p q r
 
 -- for want of memory the stream is put back as it was
-pub puts-back : {T E : Type 0} (r : Result T E) (old mid : Kept) (up up_new : Up) (i : ℕ) (taken put : List (Option Up)) (out : Outputs) (client_new : List ℕ) (notes_new : List Note) →
+pub puts-back : {T E : Type 0} (r : Result T E) (old mid : Kept) (up up_new : Up) (i : ℕ) (taken put : List (Option Up)) (out out_new : Outputs) →
     taken ≡ slice_set old.streams i None → Some up ≡ get_or old.streams i None → put ≡ slice_set mid.streams i (Some up_new) →
-    OnErr r (mid ≡ record old { streams = taken }) → OnErr r (up_new ≡ up) → OnErr r (Extends out.to_client client_new) → OnErr r (Extends out.notes notes_new) →
-    OnErr r (StopsShort old (record mid { streams = put }) out (record out { to_client = client_new; notes = notes_new }))
-puts-back r old mid up up_new i taken put out client_new notes_new taken-is here put-is =
-    on-err r (λ same back client notes. record {
-      same = ap (λ (t : Kept). record t { streams = put }) same
-          ∙ ap (λ (ups : List (Option Up)). record old { streams = ups })
-          (put-is ∙ ap (λ (t : Kept). slice_set t.streams i (Some up_new)) same ∙ (λ j. slice_set (taken-is j) i (Some (back j)))
-          ∙ set-twice old.streams i None (Some up) ∙ ap (slice_set old.streams i) here ∙ set-back old.streams i None);
-      client = client;
-      host = record { more = []; is = sym (append-nil out.to_host) };
-      notes = notes;
-    })
+    OnErr r (mid ≡ record old { streams = taken }) → OnErr r (up_new ≡ up) → OnErr r (HasSome out out_new) → OnErr r (StopsShort old (record mid { streams = put }) out out_new)
+puts-back r old mid up up_new i taken put out out_new taken-is here put-is =
+    on-err r (λ same back some.
+    leaves-some old (record mid { streams = put }) out out_new
+    (ap (λ (t : Kept). record t { streams = put }) same
+    ∙ ap (λ (ups : List (Option Up)). record old { streams = ups })
+    (put-is ∙ ap (λ (t : Kept). slice_set t.streams i (Some up_new)) same ∙ (λ j. slice_set (taken-is j) i (Some (back j)))
+    ∙ set-twice old.streams i None (Some up) ∙ ap (slice_set old.streams i) here ∙ set-back old.streams i None))
+    some)

@@ -16,7 +16,7 @@ use Rattle.redir_data.specs.declared.packet.RedirPacket.{RedirPacket}
 use Rattle.unlink_race.specs.declared.live.Live.{Live}
 use Rattle.unlink_race.specs.Searches.{waits_for}
 use Rattle.gate_history.specs.declared.note.Note.{Note}
-use Rattle.gate_core.specs.declared.write.outputs.Outputs.{Outputs}
+use Rattle.gate_parts.specs.declared.write.outputs.Outputs.{Outputs}
 use Rattle.gate_core.specs.declared.state.kept.Kept.{Kept}
 use Rattle.usb_base.specs.Number.{capped}
 use Rattle.gate_history.specs.host.Fillings.{Filling, Fill, fill}
@@ -37,6 +37,7 @@ use Rattle.gate_history.specs.write.Bytes.{host_packet_bytes}
 use Rattle.gate_history.specs.step.Machine.{live_after}
 use Rattle.gate_parts.specs.state.Rows.{row}
 use Rattle.gate_parts.specs.host.Fill.{rows_fill, filled_bytes, filled_notes, waiting_rows, without_firsts, up_fill, up_bytes}
+use Rattle.gate_parts.specs.write.Outputs.{with_answers}
 use Rattle.gate_core.specs.inner.Fill.{HasEnded}
 use Rattle.gate_core.specs.inner.Holds.{Holds, Does}
 use Rattle.gate_history.proofs.lemmas.step.NoCancel.{none-cancelled, stays-uncancelled}
@@ -135,11 +136,10 @@ module _ (st : State) (e : Effect) (max_packet ep : ℕ) (packets : List StreamP
       between ≡ record old { lives = between.lives; streams = slice_set old.streams (endpoint_index ep) None } → between.lives.abandoned ≡ old.lives.abandoned →
       HasEnded ep (record up { held = packets }) up_new between mid →
       new ≡ record mid { streams = slice_set mid.streams (endpoint_index ep) (Some up_new) } →
-      out_new.to_client ≡ out_old.to_client ++ up_bytes ep (record up { held = packets }) between.lives.live →
-      out_new.to_host ≡ out_old.to_host →
-      out_new.notes ≡ out_old.notes ++ (came_notes e ++ submit_notes e ++ filled_notes (up_fill ep (record up { held = packets }) between.lives.live)) →
+      out_new ≡ with_answers out_old (up_bytes ep (record up { held = packets }) between.lives.live)
+      (came_notes e ++ submit_notes e ++ filled_notes (up_fill ep (record up { held = packets }) between.lives.live)) →
       Does st (mark_as st e None) old new out_old out_new
-  does-fill-up up up_new old between mid new out_old out_new f h unlinked_fits dropped_fits here size f-is no_ids moves rows-are between-is left-same ended is client host notes =
+  does-fill-up up up_new old between mid new out_old out_new f h unlinked_fits dropped_fits here size f-is no_ids moves rows-are between-is left-same ended is gives =
       let rows = between.lives.live in
       let filled : up_fill ep (record up { held = packets }) rows ≡ fill max_packet (requests (waiters ep (present st e))) packets =
       (λ i. rows_fill (size i) (waiting_rows ep (rows-are i)) packets) ∙ all.by_rows in
@@ -162,6 +162,6 @@ module _ (st : State) (e : Effect) (max_packet ep : ℕ) (packets : List StreamP
         last = last_of old.last (sym no_ids j);
         answered = capped (old.answered + length (filled j).fillings);
       }))
-      (client ∙ ap (λ (n : ℕ). out_old.to_client ++ filled_bytes n (waiting_rows ep rows) packets) size)
-      (host ∙ sym (append-nil out_old.to_host) ∙ ap (λ (ids : List ℕ). out_old.to_host ++ flat_map (host_packet_bytes st.agreed) (zip ids (asked_packets st.streams e))) (sym no_ids))
-      (notes ∙ ap (λ (x : Fill). out_old.notes ++ (came_notes e ++ submit_notes e ++ filled_notes x)) filled)
+      (ap (λ (o : Outputs). o.to_client) gives ∙ ap (λ (n : ℕ). out_old.to_client ++ filled_bytes n (waiting_rows ep rows) packets) size)
+      (ap (λ (o : Outputs). o.to_host) gives ∙ sym (append-nil out_old.to_host) ∙ ap (λ (ids : List ℕ). out_old.to_host ++ flat_map (host_packet_bytes st.agreed) (zip ids (asked_packets st.streams e))) (sym no_ids))
+      (ap (λ (o : Outputs). o.notes) gives ∙ ap (λ (x : Fill). out_old.notes ++ (came_notes e ++ submit_notes e ++ filled_notes x)) filled)

@@ -8,7 +8,7 @@ use Rattle.usb_base.specs.Status.{errno_of, is_success}
 use Rattle.usbip_urb.specs.declared.packet.UrbPacket.{UrbPacket}
 use Rattle.usbip_urb.specs.declared.client.ClientPacket.TheVariants.{Urb}
 use Rattle.unlink_race.specs.declared.live.Live.{Live}
-use Rattle.gate_core.specs.declared.write.outputs.Outputs.{Outputs}
+use Rattle.gate_parts.specs.declared.write.outputs.Outputs.{Outputs}
 use Rattle.gate_core.specs.declared.state.kept.Kept.{Kept}
 use Rattle.usb_base.specs.Number.{capped}
 use Rattle.gate_history.specs.step.Marks.{Effect, StreamTold}

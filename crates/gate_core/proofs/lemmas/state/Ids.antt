@@ -10,7 +10,6 @@ use Rattle.gate_history.specs.state.Ids.{draw, draws, greatest, last_of}
 use Rattle.gate_history.specs.write.Packets.{stops, route_packets, asked_packets}
 use Rattle.gate_core.specs.declared.state.kept.Kept.{Kept}
 use Rattle.gate_history.specs.declared.verdict.Verdict.{Verdict}
-use Rattle.gate_history.specs.declared.verdict.Verdict.TheVariants.{Now, Wire, Routed, IsoOut, Stream}
 use Rattle.gate_history.specs.client.Verdict.{goes_by_id, changes}
 use Rattle.gate_history.specs.step.Marks.{Submission, Effect}
 use Rattle.gate_history.specs.client.Submits.{Pending}
@@ -26,7 +25,7 @@ use Rattle.gate_core.specs.inner.Calls.{flying_in, ids_after, with_ids, stops_of
 use Rattle.gate_history.specs.write.Bytes.{host_packet_bytes}
 use Rattle.gate_parts.specs.state.Rows.{kind_of, row, unmarked, left_row, cancel_bytes}
 use Rattle.gate_core.specs.inner.Holds.{Holds}
-use Rattle.gate_parts.proofs.lemmas.state.Rows.{by_id-row}
+use Rattle.gate_parts.proofs.lemmas.state.Rows.{by-verdict, by_id-row}
 
 one : (b : Bool) (l : Live) (s : Submission) (ls : List Live) (ss : List Submission) → l.id ≡ s.id → map (λ (r : Live). r.id) ls ≡ map (λ (t : Submission). t.id) ss →
     map (λ (r : Live). r.id) (cond b (l ∷ ls) ls) ≡ map (λ (t : Submission). t.id) (cond b (s ∷ ss) ss)
@@ -132,11 +131,7 @@ route-one P a b route.Bad some h k = absurd (omega arith)
 -- ---- what the searches of the rows find
 
 change-row : (v : Verdict) (ep : ℕ) → is_change (kind_of v ep) ≡ changes v
-change-row (Now status) ep = refl
-change-row (Wire pipe) ep = refl
-change-row (Routed r) ep = refl
-change-row (IsoOut r) ep = refl
-change-row (Stream r) ep = refl
+change-row v ep = by-verdict (λ w. is_change (kind_of w ep) ≡ changes w) (λ s. refl) (λ p. refl) (λ r. refl) (λ r. refl) (λ r. refl) v
 
 pub change-rows : (ps : List Pending) → list_any changes_row (map row ps) ≡ list_any (λ s. changes s.verdict) (map (λ (p : Pending). p.submit) ps)
 change-rows [] = refl

@@ -10,7 +10,7 @@ use Rattle.usbip_urb.specs.ClientPackets.{client_spelling}
 use Rattle.usbip_urb.specs.Spelling.{spelling}
 use Rattle.unlink_race.specs.declared.live.Live.{Live}
 use Rattle.gate_history.specs.declared.note.Note.TheVariants as note
-use Rattle.gate_core.specs.declared.write.outputs.Outputs.{Outputs}
+use Rattle.gate_parts.specs.declared.write.outputs.Outputs.{Outputs}
 use Rattle.gate_core.specs.declared.state.kept.Kept.{Kept}
 use Rattle.gate_history.specs.step.Marks.{Effect}
 use Rattle.gate_history.specs.client.Submits.{Pending, End, ends}

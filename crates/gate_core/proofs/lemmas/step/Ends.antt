@@ -12,7 +12,7 @@ use Rattle.redir_data.specs.sound.Joined.{stream_sound}
 use Rattle.usbip_urb.specs.Sound.ClientPackets.{client_packets_sound}
 use Rattle.usbip_urb.specs.ClientPackets.{client_packets}
 use Rattle.gate_history.specs.declared.item.Item.TheVariants as raw
-use Rattle.gate_core.specs.declared.write.outputs.Outputs.{Outputs}
+use Rattle.gate_parts.specs.declared.write.outputs.Outputs.{Outputs}
 use Rattle.gate_core.specs.declared.step.inner.Inner.{Inner}
 use Rattle.gate_core.specs.declared.state.kept.Kept.{Kept as Translator}
 use Rattle.gate_history.specs.declared.item.Item.TheVariants.{ClientLeft, HostLeft}

@@ -14,7 +14,7 @@ use Rattle.packet_stream.specs.Streams.{StreamView, passed, after_piece, Follows
 use Rattle.packet_stream.specs.Items.{packets, wrongs, items, added}
 use Rattle.packet_stream.proofs.Loops.{changed_to}
 use Rattle.gate_history.specs.declared.item.Item.{Item as RawItem, Item}
-use Rattle.gate_core.specs.declared.write.outputs.Outputs.{Outputs}
+use Rattle.gate_parts.specs.declared.write.outputs.Outputs.{Outputs}
 use Rattle.gate_core.specs.declared.state.kept.Kept.{Kept as Translator}
 use Rattle.gate_history.specs.state.State.{State, state_of}
 use Rattle.gate_history.specs.state.Sound.{IsSound}

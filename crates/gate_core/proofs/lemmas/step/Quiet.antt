@@ -12,7 +12,7 @@ use Rattle.redir_data.specs.declared.packet.RedirPacket.{RedirPacket}
 use Rattle.unlink_race.specs.declared.live.Live.{Live}
 use Rattle.gate_history.specs.declared.note.Note.{Note}
 use Rattle.gate_history.specs.declared.note.Note.TheVariants as note
-use Rattle.gate_core.specs.declared.write.outputs.Outputs.{Outputs}
+use Rattle.gate_parts.specs.declared.write.outputs.Outputs.{Outputs}
 use Rattle.gate_core.specs.declared.state.kept.Kept.{Kept}
 use Rattle.usb_base.specs.Number.{capped}
 use Rattle.gate_history.specs.step.Marks.{Submission, Effect, Idle, Replies, Imports, Agrees, Arrives, StreamTold, Disconnects, Ends, Refuses, Mark}

@@ -27,25 +27,23 @@ use Rattle.gate_history.proofs.lemmas.step.Capabilities.{wrong-over}
 -- a side with its laws
 pub record Side (S P : Type 0) (first : ℕ) : Type 0 where
   pub half : Half S P
-  pub reader : Reader S P Reason
   pub takes : P → Bool
   pub flag : Translator → Bool
   pub raw_packet : ℕ → P → RawItem
   pub raw_wrong : ℕ → Reason → RawItem
   pub steady : IsSteady half.stream.reader
-  pub laws : IsSide first half reader takes flag raw_packet raw_wrong
+  pub laws : IsSide first half half.stream.reader takes flag raw_packet raw_wrong
 
-abbrev pub side-of : {S P : Type 0} (first : ℕ) (half : Half S P) (reader : Reader S P Reason) (takes : P → Bool) (flag : Translator → Bool) (raw_packet : ℕ → P → RawItem) (raw_wrong : ℕ → Reason → RawItem) →
+abbrev pub side-of : {S P : Type 0} {first : ℕ} {half : Half S P} {reader : Reader S P Reason} {takes : P → Bool} {flag : Translator → Bool} {raw_packet : ℕ → P → RawItem} {raw_wrong : ℕ → Reason → RawItem} →
     IsSteady reader → IsSide first half reader takes flag raw_packet raw_wrong → Side S P first
-side-of first half reader takes flag raw_packet raw_wrong steady laws = record {
+side-of {S = S} {P = P} {first = first} {half = half} {takes = takes} {flag = flag} {raw_packet = raw_packet} {raw_wrong = raw_wrong} steady laws = record {
   half = half;
-  reader = reader;
   takes = takes;
   flag = flag;
   raw_packet = raw_packet;
   raw_wrong = raw_wrong;
   steady = subst IsSteady (sym laws.reader) steady;
-  laws = laws;
+  laws = subst (λ (r : Reader S P Reason). IsSide first half r takes flag raw_packet raw_wrong) (sym laws.reader) laws;
 }
 
 refused-by : (ms : List Mark) (m : Mark) → client_over (m ∷ ms) ≡ true → (b : Bool) → client_over ms ≡ b → client_over (cond b ms (m ∷ ms)) ≡ true

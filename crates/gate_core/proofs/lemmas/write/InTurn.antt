@@ -6,7 +6,7 @@ use Rattle.std.proofs.lemmas.List.{append-nil, take_more}
 use Rattle.std.proofs.lemmas.Grind.{flat_map-append}
 use Rattle.redir_data.specs.declared.packet.RedirPacket.{RedirPacket}
 use Rattle.gate_core.specs.declared.state.kept.Kept.{Kept}
-use Rattle.gate_core.specs.declared.write.outputs.Outputs.{Outputs}
+use Rattle.gate_parts.specs.declared.write.outputs.Outputs.{Outputs}
 use Rattle.gate_history.specs.state.Ups.{Up}
 use Rattle.gate_parts.specs.declared.state.calls.Called.{Called}
 use Rattle.gate_history.specs.state.Ids.{greatest, last_of}
@@ -15,6 +15,7 @@ use Rattle.gate_history.specs.state.Calls.{called}
 use Rattle.gate_history.specs.write.Packets.{stop_of, stops}
 use Rattle.gate_history.specs.write.Bytes.{host_packet_bytes}
 use Rattle.gate_parts.specs.write.Extends.{Extends}
+use Rattle.gate_parts.specs.write.Outputs.{HasSome}
 use Rattle.gate_core.specs.inner.Holds.{StopsShort}
 use Rattle.gate_core.specs.inner.Calls.{flying_in, ids_after, with_ids, after_stops, bytes_of}
 use Rattle.gate_history.proofs.lemmas.Lists.{Each}
@@ -69,6 +70,14 @@ on-err (Ok v) P h = tt
 on-err (Err e) P h = h
 
 -- ---- want of memory as the first bytes of an item are written
+
+pub leaves-some : (old new : Kept) (out out_new : Outputs) → new ≡ old → HasSome out out_new → StopsShort old new out out_new
+leaves-some old new out out_new same some = record {
+  same = same;
+  client = record { more = some.bytes; is = ap (λ (o : Outputs). o.to_client) some.is };
+  host = record { more = []; is = ap (λ (o : Outputs). o.to_host) some.is ∙ sym (append-nil out.to_host) };
+  notes = record { more = some.notes; is = ap (λ (o : Outputs). o.notes) some.is };
+}
 
 pub leaves-client : (old new : Kept) (out : Outputs) (client_new : List ℕ) → new ≡ old → Extends out.to_client client_new → StopsShort old new out (record out { to_client = client_new })
 leaves-client old new out client_new same written = record {

@@ -1,5 +1,5 @@
 -- The answer of a filled request is spelled by its fields in front, and what the packets keep.
-use Rattle.std.proofs.Common.{◌≡◌, ℕ, List, [], ◌++◌, length, filter, refl, sym, ap, ◌∙◌}
+use Rattle.std.proofs.Common.{◌≡◌, ℕ, List, [], ◌++◌, length, filter, refl, sym, ap, ◌∙◌, append_assoc}
 use Rattle.std.specs.Prelude.{pos}
 use Rattle.std.proofs.lemmas.List.{append-nil}
 use Rattle.std.specs.Int.{w32, cast_signed, cast_unsigned}
@@ -27,6 +27,10 @@ errno_back status.Stall = refl
 errno_back status.Timeout = refl
 errno_back status.Babble = refl
 errno_back (status.Other byte) = refl
+
+-- what is put behind the first part is put behind the parts before it
+pub then-more : (before first more mid new : List ℕ) → mid ≡ before ++ first → new ≡ mid ++ more → new ≡ before ++ (first ++ more)
+then-more before first more mid new put behind = behind ∙ ap (λ (bs : List ℕ). bs ++ more) put ∙ append_assoc before first more
 
 -- a row without isochronous packets
 pub transferred : (l : Live) (o : Outcome) → l.descs ≡ [] →

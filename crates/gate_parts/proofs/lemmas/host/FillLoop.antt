@@ -1,8 +1,8 @@
 -- The loop that answers the requests which a stream's packets fill: what is so far, and one row more.
-use Rattle.std.proofs.Common.{◌≡◌, ◌≤◌, ◌+◌, ℕ, zero, suc, Bool, true, cond, List, [], ◌∷◌, ◌++◌, length, map, drop, Option, Some, None, refl, sym, ap, ◌∙◌, subst, append_assoc, arith, inl, inr}
+use Rattle.std.proofs.Common.{◌≡◌, ◌≤◌, ◌+◌, ℕ, zero, suc, Bool, true, cond, List, [], ◌∷◌, ◌++◌, length, map, drop, Option, Some, None, refl, sym, ap, ◌∙◌, subst, arith, inl, inr}
 use Rattle.std.specs.Prelude.{◌<◌, Result, Ok, Err, OnErr, IsSome, slice_get}
 use Rattle.std.specs.Option.{option_map}
-use Rattle.std.proofs.lemmas.List.{append-nil, drop-drop, length-drop}
+use Rattle.std.proofs.lemmas.List.{drop-drop, length-drop}
 use Rattle.std.proofs.lemmas.List.Sums.{length-filter, count_by-le-length}
 use Rattle.std.proofs.lemmas.Option.{none-some, same_Some, slice_get_past}
 use Rattle.usb_base.specs.declared.transfer.StreamPacket.{StreamPacket}
@@ -18,7 +18,6 @@ use Rattle.unlink_race.specs.declared.live.Live.{Live}
 use Rattle.unlink_race.specs.declared.live.LiveKind.{LiveKind}
 use Rattle.unlink_race.specs.declared.live.LiveKind.TheVariants as live_kind
 use Rattle.unlink_race.specs.Searches.{waits_for, waits_at, is_stream}
-use Rattle.gate_history.specs.declared.note.Note.{Note}
 use Rattle.gate_history.specs.declared.note.Note.TheVariants as note
 use Rattle.gate_parts.specs.declared.host.fill.Filled.{Filled}
 use Rattle.gate_history.specs.write.Answers.{with_given}
@@ -27,7 +26,9 @@ use Rattle.gate_history.specs.client.Verdict.{none_of}
 use Rattle.gate_history.specs.host.Fillings.{Given, Transferred, Isochronous, Fill, cut_as, cut_of, none_filled, filled_by, fill}
 use Rattle.gate_parts.specs.state.Rows.{row_request}
 use Rattle.gate_parts.specs.host.Fill.{row_cut, cut_bytes, HasTaken, rows_fill, bytes_by, filled_bytes, filled_notes, waiting_rows}
-use Rattle.gate_parts.specs.write.Extends.{Extends}
+use Rattle.gate_parts.specs.declared.write.outputs.Outputs.{Outputs}
+use Rattle.gate_parts.specs.write.Outputs.{with_answers}
+use Rattle.gate_parts.proofs.lemmas.write.Outputs.{with-none, with-both}
 
 -- what holds holds of a failure
 pub on-err : {A E : Type 0} (r : Result A E) (P : Type 0) → P → OnErr r P
@@ -84,49 +85,37 @@ waiting-at P ep (x ∷ ls) n l h e =
 
 -- so many requests were filled with so many packets, which was sent and told; the packets that are left fill of these rows
 -- what is missing of it all
-pub record SoFar (max_packet : ℕ) (held : List StreamPacket) (all : Fill) (sent_all : List ℕ) (told_all : List Note) (rows : List Live) (f : Filled) (client : List ℕ) (notes : List Note) : Type 0 where
+pub record SoFar (max_packet : ℕ) (held : List StreamPacket) (all : Fill) (out_all : Outputs) (rows : List Live) (f : Filled) (out : Outputs) : Type 0 where
   pub few : f.packets ≤ length held
   pub requests : f.requests + length (rows_fill max_packet rows (drop f.packets held)).fillings ≡ length all.fillings
   pub left : (rows_fill max_packet rows (drop f.packets held)).left ≡ all.left
-  pub sent : client ++ filled_bytes max_packet rows (drop f.packets held) ≡ sent_all
-  pub told : notes ++ filled_notes (rows_fill max_packet rows (drop f.packets held)) ≡ told_all
+  pub gives : with_answers out (filled_bytes max_packet rows (drop f.packets held)) (filled_notes (rows_fill max_packet rows (drop f.packets held))) ≡ out_all
 
 -- all was filled
-pub record AllFilled (held : List StreamPacket) (all : Fill) (sent_all : List ℕ) (told_all : List Note) (f : Filled) (client : List ℕ) (notes : List Note) : Type 0 where
+pub record AllFilled (held : List StreamPacket) (all : Fill) (out_all : Outputs) (f : Filled) (out : Outputs) : Type 0 where
   pub few : f.packets ≤ length held
   pub requests : f.requests ≡ length all.fillings
   pub left : drop f.packets held ≡ all.left
-  pub sent : client ≡ sent_all
-  pub told : notes ≡ told_all
+  pub gives : out ≡ out_all
 
-pub none-yet : (max_packet : ℕ) (held : List StreamPacket) (rows : List Live) (client : List ℕ) (notes : List Note) (f : Filled) → f.requests ≡ 0 → f.packets ≡ 0
-    → SoFar max_packet held (rows_fill max_packet rows held) (client ++ filled_bytes max_packet rows held) (notes ++ filled_notes (rows_fill max_packet rows held)) rows f client notes
-none-yet max_packet held rows client notes f r p =
-    let same = ap (λ (n : ℕ). drop n held) p in
-    record {
-      few = omega (arith, p);
-      requests = (λ i. r i + length (rows_fill max_packet rows (same i)).fillings) ∙ zero-plus _;
-      left = ap (λ (ps : List StreamPacket). (rows_fill max_packet rows ps).left) same;
-      sent = ap (λ (ps : List StreamPacket). client ++ filled_bytes max_packet rows ps) same;
-      told = ap (λ (ps : List StreamPacket). notes ++ filled_notes (rows_fill max_packet rows ps)) same;
-    }
-  where
-    zero-plus : (n : ℕ) → 0 + n ≡ n
-    zero-plus n = omega arith
-
--- no row is left
-pub none-left : {max_packet : ℕ} {held : List StreamPacket} {all : Fill} {sent_all : List ℕ} {told_all : List Note} {rows : List Live} {f : Filled} {client : List ℕ} {notes : List Note}
-    → SoFar max_packet held all sent_all told_all rows f client notes → rows ≡ [] → AllFilled held all sent_all told_all f client notes
-none-left {max_packet = max_packet} {held = held} {f = f} {client = client} {notes = notes} s e = record {
+-- the packets that are left fill nothing more
+all-filled : {max_packet : ℕ} {held : List StreamPacket} {all : Fill} {out_all : Outputs} {rows : List Live} {f : Filled} {out : Outputs} → SoFar max_packet held all out_all rows f out →
+    rows_fill max_packet rows (drop f.packets held) ≡ none_filled (drop f.packets held) → filled_bytes max_packet rows (drop f.packets held) ≡ [] → AllFilled held all out_all f out
+all-filled {f = f} {out = out} s fill-is bytes-is = record {
   few = s.few;
-  requests = sym (plus-zero f.requests) ∙ ap (λ (ls : List Live). f.requests + length (rows_fill max_packet ls (drop f.packets held)).fillings) (sym e) ∙ s.requests;
-  left = ap (λ (ls : List Live). (rows_fill max_packet ls (drop f.packets held)).left) (sym e) ∙ s.left;
-  sent = sym (append-nil client) ∙ ap (λ (ls : List Live). client ++ filled_bytes max_packet ls (drop f.packets held)) (sym e) ∙ s.sent;
-  told = sym (append-nil notes) ∙ ap (λ (ls : List Live). notes ++ filled_notes (rows_fill max_packet ls (drop f.packets held))) (sym e) ∙ s.told;
+  requests = sym (plus-zero f.requests) ∙ ap (λ (x : Fill). f.requests + length x.fillings) (sym fill-is) ∙ s.requests;
+  left = ap (λ (x : Fill). x.left) (sym fill-is) ∙ s.left;
+  gives = sym (with-none out) ∙ (λ i. with_answers out (sym bytes-is i) (filled_notes (sym fill-is i))) ∙ s.gives;
 }
   where
     plus-zero : (n : ℕ) → n + 0 ≡ n
     plus-zero n = omega arith
+
+-- no row is left
+pub none-left : {max_packet : ℕ} {held : List StreamPacket} {all : Fill} {out_all : Outputs} {rows : List Live} {f : Filled} {out : Outputs} → SoFar max_packet held all out_all rows f out →
+    rows ≡ [] → AllFilled held all out_all f out
+none-left {max_packet = max_packet} {held = held} {f = f} s e =
+    all-filled s (ap (λ (ls : List Live). rows_fill max_packet ls (drop f.packets held)) e) (ap (λ (ls : List Live). filled_bytes max_packet ls (drop f.packets held)) e)
 
 -- no packet is left
 pub nothing-cut : (max_packet : ℕ) (r : Request) → cut_of max_packet r [] ≡ None
@@ -145,21 +134,11 @@ pub nothing-sent : (max_packet : ℕ) (rows : List Live) → filled_bytes max_pa
 nothing-sent max_packet [] = refl
 nothing-sent max_packet (l ∷ ls) = ap (λ cut. bytes_by l cut (filled_bytes max_packet ls)) (nothing-cut max_packet (row_request l))
 
-pub none-held : {max_packet : ℕ} {held : List StreamPacket} {all : Fill} {sent_all : List ℕ} {told_all : List Note} {rows : List Live} {f : Filled} {client : List ℕ} {notes : List Note}
-    → SoFar max_packet held all sent_all told_all rows f client notes → f.packets ≡ length held → AllFilled held all sent_all told_all f client notes
-none-held {max_packet = max_packet} {held = held} {rows = rows} {f = f} {client = client} {notes = notes} s e =
+pub none-held : {max_packet : ℕ} {held : List StreamPacket} {all : Fill} {out_all : Outputs} {rows : List Live} {f : Filled} {out : Outputs} → SoFar max_packet held all out_all rows f out →
+    f.packets ≡ length held → AllFilled held all out_all f out
+none-held {max_packet = max_packet} {held = held} {rows = rows} {f = f} s e =
     let gone : drop f.packets held ≡ [] = ap (λ (n : ℕ). drop n held) e ∙ drop-length held in
-    let fill-is = ap (rows_fill max_packet rows) gone ∙ nothing-filled max_packet rows in
-    record {
-      few = s.few;
-      requests = sym (plus-zero f.requests) ∙ ap (λ (x : Fill). f.requests + length x.fillings) (sym fill-is) ∙ s.requests;
-      left = gone ∙ ap (λ (x : Fill). x.left) (sym fill-is) ∙ s.left;
-      sent = sym (append-nil client) ∙ ap (λ (bs : List ℕ). client ++ bs) (sym (ap (filled_bytes max_packet rows) gone ∙ nothing-sent max_packet rows)) ∙ s.sent;
-      told = sym (append-nil notes) ∙ ap (λ (x : Fill). notes ++ filled_notes x) (sym fill-is) ∙ s.told;
-    }
-  where
-    plus-zero : (n : ℕ) → n + 0 ≡ n
-    plus-zero n = omega arith
+    all-filled s (ap (rows_fill max_packet rows) gone ∙ nothing-filled max_packet rows ∙ ap (λ (ps : List StreamPacket). none_filled ps) (sym gone)) (ap (filled_bytes max_packet rows) gone ∙ nothing-sent max_packet rows)
 
 -- ---- the next row
 
@@ -168,32 +147,20 @@ abbrev by-cut : (max_packet : ℕ) (l : Live) (rows : List Live) (packets : List
 by-cut max_packet l rows packets cut = filled_by l.seqnum packets cut (fill max_packet (map row_request rows))
 
 -- it isn't filled, and so none behind it
-pub stopped : {max_packet : ℕ} {held : List StreamPacket} {all : Fill} {sent_all : List ℕ} {told_all : List Note} {rows rest : List Live} {f : Filled} {client client_new : List ℕ} {notes : List Note}
-    → SoFar max_packet held all sent_all told_all rows f client notes → (l : Live) → rows ≡ l ∷ rest
-    → row_cut max_packet l (drop f.packets held) ≡ None → client_new ≡ client ++ cut_bytes l (row_cut max_packet l (drop f.packets held))
-    → AllFilled held all sent_all told_all f client_new notes
-stopped {max_packet = max_packet} {held = held} {rest = rest} {f = f} {client = client} {notes = notes} s l e cut more =
+pub stopped : {max_packet : ℕ} {held : List StreamPacket} {all : Fill} {out_all : Outputs} {rows rest : List Live} {f : Filled} {out : Outputs} → SoFar max_packet held all out_all rows f out →
+    (l : Live) → rows ≡ l ∷ rest → row_cut max_packet l (drop f.packets held) ≡ None → AllFilled held all out_all f out
+stopped {max_packet = max_packet} {held = held} {rest = rest} {f = f} s l e cut =
     let packets = drop f.packets held in
-    let fill-is = ap (λ (ls : List Live). rows_fill max_packet ls packets) e ∙ ap (by-cut max_packet l rest packets) cut in
-    record {
-      few = s.few;
-      requests = sym (plus-zero f.requests) ∙ ap (λ (x : Fill). f.requests + length x.fillings) (sym fill-is) ∙ s.requests;
-      left = ap (λ (x : Fill). x.left) (sym fill-is) ∙ s.left;
-      sent = more ∙ ap (λ c. client ++ cut_bytes l c) cut
-          ∙ ap (λ c. client ++ bytes_by l c (filled_bytes max_packet rest)) (sym cut) ∙ ap (λ (ls : List Live). client ++ filled_bytes max_packet ls packets) (sym e) ∙ s.sent;
-      told = sym (append-nil notes) ∙ ap (λ (x : Fill). notes ++ filled_notes x) (sym fill-is) ∙ s.told;
-    }
-  where
-    plus-zero : (n : ℕ) → n + 0 ≡ n
-    plus-zero n = omega arith
+    all-filled s (ap (λ (ls : List Live). rows_fill max_packet ls packets) e ∙ ap (by-cut max_packet l rest packets) cut)
+    (ap (λ (ls : List Live). filled_bytes max_packet ls packets) e ∙ ap (λ c. bytes_by l c (filled_bytes max_packet rest)) cut)
 
 -- it is filled, and so one is
 some-by : (max_packet : ℕ) (l : Live) (rest : List Live) (packets : List StreamPacket) (cut : Option (Cut Given)) → IsSome cut → 0 < length (by-cut max_packet l rest packets cut).fillings
 some-by max_packet l rest packets None is = absurd (false≢true is)
 some-by max_packet l rest packets (Some cut) is = omega arith
 
-pub some-filled : {max_packet : ℕ} {held : List StreamPacket} {all : Fill} {sent_all : List ℕ} {told_all : List Note} {rows rest : List Live} {f : Filled} {client : List ℕ} {notes : List Note}
-    → SoFar max_packet held all sent_all told_all rows f client notes → (l : Live) → rows ≡ l ∷ rest → IsSome (row_cut max_packet l (drop f.packets held)) → 0 < length all.fillings
+pub some-filled : {max_packet : ℕ} {held : List StreamPacket} {all : Fill} {out_all : Outputs} {rows rest : List Live} {f : Filled} {out : Outputs} → SoFar max_packet held all out_all rows f out →
+    (l : Live) → rows ≡ l ∷ rest → IsSome (row_cut max_packet l (drop f.packets held)) → 0 < length all.fillings
 some-filled {max_packet = max_packet} {held = held} {rest = rest} {f = f} s l e is =
     let packets = drop f.packets held in
     let some = some-by max_packet l rest packets (row_cut max_packet l packets) is in
@@ -205,53 +172,38 @@ cut-some count packets None h = absurd (none-some _ h.1)
 cut-some count packets (Some cut) h = refl
 
 -- it is filled with so many packets
-abbrev taken-by : (max_packet : ℕ) (held : List StreamPacket) (all : Fill) (sent_all : List ℕ) (told_all : List Note) (l : Live) (rest : List Live) (requests packets count : ℕ) (client : List ℕ) (notes : List Note) → Option (Cut Given) → Type 0
-taken-by max_packet held all sent_all told_all l rest requests packets count client notes cut =
-    option_map (λ (c : Cut Given). c.leaves) cut ≡ Some (drop count (drop packets held))
-    → requests + length (by-cut max_packet l rest (drop packets held) cut).fillings ≡ length all.fillings
-    → (by-cut max_packet l rest (drop packets held) cut).left ≡ all.left
-    → client ++ bytes_by l cut (filled_bytes max_packet rest) ≡ sent_all
-    → notes ++ filled_notes (by-cut max_packet l rest (drop packets held) cut) ≡ told_all
-    → packets + count ≤ length held
-    → SoFar max_packet held all sent_all told_all rest (record { requests = requests + 1; packets = packets + count }) (client ++ cut_bytes l cut) (notes ++ note.Answered l.seqnum ∷ [])
-
-taken-as : (max_packet : ℕ) (held : List StreamPacket) (all : Fill) (sent_all : List ℕ) (told_all : List Note) (l : Live) (rest : List Live) (requests packets count : ℕ) (client : List ℕ) (notes : List Note) (cut : Option (Cut Given))
-    → taken-by max_packet held all sent_all told_all l rest requests packets count client notes cut
-taken-as max_packet held all sent_all told_all l rest requests packets count client notes None h r lf sn td few = absurd (none-some _ h)
-taken-as max_packet held all sent_all told_all l rest requests packets count client notes (Some c) h r lf sn td few =
-    let at = same_Some c.leaves _ h ∙ drop-drop count packets held in
+taken-as : (max_packet : ℕ) (held : List StreamPacket) (all : Fill) (out_all : Outputs) (l : Live) (rest : List Live) (f : Filled) (count : ℕ) (out : Outputs) (cut : Option (Cut Given)) →
+    option_map (λ (c : Cut Given). c.leaves) cut ≡ Some (drop count (drop f.packets held)) →
+    f.requests + length (by-cut max_packet l rest (drop f.packets held) cut).fillings ≡ length all.fillings →
+    (by-cut max_packet l rest (drop f.packets held) cut).left ≡ all.left →
+    with_answers out (bytes_by l cut (filled_bytes max_packet rest)) (filled_notes (by-cut max_packet l rest (drop f.packets held) cut)) ≡ out_all →
+    f.packets + count ≤ length held →
+    SoFar max_packet held all out_all rest (record { requests = f.requests + 1; packets = f.packets + count }) (with_answers out (cut_bytes l cut) (note.Answered l.seqnum ∷ []))
+taken-as max_packet held all out_all l rest f count out None h r lf gv few = absurd (none-some _ h)
+taken-as max_packet held all out_all l rest f count out (Some c) h r lf gv few =
+    let at = same_Some c.leaves _ h ∙ drop-drop count f.packets held in
     let many = ap (λ (ps : List StreamPacket). length (rows_fill max_packet rest ps).fillings) at in
     record {
       few = few;
       requests = omega (arith, r, many);
       left = ap (λ (ps : List StreamPacket). (rows_fill max_packet rest ps).left) (sym at) ∙ lf;
-      sent = ap (λ (ps : List StreamPacket). client ++ spelling (with_given (row_request l) c.gives) ++ filled_bytes max_packet rest ps) (sym at)
-          ∙ append_assoc client (spelling (with_given (row_request l) c.gives)) (filled_bytes max_packet rest c.leaves) ∙ sn;
-      told = ap (λ (ps : List StreamPacket). notes ++ note.Answered l.seqnum ∷ [] ++ filled_notes (rows_fill max_packet rest ps)) (sym at)
-          ∙ append_assoc notes (note.Answered l.seqnum ∷ []) (filled_notes (rows_fill max_packet rest c.leaves)) ∙ td;
+      gives = with-both out (spelling (with_given (row_request l) c.gives)) _ (note.Answered l.seqnum ∷ []) _
+          ∙ ap (λ (ps : List StreamPacket). with_answers out (spelling (with_given (row_request l) c.gives) ++ filled_bytes max_packet rest ps) (note.Answered l.seqnum ∷ filled_notes (rows_fill max_packet rest ps))) (sym at) ∙ gv;
     }
 
-pub taken : {max_packet : ℕ} {held : List StreamPacket} {all : Fill} {sent_all : List ℕ} {told_all : List Note} {rows rest : List Live} {f : Filled} {client : List ℕ} {notes : List Note}
-    → SoFar max_packet held all sent_all told_all rows f client notes → (l : Live) → rows ≡ l ∷ rest → (count : ℕ)
-    → HasTaken (Some count) (drop f.packets held) (row_cut max_packet l (drop f.packets held))
-    → SoFar max_packet held all sent_all told_all rest (record { requests = f.requests + 1; packets = f.packets + count }) (client ++ cut_bytes l (row_cut max_packet l (drop f.packets held))) (notes ++ note.Answered l.seqnum ∷ [])
-taken {max_packet = max_packet} {held = held} {all = all} {sent_all = sent_all} {told_all = told_all} {rest = rest} {f = f} {client = client} {notes = notes} s l e count h =
+pub taken : {max_packet : ℕ} {held : List StreamPacket} {all : Fill} {out_all : Outputs} {rows rest : List Live} {f : Filled} {out : Outputs} → SoFar max_packet held all out_all rows f out →
+    (l : Live) → rows ≡ l ∷ rest → (count : ℕ) → HasTaken (Some count) (drop f.packets held) (row_cut max_packet l (drop f.packets held)) →
+    SoFar max_packet held all out_all rest (record { requests = f.requests + 1; packets = f.packets + count }) (with_answers out (cut_bytes l (row_cut max_packet l (drop f.packets held))) (note.Answered l.seqnum ∷ []))
+taken {max_packet = max_packet} {held = held} {all = all} {out_all = out_all} {rest = rest} {f = f} {out = out} s l e count h =
     let packets = drop f.packets held in
     let long = length-drop f.packets held in
-    taken-as max_packet held all sent_all told_all l rest f.requests f.packets count client notes (row_cut max_packet l packets) h.1
+    taken-as max_packet held all out_all l rest f count out (row_cut max_packet l packets) h.1
     (ap (λ (ls : List Live). f.requests + length (rows_fill max_packet ls packets).fillings) (sym e) ∙ s.requests)
     (ap (λ (ls : List Live). (rows_fill max_packet ls packets).left) (sym e) ∙ s.left)
-    (ap (λ (ls : List Live). client ++ filled_bytes max_packet ls packets) (sym e) ∙ s.sent)
-    (ap (λ (ls : List Live). notes ++ filled_notes (rows_fill max_packet ls packets)) (sym e) ∙ s.told)
+    (ap (λ (ls : List Live). with_answers out (filled_bytes max_packet ls packets) (filled_notes (rows_fill max_packet ls packets))) (sym e) ∙ s.gives)
     (omega (arith, h.0, long, s.few))
 
-pub moved : {max_packet : ℕ} {held : List StreamPacket} {all : Fill} {sent_all : List ℕ} {told_all : List Note} {rows : List Live} {f f_new : Filled} {client client_new : List ℕ} {notes notes_new : List Note}
-    → SoFar max_packet held all sent_all told_all rows f client notes → f_new ≡ f → client_new ≡ client → notes_new ≡ notes → SoFar max_packet held all sent_all told_all rows f_new client_new notes_new
-moved {max_packet = max_packet} {held = held} {all = all} {sent_all = sent_all} {told_all = told_all} {rows = rows} {f_new = f_new} {client = client} {client_new = client_new} {notes = notes} s f c n =
-    subst (λ (x : List Note). SoFar max_packet held all sent_all told_all rows f_new client_new x) (sym n)
-    (subst (λ (x : List ℕ). SoFar max_packet held all sent_all told_all rows f_new x notes) (sym c)
-    (subst (λ (x : Filled). SoFar max_packet held all sent_all told_all rows x client notes) (sym f) s))
-
--- what was extended is extended once more
-pub extended : {A : Type 0} {old now new : List A} → Extends old now → (more : List A) → new ≡ now ++ more → Extends old new
-extended {old = old} e more is = record { more = e.more ++ more; is = is ∙ ap (λ l. l ++ more) e.is ∙ append_assoc old e.more more }
+pub moved : {max_packet : ℕ} {held : List StreamPacket} {all : Fill} {out_all : Outputs} {rows : List Live} {f f_new : Filled} {out out_new : Outputs} → SoFar max_packet held all out_all rows f out →
+    f_new ≡ f → out_new ≡ out → SoFar max_packet held all out_all rows f_new out_new
+moved {max_packet = max_packet} {held = held} {all = all} {out_all = out_all} {rows = rows} {f_new = f_new} {out = out} s f o =
+    subst (SoFar max_packet held all out_all rows f_new) (sym o) (subst (λ (x : Filled). SoFar max_packet held all out_all rows x out) (sym f) s)

@@ -35,7 +35,7 @@ use Rattle.gate_parts.specs.state.Rows.{IsRowOf, kind_of, row_of, row_request, I
 use Rattle.gate_parts.specs.host.Responses.{row_answer, row_ep, row_gets, row_mismatch, IsAnswer, has_won, IsCounted}
 use Rattle.gate_history.specs.step.Fits.{ResponseFits}
 use Rattle.gate_parts.proofs.lemmas.write.Answers.{by_ending, row-answers}
-use Rattle.gate_parts.proofs.lemmas.state.Rows.{wire-row}
+use Rattle.gate_parts.proofs.lemmas.state.Rows.{by-verdict, wire-row}
 
 -- ---- rows
 
@@ -53,11 +53,7 @@ row-answer (IsoOut r) ep = refl
 row-answer (Stream row) ep = refl
 
 pub row-gets : (v : Verdict) (ep : ℕ) → row_gets (kind_of v ep) ≡ gets v
-row-gets (Now status) ep = refl
-row-gets (Wire pipe) ep = refl
-row-gets (Routed r) ep = refl
-row-gets (IsoOut r) ep = refl
-row-gets (Stream row) ep = refl
+row-gets v ep = by-verdict (λ w. row_gets (kind_of w ep) ≡ gets w) (λ s. refl) (λ p. refl) (λ r. refl) (λ r. refl) (λ r. refl) v
 
 -- ---- what is wrong
 

@@ -1,6 +1,9 @@
 -- What the rows of requests say of their submits.
 use Rattle.std.proofs.Common.{◌≡◌, ℕ, ◌&&◌, Bool, true, false, cond, List, [], ◌∷◌, ◌++◌, map, Option, refl, sym, ap, ◌∙◌}
-use Rattle.std.specs.Prelude.{is_none, filter}
+use Rattle.std.specs.Prelude.{ℤ, is_none, filter}
+use Rattle.usb_base.specs.declared.endpoint.EpRow.{EpRow}
+use Rattle.control_route.specs.declared.route.Route.{Route}
+use Rattle.gate_history.specs.declared.verdict.Pipe.{Pipe}
 use Rattle.std.specs.List.{flat_map}
 use Rattle.redir_wire.specs.declared.packet.Caps.{Caps}
 use Rattle.redir_wire.specs.declared.packet.RedirControl.TheVariants as plain
@@ -16,22 +19,21 @@ use Rattle.gate_history.specs.write.Output.{cancel}
 use Rattle.gate_history.specs.write.Bytes.{host_packet_bytes}
 use Rattle.gate_parts.specs.state.Rows.{is_wire_row, kind_of, row_of, row, unmarked, left_row, cancel_bytes}
 
+-- what holds of each verdict
+pub by-verdict : (P : Verdict → Type 0) → ((status : ℤ) → P (Now status)) → ((pipe : Pipe) → P (Wire pipe)) → ((r : Route) → P (Routed r)) → ((row : EpRow) → P (IsoOut row)) → ((row : EpRow) → P (Stream row)) →
+    (v : Verdict) → P v
+by-verdict P now wire routed iso stream (Now status) = now status
+by-verdict P now wire routed iso stream (Wire pipe) = wire pipe
+by-verdict P now wire routed iso stream (Routed r) = routed r
+by-verdict P now wire routed iso stream (IsoOut row) = iso row
+by-verdict P now wire routed iso stream (Stream row) = stream row
+
 pub wire-row : (v : Verdict) (ep : ℕ) → is_wire_row (kind_of v ep) ≡ is_wire v
-wire-row (Now status) ep = refl
-wire-row (Wire pipe) ep = refl
-wire-row (Routed r) ep = refl
-wire-row (IsoOut r) ep = refl
-wire-row (Stream r) ep = refl
+wire-row v ep = by-verdict (λ w. is_wire_row (kind_of w ep) ≡ is_wire w) (λ s. refl) (λ p. refl) (λ r. refl) (λ r. refl) (λ r. refl) v
 
 pub by_id-row : (s : Submission) (by : Option ℕ) → is_answered_by_id (row_of s by) ≡ goes_by_id s.verdict
-by_id-row s by = of s.verdict
-  where
-    of : (v : Verdict) → is_answered_by_id (row_of (record s { verdict = v }) by) ≡ goes_by_id v
-    of (Now status) = refl
-    of (Wire pipe) = refl
-    of (Routed r) = refl
-    of (IsoOut r) = refl
-    of (Stream r) = refl
+by_id-row s by =
+    by-verdict (λ v. is_answered_by_id (row_of (record s { verdict = v }) by) ≡ goes_by_id v) (λ s. refl) (λ p. refl) (λ r. refl) (λ r. refl) (λ r. refl) s.verdict
 
 -- what is left at the host
 pub left-rows : (ps : List Pending) → map unmarked (filter is_answered_by_id (map row ps)) ≡ map left_row (filter (λ s. goes_by_id s.verdict) (map (λ (p : Pending). p.submit) ps))

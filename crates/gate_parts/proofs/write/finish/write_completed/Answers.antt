@@ -1,4 +1,8 @@
-use Rattle.std.proofs.Common.{◌∙◌, Bool, map, refl, sym, ap, subst}
+use Rattle.std.proofs.Common.{◌≡◌, ◌++◌, ◌∙◌, Bool, map, refl, sym, ap, subst}
+use Rattle.std.specs.List.{flat_map}
+use Rattle.std.proofs.lemmas.Result.{on_ok_weaker, IfOk-weaker}
+use Rattle.unlink_race.specs.declared.ending.Ending.{Ending}
+use Rattle.usbip_urb.specs.Spelling.{spelling}
 use Rattle.usb_base.specs.declared.transfer.Outcome.{Outcome}
 use Rattle.usbip_urb.specs.declared.client.ClientPacket.TheVariants.{Urb}
 use Rattle.unlink_race.specs.declared.live.Live.{Live}
@@ -6,8 +10,11 @@ use Rattle.gate_history.specs.write.Answers.{answers_by}
 use Rattle.gate_history.specs.write.Asked.{IsMoved}
 use Rattle.gate_parts.specs.host.Responses.{response_view, row_gets, IsCounted, has_won}
 use Rattle.unlink_race.specs.Endings.{ending_of}
-use Rattle.gate_history.specs.host.Responses.{seen}
-use Rattle.gate_parts.specs.state.Rows.{row_request}
+use Rattle.gate_history.specs.declared.request.Request.{Request}
+use Rattle.gate_history.specs.declared.verdict.Verdict.{Verdict}
+use Rattle.gate_history.specs.step.Marks.{Submission}
+use Rattle.gate_history.specs.host.Responses.{Response, gets as gets_value, seen}
+use Rattle.gate_parts.specs.state.Rows.{row_of, row_request}
 use Rattle.gate_parts.proofs.lemmas.host.Responses.{row-is, row-gets, getting, getting-is, seen-moved, answers-counted}
 use Rattle.gate_parts.proofs.write.finish.write_completed.Goals as goal
 
@@ -18,9 +25,26 @@ write_answers-requires-clause-moved c =
     subst (λ (o : Outcome). IsMoved l.is_in o) (sym (c.in_ok-outcome.ensures.ok (row_request l) v refl (getting-is (row_gets l.kind) ∙ sym c.gets.ensures)))
     (seen-moved l v (response_view c.args.response) (getting-is (row_gets l.kind)) c.requires.read c.requires.answer)
 
+-- the outcome is what the answer makes of the submit's transfer
+module _ (l : Live) (response : Response) (o : Outcome) (gets : Bool) (gets-is : gets ≡ row_gets l.kind)
+    (is : (r : Request) (v : Verdict) → r.transfer.wanted ≡ l.wanted → gets_value v ≡ gets → o ≡ seen r v response) (s : Submission) (e : row_of s l.unlinker ≡ l) where
+  seen-is : o ≡ seen s.request s.verdict response
+  seen-is = is s.request s.verdict (ap (λ (k : Live). k.wanted) e) (sym (row-gets s.verdict s.request.transfer.ep) ∙ ap (λ (k : Live). row_gets k.kind) e ∙ sym gets-is)
+
+pub returns-clause-ok : goal.returns-clause-ok
+returns-clause-ok c s e =
+    let l = c.args.live.now in
+    let old = c.args.out.now in
+    let is = seen-is l (response_view c.args.response) c.in_ok-outcome.outcome c.gets.result c.gets.ensures c.in_ok-outcome.ensures.ok s e in
+    on_ok_weaker c.write_answers.result
+    (λ sent. λ i. record old { to_client = (sent ∙ ap (λ (o : Outcome). old.to_client ++ flat_map spelling (answers_by s o l.unlinker)) is) i; notes = c.in_ok-push.ensures.ok i })
+    (c.write_answers.ensures.ok s (row-is s l.unlinker l e))
+
 pub returns-clause-counted : goal.returns-clause-counted
 returns-clause-counted c s e =
     let l = c.args.live.now in
-    let is = c.in_ok-outcome.ensures.ok s.request s.verdict (ap (λ (k : Live). k.wanted) e) (sym (row-gets s.verdict s.request.transfer.ep) ∙ ap (λ (k : Live). row_gets k.kind) e ∙ sym c.gets.ensures) in
-    subst (λ (b : Bool). IsCounted (map Urb (answers_by s (seen s.request s.verdict (response_view c.args.response)) l.unlinker)) b) (sym (c.has_won.ensures ∙ ap has_won c.ending_of-ending.ensures))
-    (subst (λ (o : Outcome). IsCounted (map Urb (answers_by s o l.unlinker)) (has_won (ending_of l.unlinker l.kind c.in_ok-outcome.outcome.status))) is (answers-counted s l c.in_ok-outcome.outcome (row-is s l.unlinker l e)))
+    let is = seen-is l (response_view c.args.response) c.in_ok-outcome.outcome c.gets.result c.gets.ensures c.in_ok-outcome.ensures.ok s e in
+    IfOk-weaker c.write_answers.result (λ (e : Ending). e ≡ ending_of l.unlinker l.kind c.in_ok-outcome.outcome.status) (λ (e : Ending). IsCounted (map Urb (answers_by s (seen s.request s.verdict (response_view c.args.response)) l.unlinker)) (has_won e))
+    (λ ending ends. subst (λ (b : Bool). IsCounted (map Urb (answers_by s (seen s.request s.verdict (response_view c.args.response)) l.unlinker)) b) (sym (ap has_won ends))
+    (subst (λ (o : Outcome). IsCounted (map Urb (answers_by s o l.unlinker)) (has_won (ending_of l.unlinker l.kind c.in_ok-outcome.outcome.status))) is (answers-counted s l c.in_ok-outcome.outcome (row-is s l.unlinker l e))))
+    c.write_answers.ensures.ending

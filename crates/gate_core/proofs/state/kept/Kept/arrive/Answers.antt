@@ -1,9 +1,10 @@
-use Rattle.std.proofs.Common.{◌≡◌, ◌∙◌, ◌++◌, ◌∷◌, ℕ, List, Option, Some, None, ap, sym, subst, refl, arith}
+use Rattle.std.proofs.Common.{◌≡◌, ◌∙◌, ◌∷◌, ℕ, List, Option, Some, None, ap, sym, subst, refl, arith}
 use Rattle.std.specs.Prelude.{slice_set}
 use Rattle.std.proofs.lemmas.Bool.{false≢true}
 use Rattle.usb_base.specs.Endpoint.{endpoint_index}
 use Rattle.gate_history.specs.declared.note.Note.TheVariants as note
 use Rattle.gate_history.specs.step.Marks.{Idle}
+use Rattle.gate_parts.specs.write.Outputs.{with_answers}
 use Rattle.gate_core.specs.inner.Fill.{HasReceived, received_bytes, received_notes}
 use Rattle.gate_core.specs.declared.state.kept.Kept.{Kept}
 use Rattle.gate_history.specs.state.Ups.{Up, stream_at, stream_of}
@@ -46,20 +47,19 @@ returns-clause-ok c st h sound =
     let between : Kept = record old { streams = c.take.new.self } in
     let at : stream_at old.streams e ≡ Some c.in-Some-take.up = ap (stream_at old.streams) (sym byte) ∙ sym c.in-Some-take.ensures.up in
     on-ok c.receive-received.result
-    (λ r s t.
-    does-receive st sound e c.args.stream.is_iso c.args.packet c.in-Some-take.up c.receive-received.new.up old between c.receive-received.new.self _ c.args.out.now c.receive-received.new.to_client c.receive-received.new.notes h
+    (λ r s.
+    does-receive st sound e c.args.stream.is_iso c.args.packet c.in-Some-take.up c.receive-received.new.up old between c.receive-received.new.self _ c.args.out.now c.receive-received.new.out h
     c.requires.kept (c.in-Some.ensures.is_some.0 refl) at
     (ap (λ (ups : List (Option Up)). record old { streams = ups }) (c.in-Some-take.ensures.rest ∙ ap (λ (n : ℕ). slice_set old.streams (endpoint_index n) None) byte))
     (ap (λ (ups : List (Option Up)). record c.receive-received.new.self { streams = ups }) (c.put.ensures ∙ ap (λ (n : ℕ). slice_set c.receive-received.new.self.streams (endpoint_index n) (Some c.receive-received.new.up)) byte))
     (subst (λ (n : ℕ). HasReceived n c.args.stream.is_iso c.args.packet c.in-Some-take.up c.receive-received.new.up between c.receive-received.new.self) byte r)
-    (s ∙ ap (λ (n : ℕ). c.args.out.now.to_client ++ received_bytes n c.args.stream.is_iso c.args.packet c.in-Some-take.up between.lives.live) byte)
-    (t ∙ ap (λ (n : ℕ). c.args.out.now.notes ++ note.Arrived n ∷ received_notes n c.args.stream.is_iso c.args.packet c.in-Some-take.up between.lives.live) byte))
-    c.receive-received.ensures.received c.receive-received.ensures.sent c.receive-received.ensures.told
+    (s ∙ ap (λ (n : ℕ). with_answers c.args.out.now (received_bytes n c.args.stream.is_iso c.args.packet c.in-Some-take.up between.lives.live) (note.Arrived n ∷ received_notes n c.args.stream.is_iso c.args.packet c.in-Some-take.up between.lives.live)) byte))
+    c.receive-received.ensures.received c.receive-received.ensures.sent
 
 pub returns-clause-err : goal.returns-clause-err
 returns-clause-err c =
-    puts-back c.receive-received.result c.args.self.now c.receive-received.new.self c.in-Some-take.up c.receive-received.new.up (endpoint_index c.in-Some.ep) c.take.new.self c.put.new.self c.args.out.now c.receive-received.new.to_client c.receive-received.new.notes
-    c.in-Some-take.ensures.rest c.in-Some-take.ensures.up c.put.ensures c.receive-received.ensures.same c.receive-received.ensures.same_up c.receive-received.ensures.err c.receive-received.ensures.err_notes
+    puts-back c.receive-received.result c.args.self.now c.receive-received.new.self c.in-Some-take.up c.receive-received.new.up (endpoint_index c.in-Some.ep) c.take.new.self c.put.new.self c.args.out.now c.receive-received.new.out
+    c.in-Some-take.ensures.rest c.in-Some-take.ensures.up c.put.ensures c.receive-received.ensures.same c.receive-received.ensures.same_up c.receive-received.ensures.err
 
 pub returns-clause-wants : goal.returns-clause-wants
 returns-clause-wants c st h =

@@ -1,9 +1,12 @@
-use Rattle.std.proofs.Common.{◌≡◌, ◌∙◌, ◌+◌, ℕ, Bool, true, false, not, cond, refl, sym, ap, arith}
+use Rattle.std.proofs.Common.{◌≡◌, ◌∙◌, ◌+◌, ℕ, Bool, true, false, not, cond, map, refl, sym, ap, subst, arith}
+use Rattle.usbip_urb.specs.declared.client.ClientPacket.TheVariants.{Urb}
+use Rattle.gate_history.specs.host.Responses.{seen}
+use Rattle.gate_history.specs.write.Answers.{answers_by}
 use mir.Val.{bool_byte}
 use Rattle.std.specs.Option.{option_copied}
 use Rattle.unlink_race.specs.Searches.{has_id}
 use Rattle.gate_parts.specs.state.Rows.{IsFine}
-use Rattle.gate_parts.specs.host.Responses.{response_view}
+use Rattle.gate_parts.specs.host.Responses.{response_view, IsCounted}
 use Rattle.usb_base.specs.Number.{capped}
 use Rattle.gate_core.proofs.lemmas.Held.{live-taken, left-taken, without-one, each-at}
 use Rattle.gate_core.proofs.lemmas.host.Answer.{does-live, live-gives, does-late}
@@ -43,18 +46,18 @@ won-one false = refl
 pub returns-clause-ok : goal.returns-clause-ok
 returns-clause-ok c st id is h sound =
     let taken = live-taken (has_id id) c.args.self.now.lives c.args.at is c.in-Some.live.now (sym c.at.ensures ∙ ap option_copied c.in-Some.is) in
-    does-live st id (response_view c.args.response) sound c.args.self.now c.finish_at-2.new.self c.in-Some.live.now c.in_ok-won.won c.saturating_add-self.result c.saturating_add-self-2.result c.args.out.now c.write_completed.new.to_client c.write_completed.new.notes
+    does-live st id (response_view c.args.response) sound c.args.self.now c.finish_at-2.new.self c.in-Some.live.now c.has_won-won.result c.saturating_add-self.result c.saturating_add-self-2.result c.args.out.now c.write_completed.new.out
     h c.requires.kept.dropped_fits taken.0 (c.finish_at-2.ensures.rest ∙ taken.1)
-    c.in_ok-won.ensures.ok c.in_ok-won.ensures.counted c.in_ok-won.ensures.notes
-    (c.saturating_add-self.ensures ∙ ap (λ (n : ℕ). capped (c.args.self.now.answered + n)) (c.from.ensures ∙ lost-one c.in_ok-won.won))
-    (c.saturating_add-self-2.ensures ∙ ap (λ (n : ℕ). capped (c.args.self.now.unlinked + n)) (c.from-2.ensures ∙ won-one c.in_ok-won.won))
+    c.in_ok-ending.ensures.ok (λ s row. subst (IsCounted (map Urb (answers_by s (seen s.request s.verdict (response_view c.args.response)) c.in-Some.live.now.unlinker))) (sym c.has_won-won.ensures) (c.in_ok-ending.ensures.counted s row))
+    (c.saturating_add-self.ensures ∙ ap (λ (n : ℕ). capped (c.args.self.now.answered + n)) (c.from.ensures ∙ lost-one c.has_won-won.result))
+    (c.saturating_add-self-2.ensures ∙ ap (λ (n : ℕ). capped (c.args.self.now.unlinked + n)) (c.from-2.ensures ∙ won-one c.has_won-won.result))
 
 pub returns-in_default-clause-kept : goal.returns-in_default-clause-kept
 returns-in_default-clause-kept c =
     let k = c.requires.kept in
     without-one c.args.self.now c.args.at c.finish_at.new.self c.args.self.now.answered c.args.self.now.unlinked k c.finish_at.ensures.rest k.answered_fits k.unlinked_fits
 
-pub returns-in_err-won-clause-wants : goal.returns-in_err-won-clause-wants
-returns-in_err-won-clause-wants c st id is h sound =
+pub returns-in_err-ending-clause-wants : goal.returns-in_err-ending-clause-wants
+returns-in_err-ending-clause-wants c st id is h sound =
     let taken = live-taken (has_id id) c.args.self.now.lives c.args.at is c.in-Some.live.now (sym c.at.ensures ∙ ap option_copied c.in-Some.is) in
     on-err c.from_residual.result _ (live-gives st id (response_view c.args.response) sound c.args.self.now c.in-Some.live.now h taken.0)

@@ -7,14 +7,16 @@ use Rattle.usbip_urb.specs.declared.client.ClientPacket.TheVariants.{Urb}
 use Rattle.usb_base.specs.Number.{capped}
 use Rattle.gate_history.specs.declared.request.Request.{Request}
 use Rattle.gate_history.specs.client.Requests.{request_of}
-use Rattle.gate_history.specs.step.Marks.{Refuses}
+use Rattle.gate_history.specs.step.Marks.{Effect, Refuses}
 use Rattle.gate_history.specs.state.State.{State, is_number, submits, change_waits}
-use Rattle.gate_history.specs.step.Meaning.{refused, accepts, verdict_of, asked_meaning}
+use Rattle.gate_history.specs.step.Meaning.{mark_as, refused, accepts, verdict_of, asked_meaning}
 use Rattle.gate_core.specs.declared.state.kept.Kept.{Kept}
-use Rattle.gate_core.specs.inner.Holds.{Holds}
+use Rattle.gate_parts.specs.declared.write.outputs.Outputs.{Outputs}
+use Rattle.gate_core.specs.inner.Holds.{Holds, Does}
 use Rattle.gate_core.proofs.lemmas.state.Ids.{number-rows}
-use Rattle.std.specs.Prelude.{FitsSigned}
+use Rattle.std.specs.Prelude.{FitsSigned, Result, OnOk, None}
 use Rattle.std.proofs.lemmas.Int.{to_z-of_z}
+use Rattle.gate_history.specs.declared.verdict.Verdict.{Verdict}
 use Rattle.gate_history.specs.declared.verdict.Verdict.TheVariants.{Now, Wire, Routed, IsoOut}
 use Rattle.gate_history.specs.state.Flight.{wide_bulk}
 use Rattle.gate_parts.proofs.lemmas.client.Directions.{StatusFits, verdict-fits}
@@ -35,6 +37,13 @@ is-accepted old st at s r h is imported free =
     let none = sym (ap (list_any (has_number s.head.seqnum)) h.live ∙ number-rows s.head.seqnum st.live) ∙ free in
     ap (λ (q : Request). accepts st q (verdict_of st q)) is
     ∙ (λ i. cond (not (sym here i)) (refused Client at NotImported) (cond (sym none i) (refused Client (at + 4) DuplicateSeq) (accepts st (request_of s) (verdict_of st (request_of s)))))
+
+-- and goes on by its verdict
+goes-on : {T E : Type 0} (result : Result T E) (old new : Kept) (st : State) (at : ℕ) (s : Submit) (r : Request) (v : Verdict) (e : Effect) (out_old out_new : Outputs) →
+    Holds old st → r ≡ request_of s → old.imported ≡ true → list_any (has_number s.head.seqnum) old.lives.live ≡ false → e ≡ accepts st r v → v ≡ verdict_of st r →
+    OnOk result (Does st (mark_as st e None) old new out_old out_new) → OnOk result (Does st (mark_as st (asked_meaning st at (Urb (SubmitPacket s))) None) old new out_old out_new)
+goes-on result old new st at s r v e out_old out_new h is imported free does is-so =
+    as-effect result st e (asked_meaning st at (Urb (SubmitPacket s))) old new out_old out_new (does ∙ ap (accepts st r) is-so ∙ is-accepted old st at s r h is imported free)
 
 pub returns-then-has-clause-ok : goal.returns-then-has-clause-ok
 returns-then-has-clause-ok c st at place h sound going =
@@ -60,33 +69,27 @@ send_route-requires-clause-some c = c.in-Routed.ensures.answered.sends
 pub returns-in-Now-clause-ok : goal.returns-in-Now-clause-ok
 returns-in-Now-clause-ok c st at place h sound going =
     let r = c.of-request.result in
-    let accepted = is-accepted c.args.self.now st at c.args.submit r h c.of-request.ensures.value c.if-not-self.false (sym c.has.ensures ∙ c.if-has.false) in
     let now : Now c.in-Now.status ≡ verdict_of st r = sym (c.in-Now.is) ∙ c.verdict.ensures.value st h in
     let fits : FitsSigned w32 c.in-Now.status = subst StatusFits (sym now) (verdict-fits st.lost (length st.live) (change_waits st) st.facts.table (wide_bulk st.agreed) r) in
-    as-effect c.answer_now.result st _ _ c.args.self.now c.answer_now.new.self c.args.out.now c.answer_now.new.out
-    (opens st r (Now _) refl ∙ ap (accepts st r) (ap (λ s. Now s) (to_z-of_z w32 c.in-Now.status fits) ∙ now) ∙ accepted)
-    (c.answer_now.ensures.ok st h sound)
+    goes-on c.answer_now.result c.args.self.now c.answer_now.new.self st at c.args.submit r _ _ c.args.out.now c.answer_now.new.out h c.of-request.ensures.value c.if-not-self.false (sym c.has.ensures ∙ c.if-has.false)
+    (opens st r (Now _) refl) (ap (λ s. Now s) (to_z-of_z w32 c.in-Now.status fits) ∙ now) (c.answer_now.ensures.ok st h sound)
 
 pub returns-in-Wire-clause-ok : goal.returns-in-Wire-clause-ok
 returns-in-Wire-clause-ok c st at place h sound going =
-    let r = c.of-request.result in
-    let accepted = is-accepted c.args.self.now st at c.args.submit r h c.of-request.ensures.value c.if-not-self.false (sym c.has.ensures ∙ c.if-has.false) in
-    as-effect c.send.result st _ _ c.args.self.now c.send.new.self c.args.out.now c.send.new.out (opens st r (Wire _) refl ∙ ap (accepts st r) (sym (c.in-Wire.is) ∙ c.verdict.ensures.value st h) ∙ accepted) (c.send.ensures.ok st h sound)
+    goes-on c.send.result c.args.self.now c.send.new.self st at c.args.submit c.of-request.result _ _ c.args.out.now c.send.new.out h c.of-request.ensures.value c.if-not-self.false (sym c.has.ensures ∙ c.if-has.false)
+    (opens st c.of-request.result (Wire _) refl) (sym (c.in-Wire.is) ∙ c.verdict.ensures.value st h) (c.send.ensures.ok st h sound)
 
 pub returns-in-Routed-clause-ok : goal.returns-in-Routed-clause-ok
 returns-in-Routed-clause-ok c st at place h sound going =
-    let r = c.of-request.result in
-    let accepted = is-accepted c.args.self.now st at c.args.submit r h c.of-request.ensures.value c.if-not-self.false (sym c.has.ensures ∙ c.if-has.false) in
-    as-effect c.send_route.result st _ _ c.args.self.now c.send_route.new.self c.args.out.now c.send_route.new.out (opens st r (Routed _) refl ∙ ap (accepts st r) (sym (c.in-Routed.is) ∙ c.verdict.ensures.value st h) ∙ accepted) (c.send_route.ensures.ok st h sound)
+    goes-on c.send_route.result c.args.self.now c.send_route.new.self st at c.args.submit c.of-request.result _ _ c.args.out.now c.send_route.new.out h c.of-request.ensures.value c.if-not-self.false (sym c.has.ensures ∙ c.if-has.false)
+    (opens st c.of-request.result (Routed _) refl) (sym (c.in-Routed.is) ∙ c.verdict.ensures.value st h) (c.send_route.ensures.ok st h sound)
 
 pub returns-in-IsoOut-clause-ok : goal.returns-in-IsoOut-clause-ok
 returns-in-IsoOut-clause-ok c st at place h sound going =
-    let r = c.of-request.result in
-    let accepted = is-accepted c.args.self.now st at c.args.submit r h c.of-request.ensures.value c.if-not-self.false (sym c.has.ensures ∙ c.if-has.false) in
-    as-effect c.send_iso.result st _ _ c.args.self.now c.send_iso.new.self c.args.out.now c.send_iso.new.out (opens st r (IsoOut _) refl ∙ ap (accepts st r) (sym (c.in-IsoOut.is) ∙ c.verdict.ensures.value st h) ∙ accepted) (c.send_iso.ensures.ok st h sound)
+    goes-on c.send_iso.result c.args.self.now c.send_iso.new.self st at c.args.submit c.of-request.result _ _ c.args.out.now c.send_iso.new.out h c.of-request.ensures.value c.if-not-self.false (sym c.has.ensures ∙ c.if-has.false)
+    (opens st c.of-request.result (IsoOut _) refl) (sym (c.in-IsoOut.is) ∙ c.verdict.ensures.value st h) (c.send_iso.ensures.ok st h sound)
 
 pub returns-in-Stream-clause-ok : goal.returns-in-Stream-clause-ok
 returns-in-Stream-clause-ok c st at place h sound going =
-    let r = c.of-request.result in
-    let accepted = is-accepted c.args.self.now st at c.args.submit r h c.of-request.ensures.value c.if-not-self.false (sym c.has.ensures ∙ c.if-has.false) in
-    as-effect c.wait.result st _ _ c.args.self.now c.wait.new.self c.args.out.now c.wait.new.out (ap (accepts st r) (sym (c.in-Stream.is) ∙ c.verdict.ensures.value st h) ∙ accepted) (c.wait.ensures.ok st h sound)
+    goes-on c.wait.result c.args.self.now c.wait.new.self st at c.args.submit c.of-request.result _ _ c.args.out.now c.wait.new.out h c.of-request.ensures.value c.if-not-self.false (sym c.has.ensures ∙ c.if-has.false)
+    refl (sym (c.in-Stream.is) ∙ c.verdict.ensures.value st h) (c.wait.ensures.ok st h sound)

@@ -31,16 +31,16 @@ returns-clause-ok c st h sound =
     let up = c.in-Some.up in
     let at : stream_at old.streams r.transfer.ep ≡ Some up = ap (stream_at old.streams) (sym ep) ∙ sym c.in-Some.ensures.up in
     on-ok c.join-joined.result
-    (λ j s t.
-    does-join st sound r c.args.row up c.join-joined.new.up old emptied c.join-joined.new.self _ c.args.out.now c.join-joined.new.to_client c.join-joined.new.notes h c.requires.kept
+    (λ j s.
+    does-join st sound r c.args.row up c.join-joined.new.up old emptied c.join-joined.new.self _ c.args.out.now c.join-joined.new.out h c.requires.kept
     c.requires.free.number_free at
     (ap (λ (ups : List (Option Up)). record old { streams = ups }) (c.in-Some.ensures.rest ∙ ap (λ (n : ℕ). slice_set old.streams (endpoint_index n) None) ep))
     j
     (ap (λ (ups : List (Option Up)). record c.join-joined.new.self { streams = ups }) (c.put.ensures ∙ ap (λ (n : ℕ). slice_set c.join-joined.new.self.streams (endpoint_index n) (Some c.join-joined.new.up)) ep))
-    s t)
-    c.join-joined.ensures.joined c.join-joined.ensures.sent c.join-joined.ensures.told
+    s)
+    c.join-joined.ensures.joined c.join-joined.ensures.sent
 
 pub returns-clause-err : goal.returns-clause-err
 returns-clause-err c =
-    puts-back c.join-joined.result c.args.self.now c.join-joined.new.self c.in-Some.up c.join-joined.new.up (endpoint_index c.ep-ep.result) c.take.new.self c.put.new.self c.args.out.now c.join-joined.new.to_client c.join-joined.new.notes
-    c.in-Some.ensures.rest c.in-Some.ensures.up c.put.ensures c.join-joined.ensures.same c.join-joined.ensures.same_up c.join-joined.ensures.err c.join-joined.ensures.err_notes
+    puts-back c.join-joined.result c.args.self.now c.join-joined.new.self c.in-Some.up c.join-joined.new.up (endpoint_index c.ep-ep.result) c.take.new.self c.put.new.self c.args.out.now c.join-joined.new.out
+    c.in-Some.ensures.rest c.in-Some.ensures.up c.put.ensures c.join-joined.ensures.same c.join-joined.ensures.same_up c.join-joined.ensures.err

@@ -15,8 +15,8 @@ use Rattle.gate_history.proofs.lemmas.write.Laid.{no_desc, few-stretch, stretch-
 use Rattle.gate_core.proofs.lemmas.write.InTurn.{last-more, bytes-more}
 use Rattle.gate_core.proofs.state.kept.Kept.write_packets.Goals as goal
 
-pub write_iso-requires-clause-few : goal.write_iso-requires-clause-few
-write_iso-requires-clause-few c =
+pub write_iso_out-requires-clause-few : goal.write_iso_out-requires-clause-few
+write_iso_out-requires-clause-few c =
     let r = c.args.request.now in
     let lies : laid r.descs (length c.as_slice-body.result.now) ≡ true = subst (λ (n : ℕ). laid r.descs n ≡ true) (sym (ap (λ (b : List ℕ). length b) c.as_slice-body.ensures ∙ c.requires.laid.whole)) c.requires.laid.lies in
     let few = few-stretch r.descs c.as_slice-body.result.now c.loop-place.place lies (omega (arith, c.len-place-end.ensures)) in
@@ -42,7 +42,9 @@ loop-place-preserved c =
     let id = c.draw-id.ensures.value ∙ ap (draw m f) c.loop-place.invariant.last in
     record {
       last = id ∙ sym (last-more t c.args.last before (p ∷ [])) ∙ ap (λ (ps : List RedirPacket). last_of c.args.last (ids_after t c.args.last (length ps))) (sym next);
-      sent = c.in_ok-write_iso.ensures.ok ∙ (λ i. c.loop-place.invariant.sent i ++ host_packet_bytes t.caps (id i, same i))
+      sent = c.in_ok-write_iso_out.ensures.ok
+          ∙ ap (λ (n : ℕ). c.loop-place.to_host ++ host_packet_bytes t.caps (c.draw-id.result, Carrying (data_packet.Iso n 0 (length c.part-data.result.now) c.part-data.result.now))) c.byte.ensures.value
+          ∙ (λ i. c.loop-place.invariant.sent i ++ host_packet_bytes t.caps (id i, same i))
           ∙ append_assoc c.args.to_host.now (bytes_of t c.args.last before) _
           ∙ ap (λ (bs : List ℕ). c.args.to_host.now ++ bs) (ap (λ (bs : List ℕ). bytes_of t c.args.last before ++ bs) (sym (append-nil _)) ∙ sym (bytes-more t c.args.last before (p ∷ [])) ∙ ap (bytes_of t c.args.last) (sym next));
     }

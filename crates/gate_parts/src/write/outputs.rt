@@ -1,7 +1,7 @@
 //! What an event gives: the bytes for each side, and what is told.
 
 ghost use Rattle.std.specs.Prelude.{◌≡◌, []};
-ghost use Rattle.gate_core.specs.inner.Outputs.{lengths_of, first_of, Reaches};
+ghost use Rattle.gate_parts.specs.write.Outputs.{lengths_of, first_of, Reaches};
 
 use gate_history::Notes;
 use std::alloc::Global;
