@@ -57,17 +57,11 @@ quiet_rounds (ask ∷ asks) = quiet_rounds asks
 
 -- ---- whose turn it is
 
--- the host was asked last, or nobody yet
+-- the host was asked last, or nobody yet: else the client's side was, which is polled or asked for a client
 abbrev pub is_behind_host : List Ask → Bool
 is_behind_host [] = true
 is_behind_host (OfSide Host polled ∷ asks) = true
 is_behind_host asks = false
-
--- the client's side was: a client was asked for, or polled
-abbrev pub is_behind_client : List Ask → Bool
-is_behind_client [] = false
-is_behind_client (OfSide Host polled ∷ asks) = false
-is_behind_client asks = true
 
 -- ---- which call has failed
 

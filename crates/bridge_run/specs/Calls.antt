@@ -8,7 +8,7 @@ use Rattle.gate_outside.specs.declared.turn.Turn.{Turn}
 use Rattle.gate_outside.specs.declared.turn.Polled.{Polled}
 use Rattle.gate_outside.specs.declared.turn.Polled.TheVariants.{Took, NotYet, Ended, Failed}
 use Rattle.gate_outside.specs.Turns.{pending, answer, given, after}
-use Rattle.bridge_run.specs.Events.{LinkEvent, ClientComes, ClientPiece, ClientQuiet, ClientEnd, HostPiece, HostEnd}
+use Rattle.bridge_run.specs.Events.{LinkEvent, ClientComes, ClientQuiet, SidePiece, SideEnd}
 use Rattle.bridge_run.specs.Recorded.{lines_of, sends_any, is_last, is_full, written_if, waiting_if}
 use Rattle.bridge_run.specs.declared.serve_end.ServeEnd.{ServeEnd}
 use Rattle.bridge_run.specs.declared.serve_end.ServeEnd.TheVariants as end
@@ -63,12 +63,12 @@ settle s next c =
 
 -- a client that was refused, or let go, has its end next
 abbrev pub ends_next : LinkEvent → Bool → Bool
-ends_next ClientEnd dropped = false
+ends_next (SideEnd Client) dropped = false
 ends_next e dropped = dropped
 
 abbrev pub take_event : Setting → LinkEvent → Next → Course → Outcome
 take_event s e next c =
-    if ends_next e (drops s.served c.events e) then Goes (Takes ClientEnd next) (put s.served e c)
+    if ends_next e (drops s.served c.events e) then Goes (Takes (SideEnd Client) next) (put s.served e c)
     else settle s next (put s.served e c)
 
 -- ---- a round
@@ -77,14 +77,6 @@ take_event s e next c =
 abbrev pub come : List (List Turn) → Course → Outcome
 come [] c = Goes AtClient c
 come (turns ∷ clients) c = Goes (Takes ClientComes AtClient) (record c { client_up = true; client = turns; clients = clients; busy = true; left = c.left - 1 })
-
-abbrev pub piece : Side → List ℕ → LinkEvent
-piece Client b = ClientPiece b
-piece Host b = HostPiece b
-
-abbrev pub end_of : Side → LinkEvent
-end_of Client = ClientEnd
-end_of Host = HostEnd
 
 -- the turns after a poll
 abbrev pub turned : Side → Course → Course
@@ -102,9 +94,9 @@ quiet Host next = next
 
 -- what comes of a poll's answer
 abbrev pub heard : Side → Next → Polled → List ℕ → Course → Outcome
-heard side next (Took n) bytes c = Goes (Takes (piece side bytes) next) (record c { busy = true; left = c.left - n })
+heard side next (Took n) bytes c = Goes (Takes (SidePiece side bytes) next) (record c { busy = true; left = c.left - n })
 heard side next NotYet bytes c = Goes (quiet side next) c
-heard side next Ended bytes c = Goes (Takes (end_of side) next) (record (down side c) { busy = true })
+heard side next Ended bytes c = Goes (Takes (SideEnd side) next) (record (down side c) { busy = true })
 heard side next Failed bytes c = Stops (end.LinkFault side) c
 
 abbrev pub poll : Side → List Turn → Next → Course → Outcome

@@ -9,8 +9,9 @@ use Rattle.redir_host.specs.declared.note.HostNote.{HostNote}
 use Rattle.redir_host.specs.declared.note.HostNote.TheVariants as note
 use Rattle.redir_host.specs.step.Acts.{Act, Piece, Perform, Offer}
 use Rattle.redir_host.specs.write.Output.{host_out, act_notes}
-use Rattle.bridge_run.specs.Events.{LinkEvent, ClientComes, ClientPiece, ClientQuiet}
+use Rattle.bridge_run.specs.Events.{LinkEvent, ClientComes, ClientQuiet, SidePiece}
 use Rattle.bridge_run.specs.Prescribed.{Prescribed}
+use Rattle.bridge_run.specs.Recorded.{has_any}
 
 -- ---- what is done with the device in a round
 
@@ -36,17 +37,13 @@ abbrev pub refusal_in : HostNote → List Refusal
 refusal_in (note.Refused place reason) = record { side = Client; place = place; reason = reason; kept = None } ∷ []
 refusal_in (note.Cancelled id) = []
 
-abbrev pub is_refusal : HostNote → Bool
-is_refusal (note.Refused place reason) = true
-is_refusal (note.Cancelled id) = false
+abbrev pub refused_by : {S : Type 0} → Meaning S → S → List Act → LinkEvent → List Refusal
+refused_by m s acts (SidePiece Client b) = flat_map refusal_in (act_notes m s acts (Piece b))
+refused_by m s acts e = []
 
--- the acts behind a piece of the guest's bytes: where it is refused, nothing more is done
-abbrev pub behind_piece : List HostNote → List Act → List Act
-behind_piece notes acts = if list_any is_refusal notes then acts else used acts
-
--- the acts behind an event
+-- the acts behind an event: where a piece of the guest's bytes is refused, nothing more is done
 abbrev pub acts_behind : {S : Type 0} → Meaning S → S → List Act → LinkEvent → List Act
-acts_behind m s acts (ClientPiece b) = behind_piece (act_notes m s acts (Piece b)) (Piece b ∷ acts)
+acts_behind m s acts (SidePiece Client b) = if has_any (refused_by m s acts (SidePiece Client b)) then Piece b ∷ acts else used (Piece b ∷ acts)
 acts_behind m s acts ClientQuiet = used acts
 acts_behind m s acts e = acts
 
@@ -67,10 +64,6 @@ has_come events = list_any is_coming events
 -- once the guest has come, all that the host has sent, from its hello on
 abbrev pub lent_bytes : {S : Type 0} → Meaning S → S → List LinkEvent → List ℕ
 lent_bytes m s events = if has_come events then host_out m s (acts_of m s events) else []
-
-abbrev pub refused_by : {S : Type 0} → Meaning S → S → List Act → LinkEvent → List Refusal
-refused_by m s acts (ClientPiece b) = flat_map refusal_in (act_notes m s acts (Piece b))
-refused_by m s acts e = []
 
 abbrev pub lent_refusals : {S : Type 0} → Meaning S → S → List LinkEvent → List Refusal
 lent_refusals m s [] = []

@@ -8,28 +8,28 @@ use Rattle.gate_outside.specs.declared.fault.Failed.{Failed as Fault}
 use Rattle.gate_outside.specs.declared.turn.Polled.TheVariants.{Took, NotYet, Ended}
 use Rattle.gate_outside.specs.Calls.{Call, Dial, Listen, Accept, Poll, Write, Close, Called, went}
 use Rattle.gate_outside.specs.Moved.{Moves}
-use Rattle.bridge_run.specs.Events.{LinkEvent, ClientComes, ClientQuiet, ClientEnd}
+use Rattle.bridge_run.specs.Events.{LinkEvent, ClientComes, ClientQuiet, SidePiece, SideEnd}
 use Rattle.bridge_run.specs.declared.serve_end.ServeEnd.{ServeEnd}
 use Rattle.bridge_run.specs.declared.serve_end.ServeEnd.TheVariants as end
 use Rattle.bridge_run.specs.Prescribed.{Prescribed, first_of}
-use Rattle.bridge_run.specs.Calls.{piece, end_of, ends_next}
+use Rattle.bridge_run.specs.Calls.{ends_next}
 use Rattle.bridge_run.specs.Ups.{client_at, host_at, client_behind, host_since, to_clients, sent_to_host, told_of, up_by}
 use Rattle.bridge_run.specs.RanOut.{RanOut}
-use Rattle.bridge_run.specs.Asks.{asks_of, taken, has_just_come, quiet_rounds, is_behind_host, is_behind_client, last_fault}
+use Rattle.bridge_run.specs.Asks.{asks_of, taken, has_just_come, quiet_rounds, is_behind_host, last_fault}
 
 -- ---- which events came, the latest first
 
 -- the event that a call's answer is: a client that has nothing is one, too
 abbrev pub event_in : Call → Option LinkEvent
 event_in (Accept (Ok true)) = Some ClientComes
-event_in (Poll side (Took n) buf) = Some (piece side (take n buf))
-event_in (Poll side Ended buf) = Some (end_of side)
+event_in (Poll side (Took n) buf) = Some (SidePiece side (take n buf))
+event_in (Poll side Ended buf) = Some (SideEnd side)
 event_in (Poll Client NotYet buf) = Some ClientQuiet
 event_in call = None
 
 -- a client whose link is closed has its end next, where that isn't what closed it
 abbrev pub behind_call : Call → List LinkEvent → List LinkEvent
-behind_call (Close Client) (e ∷ events) = if ends_next e true then ClientEnd ∷ e ∷ events else e ∷ events
+behind_call (Close Client) (e ∷ events) = if ends_next e true then SideEnd Client ∷ e ∷ events else e ∷ events
 behind_call call events = cons_option (event_in call) events
 
 abbrev pub events_of : List Call → List LinkEvent
@@ -39,12 +39,9 @@ events_of (call ∷ calls) = behind_call call (events_of calls)
 -- those before the latest question
 abbrev pub events_before : List Call → List LinkEvent
 events_before [] = []
-events_before (Dial addr answer ∷ calls) = events_before calls
-events_before (Listen addr answer ∷ calls) = events_before calls
 events_before (Accept answer ∷ calls) = events_of calls
 events_before (Poll side polled buf ∷ calls) = events_of calls
-events_before (Write side bytes answer ∷ calls) = events_before calls
-events_before (Close side ∷ calls) = events_before calls
+events_before (call ∷ calls) = events_before calls
 
 -- ---- what was asked of it
 
@@ -115,7 +112,7 @@ BeginsRound terms p calls = host_since (is_some terms.host) p (events_of calls) 
 -- a round polls the client first that is there, or has just come, unless its link was closed at once, and then the host
 abbrev pub IsTurnOf : Side → Terms → Prescribed → List Call → Type 0
 IsTurnOf Client terms p calls = (has_just_come (asks_of calls) ≡ true) ⊎ BeginsRound terms p calls
-IsTurnOf Host terms p calls = (is_behind_client (asks_of calls) ≡ true) × (has_just_come (asks_of calls) ≡ true → is_up Client terms p (events_of calls) ≡ false)
+IsTurnOf Host terms p calls = (is_behind_host (asks_of calls) ≡ false) × (has_just_come (asks_of calls) ≡ true → is_up Client terms p (events_of calls) ≡ false)
 
 -- The host is dialled first, and once, and then the door is made, once. Nobody is asked for anything before all is
 -- written, nor once it is to end, and both sides are asked in turn: for a client where none is there, and a side whose link

@@ -83,19 +83,15 @@ HasCause e old new sink_old sink_new = NoFault old new sink_old sink_new
 abbrev pub RoseBy : ℕ → ℕ → ℕ → Type 0
 RoseBy n old new = min (old + n) (2 ^ 64 - 1) ≤ new
 
--- each side that is asked in every round was idle in so many
-pub record WasIdle (idle : ℕ) (old new : Outside) : Type 0 where
-  pub client : RoseBy idle old.client.idle new.client.idle
-  pub host : new.host.up ≡ true → RoseBy idle old.host.idle new.host.idle
-
 -- no link is up
 pub record IsDown (w : Outside) : Type 0 where
   pub client : w.client.up ≡ false
   pub host : w.host.up ≡ false
 
+-- `Idle` comes once each side that is asked in every round was idle in so many
 abbrev pub HasReason : ServeEnd → ℕ → Outside → Outside → Type 0
 HasReason (Ended refused) idle old new = IsDown new
-HasReason Idle idle old new = WasIdle idle old new
+HasReason Idle idle old new = RoseBy idle old.client.idle new.client.idle × (new.host.up ≡ true → RoseBy idle old.host.idle new.host.idle)
 HasReason e idle old new = Unit {0}
 
 -- ---- what is told
@@ -129,28 +125,23 @@ pub record IsBetween (least : List ℕ) (known : Option (List ℕ)) (most : List
   pub known-is : known ≡ Some (least ++ more)
   pub most-is : most ≡ least ++ more ++ lost
 
--- and of a sink that told its bytes as serving began
-abbrev pub IsToldBetween : List ℕ → Written → List ℕ → Type 0
-IsToldBetween least out most = IfSome out.begun (λ first. IsBetween least out.told most)
-
 -- it is as before a call or as behind it
 abbrev pub IsOneOf : {X : Type 0} → X → Option X → X → Type 0
 IsOneOf before known behind = (known ≡ Some before) ⊎ (known ≡ Some behind)
 
 -- of what a call records a front is there, and nothing that it writes
-pub record IsRecordedInPart (w : Outside) (out : Written) (before behind : Course) (held : List ℕ) : Type 0 where
+pub record IsRecordedInPart (w : Outside) (before behind : Course) (held : List ℕ) : Type 0 where
   pub more : List ℕ
   pub lost : List ℕ
   pub held-is : held ≡ before.recorded ++ more
   pub all-is : behind.recorded ≡ before.recorded ++ more ++ lost
   pub to_client : w.client.written ≡ Some before.to_client
   pub to_host : w.host.written ≡ Some before.to_host
-  pub told : IsTold out before.told
 
 -- Memory may have run out in the event that the call takes, by when it had sent some bytes, so many to each side. The
 -- lines that waited are there, and that of the event, without those of its refusals. Of what it had sent a front is
--- written to each side whose link is up, and none of its refusals is told.
-pub record IsRecordedUntold (ran_out : List LinkEvent → LinkEvent → List ℕ → List ℕ → Type 0) (w : Outside) (out : Written) (before behind : Course) (held : List ℕ) : Type 0 where
+-- written to each side whose link is up.
+pub record IsRecordedUntold (ran_out : List LinkEvent → LinkEvent → List ℕ → List ℕ → Type 0) (w : Outside) (before behind : Course) (held : List ℕ) : Type 0 where
   pub event : LinkEvent
   pub takes : behind.events ≡ event ∷ before.events
   pub sent_client : List ℕ
@@ -162,11 +153,10 @@ pub record IsRecordedUntold (ran_out : List LinkEvent → LinkEvent → List ℕ
   pub all-is : behind.recorded ≡ held ++ lost
   pub to_client : IsBetween before.to_client w.client.written (if before.client_up then before.to_client ++ sent_client else before.to_client)
   pub to_host : IsBetween before.to_host w.host.written (if before.host_up then before.to_host ++ sent_host else before.to_host)
-  pub told : IsTold out before.told
 
--- what a tape has of a call that was cut
+-- what a tape has of a call that was cut: all its lines, or fewer, and then none of its refusals is told
 abbrev pub HasLines : (List LinkEvent → LinkEvent → List ℕ → List ℕ → Type 0) → Outside → Written → Course → Course → List ℕ → Type 0
-HasLines ran_out w out before behind held = (held ≡ behind.recorded) ⊎ (IsRecordedInPart w out before behind held ⊎ IsRecordedUntold ran_out w out before behind held)
+HasLines ran_out w out before behind held = (held ≡ behind.recorded) ⊎ (IsTold out before.told × (IsRecordedInPart w before behind held ⊎ IsRecordedUntold ran_out w before behind held))
 
 -- a call that the first course makes and that leads to the second was cut: what it writes is written in part, and not
 -- before the line of its event is recorded; by where memory may run out within an event
@@ -176,5 +166,5 @@ pub record Cut (ran_out : List LinkEvent → LinkEvent → List ℕ → List ℕ
   pub clients : IsOneOf before.clients w.door.to_come behind.clients
   pub to_client : IsBetween before.to_client w.client.written behind.to_client
   pub to_host : IsBetween before.to_host w.host.written behind.to_host
-  pub told : IsToldBetween before.told out behind.told
+  pub told : IfSome out.begun (λ first. IsBetween before.told out.told behind.told)
   pub tape : IfSome out.tape (λ held. HasLines ran_out w out before behind held)

@@ -1,17 +1,14 @@
 -- The lines of an event on a tape: what came, and a comment for each refusal. When they are written.
 use Rattle.std.specs.Prelude.{ℕ, ◌==◌, ltb, ◌&&◌, ◌||◌, not, Bool, true, false, if◌then◌else◌, List, [], ◌∷◌, ◌++◌, length}
 use Rattle.std.specs.List.{flat_map}
-use Rattle.usb_base.specs.declared.side.Side.TheVariants.{Client, Host}
 use Rattle.usb_base.specs.declared.refusal.Refusal.{Refusal}
 use Rattle.session_tape.specs.Lines.{piece_line, end_line, refusal_comment}
-use Rattle.bridge_run.specs.Events.{LinkEvent, ClientPiece, ClientEnd, HostPiece, HostEnd}
+use Rattle.bridge_run.specs.Events.{LinkEvent, SidePiece, SideEnd}
 
 -- a client that comes, or is quiet, has no line
 abbrev pub event_line : LinkEvent → List ℕ
-event_line (ClientPiece b) = piece_line Client b
-event_line ClientEnd = end_line Client
-event_line (HostPiece b) = piece_line Host b
-event_line HostEnd = end_line Host
+event_line (SidePiece side b) = piece_line side b
+event_line (SideEnd side) = end_line side
 event_line e = []
 
 abbrev pub lines_of : LinkEvent → List Refusal → List ℕ

@@ -24,9 +24,8 @@ pub record EndsSo (s : Setting) (from : Outcome) (e : ServeEnd) (w : Outside) (o
 -- memory may have run out within the event where a link failed, too, as what was sent by then was written, but not where
 -- the sink or the tape failed
 abbrev pub MayRunOut : ServeEnd → (List LinkEvent → LinkEvent → List ℕ → List ℕ → Type 0) → Prescribed → List LinkEvent → LinkEvent → List ℕ → List ℕ → Type 0
-MayRunOut Memory runs_out p = RanOutWithin runs_out p
-MayRunOut (LinkFault side) runs_out p = RanOutWithin runs_out p
-MayRunOut e runs_out p = Never
+MayRunOut WriteFault runs_out p = Never
+MayRunOut e runs_out p = RanOutWithin runs_out p
 
 -- they have come to a call that was cut
 pub record CutShort (e : ServeEnd) (runs_out : List LinkEvent → LinkEvent → List ℕ → List ℕ → Type 0) (s : Setting) (from : Outcome) (w : Outside) (out : Written) : Type 0 where

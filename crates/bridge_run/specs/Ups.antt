@@ -5,10 +5,9 @@ use Rattle.std.specs.List.{flat_map}
 use Rattle.usb_base.specs.declared.side.Side.{Side}
 use Rattle.usb_base.specs.declared.side.Side.TheVariants.{Client, Host}
 use Rattle.usb_base.specs.Refusal.{refusal_line}
-use Rattle.gate_outside.specs.declared.turn.Polled.{Polled}
-use Rattle.gate_outside.specs.declared.turn.Polled.TheVariants.{Took, NotYet, Ended, Failed}
-use Rattle.gate_outside.specs.Calls.{Call, Dial, Listen, Accept, Poll, Write, Close}
-use Rattle.bridge_run.specs.Events.{LinkEvent, ClientComes, ClientEnd, HostEnd}
+use Rattle.gate_outside.specs.declared.turn.Polled.TheVariants.{Ended}
+use Rattle.gate_outside.specs.Calls.{Call, Dial, Accept, Poll, Close}
+use Rattle.bridge_run.specs.Events.{LinkEvent, ClientComes, SideEnd}
 use Rattle.bridge_run.specs.Prescribed.{Prescribed, gained, is_of, refuses, drops}
 use Rattle.bridge_run.specs.Asks.{is_client}
 
@@ -16,11 +15,11 @@ use Rattle.bridge_run.specs.Asks.{is_client}
 -- where its link is down
 abbrev pub client_at : LinkEvent → Bool → Bool
 client_at ClientComes up = true
-client_at ClientEnd up = false
+client_at (SideEnd Client) up = false
 client_at e up = up
 
 abbrev pub host_at : LinkEvent → Bool → Bool
-host_at HostEnd up = false
+host_at (SideEnd Host) up = false
 host_at e up = up
 
 -- behind an event a side that it refuses has its link closed, and a client that it lets go
@@ -50,20 +49,13 @@ told_of p (e ∷ events) = told_of p events ++ flat_map refusal_line (gained p.r
 
 -- ---- by the calls
 
-abbrev pub polled_to : Polled → Bool → Bool
-polled_to (Took n) up = up
-polled_to NotYet up = up
-polled_to Ended up = false
-polled_to Failed up = up
-
 -- a link comes up by the host that was dialled, or the client that has come, and goes down by its end, or by its closing
 abbrev pub up_behind : Side → Call → Bool → Bool
 up_behind side (Dial addr answer) up = (is_of Host side && is_ok answer) || up
-up_behind side (Listen addr answer) up = up
 up_behind side (Accept answer) up = (is_of Client side && is_client answer) || up
-up_behind side (Poll of polled buf) up = if is_of of side then polled_to polled up else up
-up_behind side (Write of bytes answer) up = up
+up_behind side (Poll of Ended buf) up = if is_of of side then false else up
 up_behind side (Close of) up = if is_of of side then false else up
+up_behind side call up = up
 
 abbrev pub up_by : Side → List Call → Bool
 up_by side [] = false

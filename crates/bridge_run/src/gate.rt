@@ -1,8 +1,10 @@
 //! The gate as what is served.
 
-ghost use Rattle.std.specs.Prelude.{◌≡◌, ◌++◌, ◌||◌, true, OnOk, OnErr};
+ghost use Rattle.std.specs.Prelude.{◌≡◌, ◌++◌, ◌||◌, false, true, Some, OnOk, OnErr};
 ghost use Rattle.std.specs.List.{flat_map, list_any};
-ghost use Rattle.bridge_run.specs.Gate.{refusal_in, is_loss, lets_go};
+ghost use Rattle.gate_history.specs.step.Events.{event_of as told_of};
+ghost use Rattle.bridge_run.specs.Events.{SidePiece, SideEnd};
+ghost use Rattle.bridge_run.specs.Gate.{gate_event, refusal_in, is_loss};
 ghost use Rattle.bridge_run.specs.Recorded.{has_any};
 
 use crate::after_loss::AfterLoss;
@@ -11,7 +13,7 @@ use crate::sent::Sent;
 use crate::served::Served;
 use gate_core::Gate;
 use gate_history::{Event as GateEvent, Note, Notes};
-use usb_base::{List, Memory, Refusal};
+use usb_base::{List, Memory, Refusal, Side};
 
 /// A gate, and what becomes of a client whose device is lost.
 #[derive(Drop)]
@@ -43,10 +45,8 @@ impl Served for Gateway {
         // That a client has come, or is quiet, is nothing to a gate.
         let told = match event {
             LinkEvent::ClientComes | LinkEvent::ClientQuiet => return Ok(()),
-            LinkEvent::ClientPiece(bytes) => GateEvent::ClientPiece(bytes),
-            LinkEvent::ClientEnd => GateEvent::ClientEnd,
-            LinkEvent::HostPiece(bytes) => GateEvent::HostPiece(bytes),
-            LinkEvent::HostEnd => GateEvent::HostEnd,
+            LinkEvent::SidePiece(side, bytes) => piece(side, bytes),
+            LinkEvent::SideEnd(side) => end_of(side),
         };
         let notes = self
             .gate
@@ -56,9 +56,30 @@ impl Served for Gateway {
     }
 }
 
+/// A piece of a side's stream, as the gate takes it.
+fn piece(side: Side, bytes: &[u8]) -> GateEvent<'_>
+    ensures { gate_event (SidePiece side bytes.now) ≡ Some (told_of result) }
+{
+    match side {
+        Side::Client => GateEvent::ClientPiece(bytes),
+        Side::Host => GateEvent::HostPiece(bytes),
+    }
+}
+
+/// The end of a side, as the gate takes it.
+fn end_of(side: Side) -> GateEvent<'static>
+    ensures { gate_event (SideEnd side) ≡ Some (told_of result) }
+{
+    match side {
+        Side::Client => GateEvent::ClientEnd,
+        Side::Host => GateEvent::HostEnd,
+    }
+}
+
 /// Whether the client is let go where these are the notes of an event.
 fn lets_go(after_loss: AfterLoss, notes: &Notes) -> bool
-    ensures { result ≡ lets_go after_loss notes.now }
+    ensures keep { after_loss ≡ AfterLoss.Keep → result ≡ false }
+    ensures close { after_loss ≡ AfterLoss.Close → result ≡ list_any is_loss notes.now }
 {
     match after_loss {
         AfterLoss::Keep => false,

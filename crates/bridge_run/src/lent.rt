@@ -3,13 +3,13 @@
 ghost use Rattle.std.specs.Prelude.{◌≡◌, ◌∷◌, ◌++◌, ◌||◌, [], true, if◌then◌else◌, List as ListOf, OnOk, OnErr, IfOk};
 ghost use Rattle.std.specs.List.{flat_map, list_any};
 ghost use Rattle.usb_base.specs.Endpoint.{IsEndpoint};
-ghost use Rattle.redir_host.specs.step.Acts.{Act, Piece};
+ghost use Rattle.redir_host.specs.step.Acts.{Act};
 ghost use Rattle.redir_host.specs.state.Sound.{Each};
 ghost use Rattle.redir_host.specs.step.Stands.{DoesAct, Stands, Stops};
-ghost use Rattle.redir_host.specs.write.Output.{act_notes};
-ghost use Rattle.bridge_run.specs.Events.{event_of, is_quiet};
-ghost use Rattle.bridge_run.specs.Lent.{each, used, behind_piece, acts_behind, is_coming, refused_by, refusal_in, is_refusal};
-ghost use Rattle.bridge_run.specs.inner.Lending.{Acts, StopsIn, Halts, IsLent, act_of};
+ghost use Rattle.usb_base.specs.declared.side.Side.TheVariants.{Client};
+ghost use Rattle.bridge_run.specs.Events.{SidePiece, event_of, is_quiet};
+ghost use Rattle.bridge_run.specs.Lent.{each, used, acts_behind, is_coming, refused_by, refusal_in};
+ghost use Rattle.bridge_run.specs.inner.Lending.{Acts, StopsIn, Halts, IsLent, act_of, is_refusal};
 ghost use Rattle.bridge_run.specs.Recorded.{has_any};
 
 use crate::event::LinkEvent;
@@ -78,11 +78,11 @@ impl<G: Gadget> Lent<G> {
                 self.has_come = true;
                 Ok(())
             }
-            LinkEvent::ClientPiece(bytes) => {
+            LinkEvent::SidePiece(Side::Client, bytes) => {
                 hear(&mut self.core, bytes, refusals, &mut self.waiting)
             }
             LinkEvent::ClientQuiet => use_device(&mut self.core, &mut self.waiting),
-            LinkEvent::ClientEnd | LinkEvent::HostPiece(_) | LinkEvent::HostEnd => Ok(()),
+            LinkEvent::SidePiece(Side::Host, _) | LinkEvent::SideEnd(_) => Ok(()),
         }
     }
 
@@ -131,11 +131,11 @@ fn hear<G: Gadget>(
     out: &mut Bytes,
 ) -> Result<(), Memory>
     ensures acts { OnOk result ((first : G) (past : ListOf Act) → Stands G.meaning first core.old past
-        → Acts G.meaning first core.new past (behind_piece (act_notes G.meaning first past (Piece bytes.now)) (Piece bytes.now ∷ past)) out.old out.new) }
+        → Acts G.meaning first core.new past (acts_behind G.meaning first past (SidePiece Client bytes.now)) out.old out.new) }
     ensures refusals { OnOk result ((first : G) (past : ListOf Act) → Stands G.meaning first core.old past
-        → refusals.new ≡ refusals.old ++ flat_map refusal_in (act_notes G.meaning first past (Piece bytes.now))) }
+        → refusals.new ≡ refusals.old ++ refused_by G.meaning first past (SidePiece Client bytes.now)) }
     ensures stops { OnErr result ((first : G) (past : ListOf Act) → Stands G.meaning first core.old past
-        → Halts G.meaning first past (behind_piece (act_notes G.meaning first past (Piece bytes.now)) (Piece bytes.now ∷ past)) (flat_map refusal_in (act_notes G.meaning first past (Piece bytes.now))) out.old out.new) }
+        → Halts G.meaning first past (acts_behind G.meaning first past (SidePiece Client bytes.now)) (refused_by G.meaning first past (SidePiece Client bytes.now)) out.old out.new) }
 {
     let notes = core.take(bytes, out)?;
     push_refusals(&notes, refusals)?;

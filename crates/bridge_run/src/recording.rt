@@ -16,7 +16,7 @@ use crate::sent::Sent;
 use crate::serve_end::ServeEnd;
 use session_tape::{Tape, push_end, push_piece, push_refusal, record};
 use std::alloc::Global;
-use usb_base::{Bytes, List, Memory, Refusal, Side};
+use usb_base::{Bytes, List, Memory, Refusal};
 
 /// How many bytes of lines are written at the latest.
 const PIECE: usize = 65_536;
@@ -84,10 +84,8 @@ fn push_event(event: LinkEvent, text: &mut Bytes) -> Result<(), Memory>
 {
     match event {
         LinkEvent::ClientComes | LinkEvent::ClientQuiet => Ok(()),
-        LinkEvent::ClientPiece(bytes) => push_piece(Side::Client, bytes, text),
-        LinkEvent::ClientEnd => push_end(Side::Client, text),
-        LinkEvent::HostPiece(bytes) => push_piece(Side::Host, bytes, text),
-        LinkEvent::HostEnd => push_end(Side::Host, text),
+        LinkEvent::SidePiece(side, bytes) => push_piece(side, bytes, text),
+        LinkEvent::SideEnd(side) => push_end(side, text),
     }
 }
 

@@ -13,14 +13,14 @@ ghost use Rattle.bridge_run.specs.inner.Follows.{Prepared, Follows, HasFaults, I
 ghost use Rattle.bridge_run.specs.Outside.{HasCause, HasReason};
 ghost use Rattle.bridge_run.specs.Asks.{Ask};
 ghost use Rattle.bridge_run.specs.Log.{Terms, Told, Logged};
-ghost use Rattle.bridge_run.specs.inner.Logging.{IsTaking, IsResting, IsAsking, RoundBegins, DoorAsked, stage_of, stage_behind, PutLogs, HappenLogs, Logs};
+ghost use Rattle.bridge_run.specs.inner.Logging.{IsTaking, IsResting, IsAsking, PutLogs, HappenLogs, Logs};
 ghost use Rattle.bridge_run.specs.inner.Sends.{IsPart};
 ghost use Rattle.bridge_run.specs.inner.Stopping.{AreUp, IsStopping, StopLogs};
 ghost use Rattle.bridge_run.specs.inner.Idling.{NotIdle, IdledOnce, EndsWithin, RoundIdles};
 ghost use Rattle.usb_base.specs.declared.side.Side.TheVariants.{Client, Host};
 ghost use Rattle.gate_outside.specs.Link.{other};
 
-use crate::event::{LinkEvent, end_of, ends_next, piece};
+use crate::event::{LinkEvent, ends_next};
 use crate::link::{close_link, write_link};
 use crate::recording::{record_event, write_waiting};
 use crate::rounds::Rounds;
@@ -201,7 +201,7 @@ impl<C: Served + Drop> Session<C> {
         if !ends_next(event, dropped) {
             return self.rounds.settle();
         }
-        self.put(LinkEvent::ClientEnd, doors, out, tape)?;
+        self.put(LinkEvent::SideEnd(Side::Client), doors, out, tape)?;
         self.rounds.settle()
     }
 
@@ -216,8 +216,8 @@ impl<C: Served + Drop> Session<C> {
         requires left { 0 < self.old.rounds.left }
         ensures course { (first : C.First) (begun : Option (List ℕ)) (c : Course) → Follows (C.stands first self.old.core) (C.sends first) self.old.rounds (outside (D.link doors.old) (D.door doors.old)) (gathering begun (K.contents out.old) (T.contents tape.old) self.old.waiting) c
             → Runs result (C.stands first self.new.core) (C.runs_out first) (setting (C.sends first) self.old.rounds) self.new.rounds (outside (D.link doors.new) (D.door doors.new)) (gathering begun (K.contents out.new) (T.contents tape.new) self.new.waiting) (Goes AtDoor c) AtClient }
-        ensures log { (first : C.First) (terms : Terms) (begun : D) (begun_out : K) → terms.taped ≡ T.made tape.old → IsAsking RoundBegins D.call_gives (C.stands first self.old.core) (Told K.write_gives begun_out out.old) terms (C.sends first) self.old.rounds begun doors.old
-            → Logs result DoorAsked D.call_gives (C.stands first self.new.core) (C.runs_out first) (Told K.write_gives begun_out out.new) terms (C.sends first) self.new.rounds begun doors.new }
+        ensures log { (first : C.First) (terms : Terms) (begun : D) (begun_out : K) → terms.taped ≡ T.made tape.old → IsAsking AtDoor D.call_gives (C.stands first self.old.core) (Told K.write_gives begun_out out.old) terms (C.sends first) self.old.rounds begun doors.old
+            → Logs result AtClient D.call_gives (C.stands first self.new.core) (C.runs_out first) (Told K.write_gives begun_out out.new) terms (C.sends first) self.new.rounds begun doors.new }
         ensures faults { HasFaults result (outside (D.link doors.old) (D.door doors.old)) (outside (D.link doors.new) (D.door doors.new)) (faults (K.faults out.old) (T.counts tape.old)) (faults (K.faults out.new) (T.counts tape.new)) }
         ensures agrees { OnOk result (Agrees self.new.rounds (outside (D.link doors.new) (D.door doors.new))) }
         ensures wears { Wears self.old.rounds self.new.rounds }
@@ -282,8 +282,8 @@ impl<C: Served + Drop> Session<C> {
         requires room { length buf.old ≡ 65536 }
         ensures course { (first : C.First) (begun : Option (List ℕ)) (c : Course) → Follows (C.stands first self.old.core) (C.sends first) self.old.rounds (outside (D.link doors.old) (D.door doors.old)) (gathering begun (K.contents out.old) (T.contents tape.old) self.old.waiting) c
             → Runs result (C.stands first self.new.core) (C.runs_out first) (setting (C.sends first) self.old.rounds) self.new.rounds (outside (D.link doors.new) (D.door doors.new)) (gathering begun (K.contents out.new) (T.contents tape.new) self.new.waiting) (Goes (polls side) c) (behind side) }
-        ensures log { (first : C.First) (terms : Terms) (begun : D) (begun_out : K) → terms.taped ≡ T.made tape.old → IsAsking (stage_of side) D.call_gives (C.stands first self.old.core) (Told K.write_gives begun_out out.old) terms (C.sends first) self.old.rounds begun doors.old
-            → Logs result (stage_behind side) D.call_gives (C.stands first self.new.core) (C.runs_out first) (Told K.write_gives begun_out out.new) terms (C.sends first) self.new.rounds begun doors.new }
+        ensures log { (first : C.First) (terms : Terms) (begun : D) (begun_out : K) → terms.taped ≡ T.made tape.old → IsAsking (polls side) D.call_gives (C.stands first self.old.core) (Told K.write_gives begun_out out.old) terms (C.sends first) self.old.rounds begun doors.old
+            → Logs result (behind side) D.call_gives (C.stands first self.new.core) (C.runs_out first) (Told K.write_gives begun_out out.new) terms (C.sends first) self.new.rounds begun doors.new }
         ensures faults { HasFaults result (outside (D.link doors.old) (D.door doors.old)) (outside (D.link doors.new) (D.door doors.new)) (faults (K.faults out.old) (T.counts tape.old)) (faults (K.faults out.new) (T.counts tape.new)) }
         ensures agrees { OnOk result (Agrees self.new.rounds (outside (D.link doors.new) (D.door doors.new))) }
         ensures wears { Wears self.old.rounds self.new.rounds }
@@ -299,12 +299,12 @@ impl<C: Served + Drop> Session<C> {
         match doors.poll(side, buf) {
             Polled::Took(n) => {
                 self.rounds.take(n);
-                self.happen(piece(side, &buf[..n]), doors, out, tape)
+                self.happen(LinkEvent::SidePiece(side, &buf[..n]), doors, out, tape)
             }
             Polled::NotYet => self.be_quiet(side, doors, out, tape),
             Polled::Ended => {
                 self.rounds.end(side);
-                self.happen(end_of(side), doors, out, tape)
+                self.happen(LinkEvent::SideEnd(side), doors, out, tape)
             }
             Polled::Failed => Err(ServeEnd::LinkFault(side)),
         }
@@ -323,8 +323,8 @@ impl<C: Served + Drop> Session<C> {
         requires room { length buf.old ≡ 65536 }
         ensures course { (first : C.First) (begun : Option (List ℕ)) (c : Course) → Follows (C.stands first self.old.core) (C.sends first) self.old.rounds (outside (D.link doors.old) (D.door doors.old)) (gathering begun (K.contents out.old) (T.contents tape.old) self.old.waiting) c
             → Runs result (C.stands first self.new.core) (C.runs_out first) (setting (C.sends first) self.old.rounds) self.new.rounds (outside (D.link doors.new) (D.door doors.new)) (gathering begun (K.contents out.new) (T.contents tape.new) self.new.waiting) (Goes AtDoor c) AtDoor }
-        ensures log { (first : C.First) (terms : Terms) (begun : D) (begun_out : K) → terms.taped ≡ T.made tape.old → IsAsking RoundBegins D.call_gives (C.stands first self.old.core) (Told K.write_gives begun_out out.old) terms (C.sends first) self.old.rounds begun doors.old
-            → Logs result RoundBegins D.call_gives (C.stands first self.new.core) (C.runs_out first) (Told K.write_gives begun_out out.new) terms (C.sends first) self.new.rounds begun doors.new }
+        ensures log { (first : C.First) (terms : Terms) (begun : D) (begun_out : K) → terms.taped ≡ T.made tape.old → IsAsking AtDoor D.call_gives (C.stands first self.old.core) (Told K.write_gives begun_out out.old) terms (C.sends first) self.old.rounds begun doors.old
+            → Logs result AtDoor D.call_gives (C.stands first self.new.core) (C.runs_out first) (Told K.write_gives begun_out out.new) terms (C.sends first) self.new.rounds begun doors.new }
         ensures faults { HasFaults result (outside (D.link doors.old) (D.door doors.old)) (outside (D.link doors.new) (D.door doors.new)) (faults (K.faults out.old) (T.counts tape.old)) (faults (K.faults out.new) (T.counts tape.new)) }
         ensures agrees { OnOk result (Agrees self.new.rounds (outside (D.link doors.new) (D.door doors.new))) }
         ensures live { OnOk result (IsLive self.new.rounds) }
@@ -354,7 +354,7 @@ impl<C: Served + Drop> Session<C> {
         requires fresh { self.old.rounds.waits ≡ self.old.rounds.idle }
         ensures course { (first : C.First) (begun : Option (List ℕ)) (c : Course) → Follows (C.stands first self.old.core) (C.sends first) self.old.rounds (outside (D.link doors.old) (D.door doors.old)) (gathering begun (K.contents out.old) (T.contents tape.old) self.old.waiting) c
             → Leaves result (C.runs_out first) (setting (C.sends first) self.old.rounds) (Goes AtDoor c) (outside (D.link doors.new) (D.door doors.new)) (written begun (K.contents out.new) (T.contents tape.new)) }
-        ensures log { (first : C.First) (terms : Terms) (begun : D) (begun_out : K) → terms.taped ≡ T.made tape.old → IsAsking RoundBegins D.call_gives (C.stands first self.old.core) (Told K.write_gives begun_out out.old) terms (C.sends first) self.old.rounds begun doors.old
+        ensures log { (first : C.First) (terms : Terms) (begun : D) (begun_out : K) → terms.taped ≡ T.made tape.old → IsAsking AtDoor D.call_gives (C.stands first self.old.core) (Told K.write_gives begun_out out.old) terms (C.sends first) self.old.rounds begun doors.old
             → Logged result D.call_gives (C.runs_out first) (Told K.write_gives begun_out out.new) terms (C.sends first) begun doors.new }
         ensures cause { HasCause result (outside (D.link doors.old) (D.door doors.old)) (outside (D.link doors.new) (D.door doors.new)) (faults (K.faults out.old) (T.counts tape.old)) (faults (K.faults out.new) (T.counts tape.new)) }
         ensures reason { HasReason result self.old.rounds.idle (outside (D.link doors.old) (D.door doors.old)) (outside (D.link doors.new) (D.door doors.new)) }

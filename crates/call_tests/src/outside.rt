@@ -2,7 +2,7 @@
 
 ghost use Rattle.std.specs.Prelude.{◌<◌, length};
 
-use gate_outside::{Failed, Sink, Source, StdSink, StdSource, write_all};
+use gate_outside::{Failed, Sink, Source, StdStream, write_all};
 use std::io;
 use std::io::{Read, Write};
 use std::process::Abort;
@@ -61,7 +61,7 @@ impl<T: Write> Write for FirstFails<T> {
 #[test]
 fn a_reader_of_std_is_called_once_a_read(rt: HostRuntime) {
     let inner = "abc".as_bytes();
-    let mut source = StdSource::new(FirstFails {
+    let mut source = StdStream::new(FirstFails {
         inner,
         failed: false,
     });
@@ -75,7 +75,7 @@ fn a_reader_of_std_is_called_once_a_read(rt: HostRuntime) {
 fn a_writer_of_std_is_called_once_a_write(rt: HostRuntime) {
     let mut room = [0; 3];
     let inner = &mut room[..];
-    let mut sink = StdSink::new(FirstFails {
+    let mut sink = StdStream::new(FirstFails {
         inner,
         failed: false,
     });

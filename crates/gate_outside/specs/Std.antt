@@ -3,20 +3,13 @@ use Rattle.std.specs.Prelude.{◌≡◌, ℕ, ◌==◌, if◌then◌else◌, Lis
 use Rattle.std.specs.Io.{ReadsAtMost, WritesAtMost}
 use Rattle.std.specs.Io.KnownBytes.{ReadConsumes, WriteAppends}
 use Rattle.gate_outside.specs.declared.fault.Failed.{Failed}
-use Rattle.gate_outside.specs.declared.std_source.StdSource.{StdSource}
-use Rattle.gate_outside.specs.declared.std_sink.StdSink.{StdSink}
+use Rattle.gate_outside.specs.declared.std_stream.StdStream.{StdStream}
 
-abbrev pub input_reader : {R : Type 0} → StdSource R → R
-input_reader source = source.reader
+abbrev pub inner_of : {T : Type 0} → StdStream T → T
+inner_of stream = stream.inner
 
-abbrev pub input_faults : {R : Type 0} → StdSource R → ℕ
-input_faults source = source.faults
-
-abbrev pub output_writer : {W : Type 0} → StdSink W → W
-output_writer sink = sink.writer
-
-abbrev pub output_faults : {W : Type 0} → StdSink W → ℕ
-output_faults sink = sink.faults
+abbrev pub faults_of : {T : Type 0} → StdStream T → ℕ
+faults_of stream = stream.faults
 
 -- all that std promises of a read, and of a write
 abbrev pub Reads : Option (List ℕ) → Option (List ℕ) → Result ℕ Failed → List ℕ → Type 0

@@ -2,8 +2,8 @@
 use Rattle.std.specs.Prelude.{◌≡◌, ℕ, List, ◌++◌, Option, Some, None, Result, Ok, Err}
 use Rattle.std.specs.Io.KnownBytes.{append_known, Appends}
 use Rattle.gate_outside.specs.Faults.{Rose}
-use Rattle.gate_outside.specs.Std.{output_writer}
-use Rattle.gate_outside.specs.declared.std_sink.StdSink.{StdSink}
+use Rattle.gate_outside.specs.Std.{inner_of}
+use Rattle.gate_outside.specs.declared.std_stream.StdStream.{StdStream}
 use Rattle.session_tape.specs.declared.telling.Telling.{Telling}
 use Rattle.session_tape.specs.declared.tape.Unmade.{Unmade}
 use Rattle.session_tape.specs.declared.tape.Unmade.TheVariants.{There, Failed}
@@ -47,5 +47,5 @@ GoesTo contents (Some old) None bytes = ⊥
 GoesTo contents None new bytes = ⊥
 
 -- what the writer of a file holds, where it tells that
-abbrev pub told_by : {R W : Type 0} → (W → Option (List ℕ)) → StdSink (Telling R W) → Option (List ℕ)
-told_by contents sink = contents (output_writer sink).writer
+abbrev pub told_by : {R W : Type 0} → (W → Option (List ℕ)) → StdStream (Telling R W) → Option (List ℕ)
+told_by contents sink = contents (inner_of sink).writer

@@ -7,7 +7,7 @@ ghost use Rattle.session_tape.specs.Tapes.{counts, HasReason, CountsFault, Grows
 
 use crate::tape::{MakeTape, Tape, Unmade};
 use crate::telling::Telling;
-use gate_outside::{Failed, Sink, StdSink, write_all};
+use gate_outside::{Failed, Sink, StdStream, write_all};
 use std::fs::{Files, OpenOptions};
 use std::io;
 use std::io::ErrorKind;
@@ -17,7 +17,7 @@ use std::os::unix::fs::OpenOptionsExt;
 #[derive(Drop)]
 pub struct FileTape<'a, R: Files + Eprint> {
     system: &'a R,
-    file: Option<StdSink<Telling<'a, R, R::File>>>,
+    file: Option<StdStream<Telling<'a, R, R::File>>>,
     faults: u64,
     there: u64,
 }
@@ -84,7 +84,7 @@ impl<'a, R: Files + Eprint> MakeTape for FileTape<'a, R> {
                     system: self.system,
                     writer: file,
                 };
-                self.file = Some(StdSink::new(told));
+                self.file = Some(StdStream::new(told));
                 Ok(())
             }
             Err(error) => {

@@ -9,7 +9,7 @@ use Rattle.gate_outside.specs.declared.turn.Turn.{Turn}
 use Rattle.gate_outside.specs.declared.turn.Turn.TheVariants.{Piece, Wait, Fail}
 use Rattle.gate_outside.specs.Turns.{pending, answer, given, after}
 use Rattle.bridge_run.specs.declared.serve_end.ServeEnd.TheVariants as end
-use Rattle.bridge_run.specs.Events.{LinkEvent, ClientComes, ClientPiece, ClientQuiet, ClientEnd, HostPiece, HostEnd}
+use Rattle.bridge_run.specs.Events.{LinkEvent, ClientComes, ClientQuiet, SidePiece, SideEnd}
 use Rattle.bridge_run.specs.Prescribed.{Prescribed, gained, refuses, drops, first_of}
 use Rattle.bridge_run.specs.Recorded.{lines_of, has_any, is_last, is_full, written_if, waiting_if}
 use Rattle.bridge_run.specs.Course.{Setting, Course, Next, Making, AtDoor, AtClient, AtHost, AtEnd, Takes}
@@ -181,11 +181,14 @@ put-stands p first e c h fits =
     }
 
 dropped-is : (e : LinkEvent) (dropped : Bool) → ends_next e dropped ≡ true → dropped ≡ true
-dropped-is ClientEnd dropped is = cc
-dropped-is _ dropped is = is
+dropped-is ClientComes dropped is = is
+dropped-is ClientQuiet dropped is = is
+dropped-is (SidePiece side b) dropped is = is
+dropped-is (SideEnd Client) dropped is = cc
+dropped-is (SideEnd Host) dropped is = is
 
 -- a client that is dropped has its end next
-ends : (p : Prescribed) (first : List ℕ) (e : LinkEvent) (next : Next) (c : Course) → drops p c.events e ≡ true → IsBehind next → Stands p first (put p e c) → IsTaking p first ClientEnd next (put p e c)
+ends : (p : Prescribed) (first : List ℕ) (e : LinkEvent) (next : Next) (c : Course) → drops p c.events e ≡ true → IsBehind next → Stands p first (put p e c) → IsTaking p first (SideEnd Client) next (put p e c)
 ends p first e next c dropped behind s = record {
   holds = subst (λ (t : Bool). Holds p first t (host_behind p (e ∷ c.events)) (seen (put p e c)))
       (ap (λ (t : Bool). client_at e (client_behind p c.events) && not t) dropped ∙ and-false (client_at e (client_behind p c.events))) s;
@@ -201,7 +204,7 @@ settle-comes s first next c behind h =
 take-comes : (s : Setting) (first : List ℕ) (e : LinkEvent) (next : Next) (c : Course) → IsTaking s.served first e next c → Comes s.served first (take_event s e next c)
 take-comes s first e next c h =
     let behind = put-stands s.served first e c h.holds h.fits in
-    if-comes s.served first (ends_next e (drops s.served c.events e)) (Goes (Takes ClientEnd next) (put s.served e c)) (settle s next (put s.served e c))
+    if-comes s.served first (ends_next e (drops s.served c.events e)) (Goes (Takes (SideEnd Client) next) (put s.served e c)) (settle s next (put s.served e c))
     (λ dropped. ends s.served first e next c (dropped-is e (drops s.served c.events e) dropped) h.behind behind)
     (λ stays. settle-comes s first next (put s.served e c) h.behind behind)
 
@@ -298,11 +301,11 @@ client-heard p first (Fail ∷ turns) c full bytes h = with-client p first (clie
 not-ended : (p : Prescribed) (events : List LinkEvent) → host_behind p events ≡ true → host_ended (gate_events events) ≡ false
 not-ended p [] up = refl
 not-ended p (ClientComes ∷ events) up = not-ended p events (and_parts (host_behind p events) (not (refuses Host (gained p.refusals events ClientComes))) up).0
-not-ended p (ClientPiece b ∷ events) up = not-ended p events (and_parts (host_behind p events) (not (refuses Host (gained p.refusals events (ClientPiece b)))) up).0
+not-ended p (SidePiece Client b ∷ events) up = not-ended p events (and_parts (host_behind p events) (not (refuses Host (gained p.refusals events (SidePiece Client b)))) up).0
 not-ended p (ClientQuiet ∷ events) up = not-ended p events (and_parts (host_behind p events) (not (refuses Host (gained p.refusals events ClientQuiet))) up).0
-not-ended p (ClientEnd ∷ events) up = not-ended p events (and_parts (host_behind p events) (not (refuses Host (gained p.refusals events ClientEnd))) up).0
-not-ended p (HostPiece b ∷ events) up = not-ended p events (and_parts (host_behind p events) (not (refuses Host (gained p.refusals events (HostPiece b)))) up).0
-not-ended p (HostEnd ∷ events) up = absurd (no up)
+not-ended p (SideEnd Client ∷ events) up = not-ended p events (and_parts (host_behind p events) (not (refuses Host (gained p.refusals events (SideEnd Client)))) up).0
+not-ended p (SidePiece Host b ∷ events) up = not-ended p events (and_parts (host_behind p events) (not (refuses Host (gained p.refusals events (SidePiece Host b)))) up).0
+not-ended p (SideEnd Host ∷ events) up = absurd (no up)
   where
     no : false ≡ true → ⊥
     no e = cc

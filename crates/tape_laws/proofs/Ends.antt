@@ -71,12 +71,8 @@ abbrev stopping : ServeSettings → ServeEnd → List LinkEvent → LinkEvent �
 stopping asked x = MayRunOut x (gate_runs_out asked.first_id) (served asked)
 
 ran-within : (asked : ServeSettings) (x : ServeEnd) (events : List LinkEvent) (e : LinkEvent) (client host : List ℕ) → stopping asked x events e client host → RanOutWithin (gate_runs_out asked.first_id) (served asked) events e client host
-ran-within asked end.Memory events e client host so = so
-ran-within asked (end.LinkFault side) events e client host so = so
 ran-within asked end.WriteFault events e client host so = absurd so
-ran-within asked (end.Ended refused) events e client host so = absurd so
-ran-within asked end.Idle events e client host so = absurd so
-ran-within asked end.Spent events e client host so = absurd so
+ran-within asked x events e client host so = so
 
 -- what the lines of a course's events and its links have
 record Facts (asked : ServeSettings) (d : Course) : Type 0 where
@@ -226,9 +222,9 @@ recorded-all asked x c before next new out held reaches cut is room f w =
     (front-between new.host.written before.to_host behind.to_host (to_host p taped) f.lost cut.to_host f.host-is)
 
 -- the lines of the call's event are there in part
-recorded-some : (asked : ServeSettings) (c before : Course) (next : Next) (new : Outside) (out : Written) (held : List ℕ) → Reaches (setting_of asked) (Goes Making c) (Goes next before)
-    → IsRecordedInPart new out before (course_of (call (setting_of asked) next before)) held → length held ≤ tape_limit → Facts asked before → Whole asked (course_of (call (setting_of asked) next before)) → PlaysInPart asked c new held
-recorded-some asked c before next new out held reaches some room f w =
+recorded-some : (asked : ServeSettings) (c before : Course) (next : Next) (new : Outside) (held : List ℕ) → Reaches (setting_of asked) (Goes Making c) (Goes next before)
+    → IsRecordedInPart new before (course_of (call (setting_of asked) next before)) held → length held ≤ tape_limit → Facts asked before → Whole asked (course_of (call (setting_of asked) next before)) → PlaysInPart asked c new held
+recorded-some asked c before next new held reaches some room f w =
     let p = served asked in
     let first = first_comment asked.first_id in
     let behind = course_of (call (setting_of asked) next before) in
@@ -249,7 +245,7 @@ recorded-some asked c before next new out held reaches some room f w =
 
 -- the event's own line is there
 recorded-line : (asked : ServeSettings) (x : ServeEnd) (c before : Course) (next : Next) (new : Outside) (out : Written) (held : List ℕ) → Reaches (setting_of asked) (Goes Making c) (Goes next before)
-    → Cut (stopping asked x) new out before (course_of (call (setting_of asked) next before)) → IsRecordedUntold (stopping asked x) new out before (course_of (call (setting_of asked) next before)) held → length held ≤ tape_limit → Whole asked before
+    → Cut (stopping asked x) new out before (course_of (call (setting_of asked) next before)) → IsRecordedUntold (stopping asked x) new before (course_of (call (setting_of asked) next before)) held → length held ≤ tape_limit → Whole asked before
     → Whole asked (course_of (call (setting_of asked) next before)) → PlaysInPart asked c new held
 recorded-line asked x c before next new out held reaches cut line room b f =
     let p = served asked in
@@ -296,8 +292,8 @@ cut-plays asked x c before next new out held reaches cut tape-is room at-next = 
 
     go : HasLines (stopping asked x) new out before behind held → PlaysInPart asked c new held
     go (inl is) = recorded-all asked x c before next new out held reaches cut is room (outcome-each (served asked) (first_comment asked.first_id) (Facts asked) (making-facts asked) (stands-facts asked) (call (setting_of asked) next before) comes) all
-    go (inr (inl some)) = recorded-some asked c before next new out held reaches some room (at-each (served asked) (first_comment asked.first_id) (Facts asked) (making-facts asked) (stands-facts asked) next before at-next) all
-    go (inr (inr line)) = recorded-line asked x c before next new out held reaches cut line room (at-each (served asked) (first_comment asked.first_id) (Whole asked) (making-whole asked) (stands-whole asked) next before at-next) all
+    go (inr (told, inl some)) = recorded-some asked c before next new held reaches some room (at-each (served asked) (first_comment asked.first_id) (Facts asked) (making-facts asked) (stands-facts asked) next before at-next) all
+    go (inr (told, inr line)) = recorded-line asked x c before next new out held reaches cut line room (at-each (served asked) (first_comment asked.first_id) (Whole asked) (making-whole asked) (stands-whole asked) next before at-next) all
 
 -- ---- each end
 

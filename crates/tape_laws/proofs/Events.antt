@@ -7,6 +7,7 @@ use Rattle.hex.specs.Hex.{encode_lower}
 use Rattle.hex.specs.declared.error.FromHexError.{FromHexError}
 use Rattle.hex.proofs.HexLemmas.{decode_of-encode_lower}
 use Rattle.usb_base.specs.Number.{AreBytes}
+use Rattle.usb_base.specs.declared.side.Side.TheVariants.{Client, Host}
 use Rattle.usb_base.specs.declared.refusal.Refusal.{Refusal}
 use Rattle.gate_history.specs.declared.note.Note.{Note}
 use Rattle.gate_history.specs.step.Events.{Event as GateEvent}
@@ -16,7 +17,7 @@ use Rattle.packet_show.specs.declared.tape.TapeLine.{TapeLine}
 use Rattle.packet_show.specs.declared.tape.TapeLine.TheVariants as tape
 use Rattle.packet_show.specs.declared.tape.TapeKind.TheVariants.{Replay}
 use Rattle.packet_show.specs.Tape.{tape_line, bytes_of, some_bytes}
-use Rattle.bridge_run.specs.Events.{LinkEvent, ClientComes, ClientPiece, ClientQuiet, ClientEnd, HostPiece, HostEnd}
+use Rattle.bridge_run.specs.Events.{LinkEvent, ClientComes, ClientQuiet, SidePiece, SideEnd}
 use Rattle.bridge_run.specs.Recorded.{lines_of}
 use Rattle.bridge_run.specs.Prescribed.{gained}
 use Rattle.bridge_run.specs.Gate.{gate_events, gate_notes}
@@ -40,11 +41,11 @@ pub record IsPiece (bytes : List ℕ) : Type 0 where
 -- an event can be told in a tape behind these: nothing of the host comes after its end
 abbrev pub Fits : LinkEvent → List LinkEvent → Type 0
 Fits ClientComes events = Unit {0}
-Fits (ClientPiece b) events = IsPiece b
+Fits (SidePiece Client b) events = IsPiece b
 Fits ClientQuiet events = Unit {0}
-Fits ClientEnd events = Unit {0}
-Fits (HostPiece b) events = IsPiece b × (host_ended (gate_events events) ≡ false)
-Fits HostEnd events = host_ended (gate_events events) ≡ false
+Fits (SideEnd Client) events = Unit {0}
+Fits (SidePiece Host b) events = IsPiece b × (host_ended (gate_events events) ≡ false)
+Fits (SideEnd Host) events = host_ended (gate_events events) ≡ false
 
 abbrev pub AllFit : List LinkEvent → Type 0
 AllFit [] = Unit {0}
@@ -141,20 +142,20 @@ pub event-comes : (asked : ServeSettings) (events : List LinkEvent) (e : LinkEve
     → Comes asked from (lines_of e refusals) (replayed asked events e) (gate_events (e ∷ events))
 event-comes asked events ClientComes refusals from fits kept-is room = unsaid asked refusals from (replayed asked events ClientComes) (gate_events events) (says-nothing ((served asked).to_client events) ((served asked).to_host events) (gate_notes asked.first_id events)) kept-is room
 event-comes asked events ClientQuiet refusals from fits kept-is room = unsaid asked refusals from (replayed asked events ClientQuiet) (gate_events events) (says-nothing ((served asked).to_client events) ((served asked).to_host events) (gate_notes asked.first_id events)) kept-is room
-event-comes asked events (ClientPiece b) refusals from fits kept-is room =
-    with-comments asked from (99 ∷ 32 ∷ encode_lower b) (replayed asked events (ClientPiece b)) (gate.ClientPiece b ∷ gate_events events) refusals (HasNoLF-append (99 ∷ 32 ∷ []) (encode_lower b) (no-lf-tested (99 ∷ 32 ∷ []) refl) (no-lf-hex b))
+event-comes asked events (SidePiece Client b) refusals from fits kept-is room =
+    with-comments asked from (99 ∷ 32 ∷ encode_lower b) (replayed asked events (SidePiece Client b)) (gate.ClientPiece b ∷ gate_events events) refusals (HasNoLF-append (99 ∷ 32 ∷ []) (encode_lower b) (no-lf-tested (99 ∷ 32 ∷ []) refl) (no-lf-hex b))
     (ap (λ (l : List GateEvent). (the_command asked).line l (99 ∷ 32 ∷ encode_lower b)) kept-is
-    ∙ tells (replay asked.first_id) (gate_events events) (99 ∷ 32 ∷ encode_lower b) (tape.Client b) (client-line b fits) (Some (replayed asked events (ClientPiece b), gate.ClientPiece b ∷ gate_events events)) refl) room
-event-comes asked events ClientEnd refusals from fits kept-is room =
-    with-comments asked from (99 ∷ 46 ∷ []) (replayed asked events ClientEnd) (gate.ClientEnd ∷ gate_events events) refusals (no-lf-tested (99 ∷ 46 ∷ []) refl)
+    ∙ tells (replay asked.first_id) (gate_events events) (99 ∷ 32 ∷ encode_lower b) (tape.Client b) (client-line b fits) (Some (replayed asked events (SidePiece Client b), gate.ClientPiece b ∷ gate_events events)) refl) room
+event-comes asked events (SideEnd Client) refusals from fits kept-is room =
+    with-comments asked from (99 ∷ 46 ∷ []) (replayed asked events (SideEnd Client)) (gate.ClientEnd ∷ gate_events events) refusals (no-lf-tested (99 ∷ 46 ∷ []) refl)
     (ap (λ (l : List GateEvent). (the_command asked).line l (99 ∷ 46 ∷ [])) kept-is) room
-event-comes asked events (HostPiece b) refusals from fits kept-is room =
-    with-comments asked from (104 ∷ 32 ∷ encode_lower b) (replayed asked events (HostPiece b)) (gate.HostPiece b ∷ gate_events events) refusals (HasNoLF-append (104 ∷ 32 ∷ []) (encode_lower b) (no-lf-tested (104 ∷ 32 ∷ []) refl) (no-lf-hex b))
+event-comes asked events (SidePiece Host b) refusals from fits kept-is room =
+    with-comments asked from (104 ∷ 32 ∷ encode_lower b) (replayed asked events (SidePiece Host b)) (gate.HostPiece b ∷ gate_events events) refusals (HasNoLF-append (104 ∷ 32 ∷ []) (encode_lower b) (no-lf-tested (104 ∷ 32 ∷ []) refl) (no-lf-hex b))
     (ap (λ (l : List GateEvent). (the_command asked).line l (104 ∷ 32 ∷ encode_lower b)) kept-is
-    ∙ tells (replay asked.first_id) (gate_events events) (104 ∷ 32 ∷ encode_lower b) (tape.Host b) (host-line b fits.0) (Some (replayed asked events (HostPiece b), gate.HostPiece b ∷ gate_events events))
+    ∙ tells (replay asked.first_id) (gate_events events) (104 ∷ 32 ∷ encode_lower b) (tape.Host b) (host-line b fits.0) (Some (replayed asked events (SidePiece Host b), gate.HostPiece b ∷ gate_events events))
     (may (replay asked.first_id) (gate_events events) (gate.HostPiece b) (host_ended (gate_events events)) fits.1)) room
-event-comes asked events HostEnd refusals from fits kept-is room =
-    with-comments asked from (104 ∷ 46 ∷ []) (replayed asked events HostEnd) (gate.HostEnd ∷ gate_events events) refusals (no-lf-tested (104 ∷ 46 ∷ []) refl)
+event-comes asked events (SideEnd Host) refusals from fits kept-is room =
+    with-comments asked from (104 ∷ 46 ∷ []) (replayed asked events (SideEnd Host)) (gate.HostEnd ∷ gate_events events) refusals (no-lf-tested (104 ∷ 46 ∷ []) refl)
     (ap (λ (l : List GateEvent). (the_command asked).line l (104 ∷ 46 ∷ [])) kept-is
     ∙ may (replay asked.first_id) (gate_events events) gate.HostEnd (host_ended (gate_events events)) fits) room
 

@@ -7,7 +7,7 @@ ghost use Rattle.std.specs.Process.{exit_status};
 ghost use Rattle.usbgate_tapes.specs.Code.{code_of};
 ghost use Rattle.usbgate_commands.specs.Words.{texts};
 
-use gate_outside::{NoDoors, StdSink, StdSource};
+use gate_outside::{NoDoors, StdStream};
 use gate_sockets::TcpDoors;
 use session_tape::FileTape;
 use std::alloc::{AllocError, Global};
@@ -51,8 +51,8 @@ fn run_args(
         Ok(words) => words,
         Err(_) => return Status::OutOfMemory,
     };
-    let mut tape = StdSource::new(rt.reader());
-    let mut out = StdSink::new(io::writer(rt));
+    let mut tape = StdStream::new(rt.reader());
+    let mut out = StdStream::new(io::writer(rt));
     let mut recording = FileTape::new(rt);
     match TcpDoors::new(rt, rt.alloc()) {
         Ok(mut doors) => {

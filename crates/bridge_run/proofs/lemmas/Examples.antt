@@ -1,8 +1,9 @@
 -- Small runs of the calls, worked out by hand: what is served sends each piece of a client back to it.
 use Rattle.std.proofs.Common.{◌≡◌, ℕ, true, false, List, [], ◌∷◌, ◌++◌, None, refl}
+use Rattle.usb_base.specs.declared.side.Side.TheVariants.{Client, Host}
 use Rattle.gate_outside.specs.declared.turn.Turn.{Turn}
 use Rattle.gate_outside.specs.declared.turn.Turn.TheVariants.{Piece, Wait}
-use Rattle.bridge_run.specs.Events.{LinkEvent, ClientComes, ClientPiece, ClientQuiet, ClientEnd, HostPiece, HostEnd}
+use Rattle.bridge_run.specs.Events.{LinkEvent, ClientComes, ClientQuiet, SidePiece, SideEnd}
 use Rattle.bridge_run.specs.declared.serve_end.ServeEnd.TheVariants.{Ended}
 use Rattle.bridge_run.specs.Course.{Setting, Course, Making}
 use Rattle.bridge_run.specs.Recorded.{lines_of}
@@ -11,11 +12,9 @@ use Rattle.bridge_run.specs.Calls.{Goes, Stops, calls}
 abbrev echo : List LinkEvent → List ℕ
 echo [] = []
 echo (ClientComes ∷ events) = echo events
-echo (ClientPiece b ∷ events) = echo events ++ b
 echo (ClientQuiet ∷ events) = echo events
-echo (ClientEnd ∷ events) = echo events
-echo (HostPiece b ∷ events) = echo events ++ b
-echo (HostEnd ∷ events) = echo events
+echo (SidePiece side b ∷ events) = echo events ++ b
+echo (SideEnd side ∷ events) = echo events
 
 abbrev toy : ℕ → Setting
 toy idle = record { served = record { to_client = echo; to_host = λ events. 9 ∷ []; refusals = λ events. []; lets_go = λ events. false }; idle = idle }
@@ -46,7 +45,7 @@ behind lines e = lines ++ lines_of e []
 -- so is recorded at once; a client's end waits for the next.
 toy-ended : calls (toy 5) 24 (Goes Making (start 5 ((Piece (7 ∷ []) ∷ Wait ∷ []) ∷ []) (Piece (1 ∷ []) ∷ Piece (2 ∷ []) ∷ Piece (3 ∷ []) ∷ [])))
     ≡ Stops (Ended None) (record {
-      events = HostEnd ∷ HostPiece (3 ∷ []) ∷ ClientEnd ∷ HostPiece (2 ∷ []) ∷ ClientQuiet ∷ HostPiece (1 ∷ []) ∷ ClientPiece (7 ∷ []) ∷ ClientComes ∷ [];
+      events = SideEnd Host ∷ SidePiece Host (3 ∷ []) ∷ SideEnd Client ∷ SidePiece Host (2 ∷ []) ∷ ClientQuiet ∷ SidePiece Host (1 ∷ []) ∷ SidePiece Client (7 ∷ []) ∷ ClientComes ∷ [];
       client_up = false;
       host_up = false;
       client = [];
@@ -58,7 +57,7 @@ toy-ended : calls (toy 5) 24 (Goes Making (start 5 ((Piece (7 ∷ []) ∷ Wait �
       to_client = 7 ∷ 1 ∷ 2 ∷ [];
       to_host = 9 ∷ [];
       told = [];
-      recorded = behind ((behind (behind (behind (behind (behind [] ClientComes) (ClientPiece (7 ∷ []))) (HostPiece (1 ∷ []))) ClientQuiet) (HostPiece (2 ∷ [])) ++ []) ++ (lines_of ClientEnd [] ++ lines_of (HostPiece (3 ∷ [])) [])) HostEnd;
+      recorded = behind ((behind (behind (behind (behind (behind [] ClientComes) (SidePiece Client (7 ∷ []))) (SidePiece Host (1 ∷ []))) ClientQuiet) (SidePiece Host (2 ∷ [])) ++ []) ++ (lines_of (SideEnd Client) [] ++ lines_of (SidePiece Host (3 ∷ [])) [])) (SideEnd Host);
       waiting = [];
     })
 toy-ended = refl

@@ -4,14 +4,15 @@ use Rattle.usb_base.specs.declared.side.Side.{Side}
 use Rattle.usb_base.specs.declared.side.Side.TheVariants.{Client, Host}
 use Rattle.gate_outside.specs.Calls.{Call, Close, Called, went}
 use Rattle.gate_outside.specs.Link.{other}
-use Rattle.bridge_run.specs.Events.{LinkEvent, ClientQuiet, ClientEnd}
+use Rattle.bridge_run.specs.Events.{LinkEvent, ClientQuiet, SideEnd}
 use Rattle.bridge_run.specs.declared.serve_end.ServeEnd.{ServeEnd}
 use Rattle.bridge_run.specs.declared.serve_end.ServeEnd.TheVariants.{Ended, LinkFault, WriteFault, Idle, Spent, Memory}
 use Rattle.bridge_run.specs.declared.rounds.Rounds.{Rounds}
 use Rattle.bridge_run.specs.Prescribed.{Prescribed, first_of}
+use Rattle.bridge_run.specs.Course.{Next, AtDoor, AtClient, AtHost}
 use Rattle.bridge_run.specs.Calls.{ends_next}
 use Rattle.bridge_run.specs.Ups.{client_at, client_behind, host_at, host_since, told_of, up_by}
-use Rattle.bridge_run.specs.Asks.{Ask, asks_of, taken, has_just_come, quiet_rounds, is_behind_host, is_behind_client, last_fault}
+use Rattle.bridge_run.specs.Asks.{Ask, asks_of, taken, has_just_come, quiet_rounds, is_behind_host, last_fault}
 use Rattle.bridge_run.specs.Log.{Terms, events_of, events_before, IsFront, IsWritten, IsWrittenInPart, is_up, GoesOn, is_over, Settled, JustCame, Logged}
 use Rattle.bridge_run.specs.inner.Keeping.{one_if, is_over as none_up}
 
@@ -63,7 +64,7 @@ pub record HasTaken {D : Type 0} (gives : D → Call → D → Type 0) (stands :
 
 -- the end of a client is still to be taken, or nothing is
 abbrev pub IsBehind : {D : Type 0} → Bool → (D → Call → D → Type 0) → (List LinkEvent → Type 0) → (List ℕ → Type 0) → Terms → Prescribed → List Ask → Rounds → D → D → Type 0
-IsBehind true gives stands tells terms p asks k begun now = IsTaking gives stands tells terms p asks ClientEnd k begun now
+IsBehind true gives stands tells terms p asks k begun now = IsTaking gives stands tells terms p asks (SideEnd Client) k begun now
 IsBehind false gives stands tells terms p asks k begun now = HasTaken gives stands tells terms p asks k begun now
 
 abbrev pub PutLogs : {D : Type 0} → Result Bool ServeEnd → (D → Call → D → Type 0) → (List LinkEvent → Type 0) → (List LinkEvent → LinkEvent → List ℕ → List ℕ → Type 0) → (List ℕ → Type 0) → Terms → Prescribed → List Ask → LinkEvent → Rounds → D → D → Type 0
@@ -86,13 +87,6 @@ IsResting Host gives stands tells terms p asks k begun now = IsOn gives stands t
 
 -- ---- a round
 
--- how far a round has come: nobody was asked, the door was where no client was there, the client's side was, or the host
-pub data Stage : Type 0 where
-  RoundBegins : Stage
-  DoorAsked : Stage
-  ClientAsked : Stage
-  HostAsked : Stage
-
 -- rounds may bring nothing
 pub record IsPatient (terms : Terms) (k : Rounds) : Type 0 where
   pub idle : k.idle ≡ terms.idle
@@ -106,43 +100,32 @@ pub record HasWaited (asked just_come : Bool) (terms : Terms) (k : Rounds) (asks
   pub busy : k.busy ≡ true → quiet_rounds asks ≡ 0
   pub quiet : k.busy ≡ false → k.waits + quiet_rounds asks ≡ terms.idle + one_if asked
 
-abbrev pub Waits : Stage → Terms → Rounds → List Ask → Type 0
-Waits RoundBegins terms k asks = (k.busy ≡ false) × HasWaited false false terms k asks
-Waits DoorAsked terms k asks = HasWaited (not k.client_up) k.busy terms k asks
-Waits ClientAsked terms k asks = HasWaited true false terms k asks
-Waits HostAsked terms k asks = HasWaited true false terms k asks
+-- by what the round does next
+abbrev pub Waits : Next → Terms → Rounds → List Ask → Type 0
+Waits AtDoor terms k asks = (k.busy ≡ false) × HasWaited false false terms k asks
+Waits AtClient terms k asks = HasWaited (not k.client_up) k.busy terms k asks
+Waits next terms k asks = HasWaited true false terms k asks
 
 -- whom it asked last, by whether a client is there
 abbrev pub DoorTurn : Bool → Rounds → List Ask → Type 0
 DoorTurn true k asks = (has_just_come asks ≡ true) ⊎ (k.host_up ≡ true → is_behind_host asks ≡ true)
-DoorTurn false k asks = is_behind_client asks ≡ true
+DoorTurn false k asks = is_behind_host asks ≡ false
 
-abbrev pub HasTurn : Stage → Rounds → List Ask → Type 0
-HasTurn RoundBegins k asks = k.host_up ≡ true → is_behind_host asks ≡ true
-HasTurn DoorAsked k asks = DoorTurn k.client_up k asks
-HasTurn ClientAsked k asks = is_behind_client asks ≡ true
-HasTurn HostAsked k asks = k.host_up ≡ true → is_behind_host asks ≡ true
+abbrev pub HasTurn : Next → Rounds → List Ask → Type 0
+HasTurn AtClient k asks = DoorTurn k.client_up k asks
+HasTurn AtHost k asks = is_behind_host asks ≡ false
+HasTurn next k asks = k.host_up ≡ true → is_behind_host asks ≡ true
 
--- where a side is polled
-abbrev pub stage_of : Side → Stage
-stage_of Client = DoorAsked
-stage_of Host = ClientAsked
-
--- and behind that
-abbrev pub stage_behind : Side → Stage
-stage_behind Client = ClientAsked
-stage_behind Host = HostAsked
-
-pub record IsAsking {D : Type 0} (stage : Stage) (gives : D → Call → D → Type 0) (stands : List LinkEvent → Type 0) (tells : List ℕ → Type 0) (terms : Terms) (p : Prescribed) (k : Rounds) (begun now : D) : Type 0 where
+pub record IsAsking {D : Type 0} (next : Next) (gives : D → Call → D → Type 0) (stands : List LinkEvent → Type 0) (tells : List ℕ → Type 0) (terms : Terms) (p : Prescribed) (k : Rounds) (begun now : D) : Type 0 where
   pub asks : List Ask
   pub on : IsOn gives stands tells terms p asks k begun now
   pub patient : IsPatient terms k
-  pub waited : Waits stage terms k asks
-  pub turn : HasTurn stage k asks
+  pub waited : Waits next terms k asks
+  pub turn : HasTurn next k asks
 
-abbrev pub Logs : {T D : Type 0} → Result T ServeEnd → Stage → (D → Call → D → Type 0) → (List LinkEvent → Type 0) → (List LinkEvent → LinkEvent → List ℕ → List ℕ → Type 0) → (List ℕ → Type 0) → Terms → Prescribed → Rounds → D → D → Type 0
-Logs (Ok _) stage gives stands runs_out tells terms p k begun now = IsAsking stage gives stands tells terms p k begun now
-Logs (Err e) stage gives stands runs_out tells terms p k begun now = Logged e gives runs_out tells terms p begun now
+abbrev pub Logs : {T D : Type 0} → Result T ServeEnd → Next → (D → Call → D → Type 0) → (List LinkEvent → Type 0) → (List LinkEvent → LinkEvent → List ℕ → List ℕ → Type 0) → (List ℕ → Type 0) → Terms → Prescribed → Rounds → D → D → Type 0
+Logs (Ok _) next gives stands runs_out tells terms p k begun now = IsAsking next gives stands tells terms p k begun now
+Logs (Err e) next gives stands runs_out tells terms p k begun now = Logged e gives runs_out tells terms p begun now
 
 -- ---- a link
 

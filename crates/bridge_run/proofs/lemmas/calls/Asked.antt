@@ -30,13 +30,6 @@ polled-runs result stands stands' runs_out p side k k1 k' links door w' out out'
     (reaches-call s from (polls side) c (Goes next d) (reaches-none s from) (poll-call s side links door out c polled buf f.tells (up-is side stands p k (outside links door) out c true f up) len gives ∙ is))
     (subst (λ (n : ℕ). Runs result stands' runs_out (record { served = p; idle = n }) k' w' out' (Goes next d) (behind side)) idle run)
 
--- and that is the next event
-pub polled-takes : {T : Type 0} → (result : Result T ServeEnd) (stands stands' : List LinkEvent → Type 0) (runs_out : List LinkEvent → LinkEvent → List ℕ → List ℕ → Type 0) (p : Prescribed) (side : Side) (k k1 k' : Rounds) (links : Side → Link) (door : Door) (w' : Outside) (out out' : Written) (c d : Course) (polled : Polled) (buf : List ℕ) (e e' : LinkEvent)
-    → Follows stands p k (outside links door) out c → up_of side k ≡ true → length buf ≡ room → IfSome (links side).turns (Gives polled buf) → heard side (behind side) polled (take (taken polled) buf) (passed side c) ≡ Goes (Takes e' (behind side)) d → e ≡ e' → k1.idle ≡ k.idle
-    → Runs result stands' runs_out (setting p k1) k' w' out' (Goes (Takes e (behind side)) d) (behind side) → Runs result stands' runs_out (setting p k) k' w' out' (Goes (polls side) c) (behind side)
-polled-takes result stands stands' runs_out p side k k1 k' links door w' out out' c d polled buf e e' f up len gives is same idle run =
-    polled-runs result stands stands' runs_out p side k k1 k' links door w' out out' c d polled buf (Takes e (behind side)) f up len gives (is ∙ ap (λ (x : LinkEvent). Goes (Takes x (behind side)) d) (sym same)) idle run
-
 -- the poll was no fault
 pub polled-faults : {T : Type 0} → (result : Result T ServeEnd) (side : Side) (links links' : Side → Link) (door door' : Door) (w : Outside) (sink sink' : Faults) → OneMoved side links links' door door' → (links' side).faults ≡ (links side).faults
     → HasFaults result (outside links' door') w sink sink' → HasFaults result (outside links door) w sink sink'

@@ -5,7 +5,7 @@ use Rattle.gate_outside.specs.Faults.{one_more}
 use Rattle.bridge_run.specs.declared.serve_end.ServeEnd.{ServeEnd}
 use Rattle.bridge_run.specs.declared.serve_end.ServeEnd.TheVariants.{Ended, LinkFault, WriteFault, Idle, Spent, Memory}
 use Rattle.bridge_run.specs.declared.rounds.Rounds.{Rounds}
-use Rattle.bridge_run.specs.Outside.{Outside, RoseBy, WasIdle, HasReason}
+use Rattle.bridge_run.specs.Outside.{Outside, RoseBy, HasReason}
 use Rattle.bridge_run.specs.inner.Keeping.{chances_of, Wears, Agrees, IsLive, RestsBusy, Rests}
 use Rattle.bridge_run.specs.inner.Follows.{IsCutEnd}
 use Rattle.bridge_run.specs.inner.Idling.{NotIdle, IdledOnce, EndsWithin, QuietRound, AnyRound, RoundIdles}
@@ -127,40 +127,37 @@ rose-more n old mid new h e = omega arith
 -- how idle it has been since the last round that brought something
 pub record HasWaited (idle : ℕ) (k : Rounds) (old new : Outside) : Type 0 where
   pub any : AnyRound old new
-  pub was : WasIdle (idle - k.waits) old new
+  pub was : HasReason Idle (idle - k.waits) old new
 
 pub waited-none : (idle : ℕ) (k : Rounds) (w : Outside) → k.waits ≡ idle → HasWaited idle k w w
 waited-none idle k w is = record {
   any = record { client = omega arith; host = omega arith };
-  was = record { client = omega (arith, is); host = λ up. omega (arith, is) };
+  was = (omega (arith, is), λ up. omega (arith, is));
 }
 
-waited-was : (idle : ℕ) (k k' : Rounds) (old mid new : Outside) → k.idle ≡ idle → IsLive k → HasWaited idle k old mid → AnyRound old new → (k'.waits ≡ k.idle) ⊎ (k'.waits ≡ k.waits - 1) × QuietRound mid new → WasIdle (idle - k'.waits) old new
+waited-was : (idle : ℕ) (k k' : Rounds) (old mid new : Outside) → k.idle ≡ idle → IsLive k → HasWaited idle k old mid → AnyRound old new → (k'.waits ≡ k.idle) ⊎ (k'.waits ≡ k.waits - 1) × QuietRound mid new → HasReason Idle (idle - k'.waits) old new
 waited-was idle k k' old mid new same live h any (inl x) =
-    let none : idle - k'.waits ≡ 0 = omega (arith, x, same) in
-    record {
-      client = subst (λ (n : ℕ). RoseBy n old.client.idle new.client.idle) (sym none) (rose-none old.client.idle new.client.idle any.client);
-      host = λ up. subst (λ (n : ℕ). RoseBy n old.host.idle new.host.idle) (sym none) (rose-none old.host.idle new.host.idle any.host);
-    }
+    let none : idle - k'.waits ≡ 0 = omega (arith, x, same) in (
+      subst (λ (n : ℕ). RoseBy n old.client.idle new.client.idle) (sym none) (rose-none old.client.idle new.client.idle any.client),
+      λ up. subst (λ (n : ℕ). RoseBy n old.host.idle new.host.idle) (sym none) (rose-none old.host.idle new.host.idle any.host),
+    )
 waited-was idle k k' old mid new same live h any (inr x) =
-    let more : idle - k'.waits ≡ idle - k.waits + 1 = omega (arith, x.0, same, live.waits, live.within) in
-    record {
-      client = subst (λ (n : ℕ). RoseBy n old.client.idle new.client.idle) (sym more) (rose-more (idle - k.waits) old.client.idle mid.client.idle new.client.idle h.was.client x.1.client);
-      host = λ up. let q = x.1.host up in subst (λ (n : ℕ). RoseBy n old.host.idle new.host.idle) (sym more) (rose-more (idle - k.waits) old.host.idle mid.host.idle new.host.idle (h.was.host q.0) q.1);
-    }
+    let more : idle - k'.waits ≡ idle - k.waits + 1 = omega (arith, x.0, same, live.waits, live.within) in (
+      subst (λ (n : ℕ). RoseBy n old.client.idle new.client.idle) (sym more) (rose-more (idle - k.waits) old.client.idle mid.client.idle new.client.idle h.was.0 x.1.client),
+      λ up. let q = x.1.host up in subst (λ (n : ℕ). RoseBy n old.host.idle new.host.idle) (sym more) (rose-more (idle - k.waits) old.host.idle mid.host.idle new.host.idle (h.was.1 q.0) q.1),
+    )
 
 pub waited-more : (idle : ℕ) (k k' : Rounds) (old mid new : Outside) → k.idle ≡ idle → IsLive k → HasWaited idle k old mid → RoundIdles (Ok tt) k k' mid new → HasWaited idle k' old new
 waited-more idle k k' old mid new same live h r =
     let any : AnyRound old new = record { client = omega (arith, h.any.client, r.0.client); host = omega (arith, h.any.host, r.0.host) } in
     record { any = any; was = waited-was idle k k' old mid new same live h any r.1 }
 
-pub waited-last : (idle : ℕ) (k k' : Rounds) (old mid new : Outside) → k.idle ≡ idle → IsLive k → HasWaited idle k old mid → QuietRound mid new → k.waits ≡ 1 → WasIdle idle old new
+pub waited-last : (idle : ℕ) (k k' : Rounds) (old mid new : Outside) → k.idle ≡ idle → IsLive k → HasWaited idle k old mid → QuietRound mid new → k.waits ≡ 1 → HasReason Idle idle old new
 waited-last idle k k' old mid new same live h q one =
-    let more : idle - k.waits + 1 ≡ idle = omega (arith, same, one, live.within) in
-    record {
-      client = subst (λ (n : ℕ). RoseBy n old.client.idle new.client.idle) more (rose-more (idle - k.waits) old.client.idle mid.client.idle new.client.idle h.was.client q.client);
-      host = λ up. let r = q.host up in subst (λ (n : ℕ). RoseBy n old.host.idle new.host.idle) more (rose-more (idle - k.waits) old.host.idle mid.host.idle new.host.idle (h.was.host r.0) r.1);
-    }
+    let more : idle - k.waits + 1 ≡ idle = omega (arith, same, one, live.within) in (
+      subst (λ (n : ℕ). RoseBy n old.client.idle new.client.idle) more (rose-more (idle - k.waits) old.client.idle mid.client.idle new.client.idle h.was.0 q.client),
+      λ up. let r = q.host up in subst (λ (n : ℕ). RoseBy n old.host.idle new.host.idle) more (rose-more (idle - k.waits) old.host.idle mid.host.idle new.host.idle (h.was.1 r.0) r.1),
+    )
 
 pub reason : (e : ServeEnd) (idle : ℕ) (k k' : Rounds) (old mid new : Outside) → k.idle ≡ idle → IsLive k → HasWaited idle k old mid → RoundIdles (Err e) k k' mid new → HasReason e idle old new
 reason (Ended refused) idle k k' old mid new same live h r = r
@@ -181,10 +178,10 @@ cut-reason Memory idle old new is = tt
 -- nothing was idle before
 pub reason-from : (e : ServeEnd) (idle : ℕ) (old mid new : Outside) → NotIdle old mid → HasReason e idle mid new → HasReason e idle old new
 reason-from (Ended refused) idle old mid new n r = r
-reason-from Idle idle old mid new n r = record {
-  client = subst (λ (i : ℕ). RoseBy idle i new.client.idle) n.client r.client;
-  host = λ up. subst (λ (i : ℕ). RoseBy idle i new.host.idle) n.host (r.host up);
-}
+reason-from Idle idle old mid new n r = (
+  subst (λ (i : ℕ). RoseBy idle i new.client.idle) n.client r.0,
+  λ up. subst (λ (i : ℕ). RoseBy idle i new.host.idle) n.host (r.1 up),
+)
 reason-from Spent idle old mid new n r = tt
 reason-from (LinkFault side) idle old mid new n r = tt
 reason-from WriteFault idle old mid new n r = tt

@@ -6,7 +6,7 @@ use Rattle.usb_base.specs.declared.side.Side.{Side}
 use Rattle.usb_base.specs.declared.side.Side.TheVariants.{Client, Host}
 use Rattle.usb_base.specs.declared.refusal.Refusal.{Refusal}
 use Rattle.gate_outside.specs.Calls.{Call, Close, Called, went}
-use Rattle.bridge_run.specs.Events.{LinkEvent, ClientComes, ClientPiece, ClientQuiet, ClientEnd, HostPiece, HostEnd}
+use Rattle.bridge_run.specs.Events.{LinkEvent, ClientComes, SidePiece, ClientQuiet, SideEnd}
 use Rattle.bridge_run.specs.declared.rounds.Rounds.{Rounds}
 use Rattle.bridge_run.specs.declared.sent.Sent.{Sent}
 use Rattle.bridge_run.specs.declared.serve_end.ServeEnd.{ServeEnd}
@@ -65,11 +65,10 @@ has-sent gives stands tells terms p asks e k k1 sent lines begun d0 d1 d2 t prep
 
 ends-none : (e : LinkEvent) → ends_next e false ≡ false
 ends-none ClientComes = refl
-ends-none (ClientPiece b) = refl
 ends-none ClientQuiet = refl
-ends-none ClientEnd = refl
-ends-none (HostPiece b) = refl
-ends-none HostEnd = refl
+ends-none (SidePiece side b) = refl
+ends-none (SideEnd Client) = refl
+ends-none (SideEnd Host) = refl
 
 over-of : (terms : Terms) (p : Prescribed) (e : LinkEvent) (events es : List LinkEvent) (k : Rounds) → es ≡ e ∷ events → k.client_up ≡ client_behind p (e ∷ events) → k.host_up ≡ host_since (is_some terms.host) p (e ∷ events)
     → is_over terms p es ≡ none_up k
@@ -121,14 +120,14 @@ links-behind terms p e events calls refused dropped Client drop refuse is = clie
 links-behind terms p e events calls refused dropped Host drop refuse is = host-closing refused dropped calls ∙ ap (λ (u : Bool). u && not refused) is ∙ ap (λ (r : Bool). host_at e (host_since (is_some terms.host) p events) && not r) refuse
 
 -- behind the end of the client the host's link is as before
-host-behind-end : (u : Bool) (terms : Terms) (p : Prescribed) (es : List LinkEvent) → u ≡ false → (u && not (refuses Host (gained p.refusals es ClientEnd))) ≡ false
-host-behind-end u terms p es down = ap (λ (v : Bool). v && not (refuses Host (gained p.refusals es ClientEnd))) down
+host-behind-end : (u : Bool) (terms : Terms) (p : Prescribed) (es : List LinkEvent) → u ≡ false → (u && not (refuses Host (gained p.refusals es (SideEnd Client)))) ≡ false
+host-behind-end u terms p es down = ap (λ (v : Bool). v && not (refuses Host (gained p.refusals es (SideEnd Client)))) down
 
 -- the host's link is down behind what closes the client's, too
 host-closed : (terms : Terms) (p : Prescribed) (e : LinkEvent) (events : List LinkEvent) → is_up Host terms p (e ∷ events) ≡ false → is_up Host terms p (behind_call (Close Client) (e ∷ events)) ≡ false
 host-closed terms p e events down = go (ends_next e true)
   where
-    go : (b : Bool) → is_up Host terms p (cond b (ClientEnd ∷ e ∷ events) (e ∷ events)) ≡ false
+    go : (b : Bool) → is_up Host terms p (cond b (SideEnd Client ∷ e ∷ events) (e ∷ events)) ≡ false
     go true = host-behind-end (is_up Host terms p (e ∷ events)) terms p (e ∷ events) down
     go false = down
 
@@ -146,7 +145,7 @@ closed-settled terms p asks e events calls refused true h drop refuse =
     settled-closing refused Host terms p (closing true Client calls) (λ r. ap (λ (es : List LinkEvent). is_up Host terms p (behind_call (Close Client) es)) h.events-are ∙ host-closed terms p e events (host-down terms p e events refused refuse r))
     (settled-closing true Client terms p calls (λ r. ap (client_behind p) h.events-are ∙ client-down p e events true drop refl) h.settled)
 
-closed-events : (refused dropped : Bool) (calls : List Call) (e : LinkEvent) (events : List LinkEvent) → events_of calls ≡ e ∷ events → events_of (closed-behind refused dropped calls) ≡ cond (dropped && ends_next e true) (ClientEnd ∷ e ∷ events) (e ∷ events)
+closed-events : (refused dropped : Bool) (calls : List Call) (e : LinkEvent) (events : List LinkEvent) → events_of calls ≡ e ∷ events → events_of (closed-behind refused dropped calls) ≡ cond (dropped && ends_next e true) (SideEnd Client ∷ e ∷ events) (e ∷ events)
 closed-events refused false calls e events is = events-closing refused calls ∙ is
 closed-events refused true calls e events is = events-closing refused (closing true Client calls) ∙ ap (behind_call (Close Client)) is
 
@@ -180,7 +179,7 @@ put-behind gives stands tells terms p asks e events k begun now calls refused dr
     written : IsWritten terms p (e ∷ events) all
     written = closed-written refused dropped terms p calls (e ∷ events) h.written
 
-    behind : events_of all ≡ cond (dropped && ends_next e true) (ClientEnd ∷ e ∷ events) (e ∷ events)
+    behind : events_of all ≡ cond (dropped && ends_next e true) (SideEnd Client ∷ e ∷ events) (e ∷ events)
     behind = closed-events refused dropped calls e events h.events-are
 
     just : JustCame all
@@ -193,9 +192,9 @@ put-behind gives stands tells terms p asks e events k begun now calls refused dr
     before = front-more (told_of p (events_before all)) (told_of p events) _ (before-same p events calls all (closed-before refused dropped calls) h.told_before)
 
     taken : (dropped && ends_next e true) ≡ false → HasTaken gives stands tells terms p asks k begun now
-    taken none = has-taken gives stands tells terms p asks k begun now all e events (behind ∙ ap (λ (b : Bool). cond b (ClientEnd ∷ e ∷ events) (e ∷ events)) none) just called settled asked links written before t
+    taken none = has-taken gives stands tells terms p asks k begun now all e events (behind ∙ ap (λ (b : Bool). cond b (SideEnd Client ∷ e ∷ events) (e ∷ events)) none) just called settled asked links written before t
 
-    ended : dropped ≡ true → (of : Side) → up_by of all ≡ up_at of terms p ClientEnd (e ∷ events)
+    ended : dropped ≡ true → (of : Side) → up_by of all ≡ up_at of terms p (SideEnd Client) (e ∷ events)
     ended is Client = client-closing refused dropped calls ∙ ap (λ (d : Bool). up_by Client calls && not d) is ∙ and-none (up_by Client calls)
     ended is Host = links Host
 
@@ -207,7 +206,7 @@ put-behind gives stands tells terms p asks e events k begun now calls refused dr
       asks-are = asked;
       events = e ∷ events;
       just_came = just;
-      events-are = behind ∙ ap (λ (b : Bool). cond (b && ends_next e true) (ClientEnd ∷ e ∷ events) (e ∷ events)) is ∙ ap (λ (b : Bool). cond b (ClientEnd ∷ e ∷ events) (e ∷ events)) next;
+      events-are = behind ∙ ap (λ (b : Bool). cond (b && ends_next e true) (SideEnd Client ∷ e ∷ events) (e ∷ events)) is ∙ ap (λ (b : Bool). cond b (SideEnd Client ∷ e ∷ events) (e ∷ events)) next;
       stands_for = t.stands_for;
       written = written;
       told = t.told;
@@ -316,7 +315,7 @@ taking-fault gives stands runs_out tells terms p asks e k begun now t = record {
 
 -- the links were closed, and a front of the event's lines was told
 closed-part : (terms : Terms) (p : Prescribed) (tells : List ℕ → Type 0) (e : LinkEvent) (events : List LinkEvent) (all : List Call) (b : Bool) → IsWritten terms p (e ∷ events) all → InPart tells (told_of p (events_before all)) (told_of p (e ∷ events))
-    → WroteInPart tells terms p (cond b (ClientEnd ∷ e ∷ events) (e ∷ events)) all
+    → WroteInPart tells terms p (cond b (SideEnd Client ∷ e ∷ events) (e ∷ events)) all
 closed-part terms p tells e events all true w told = record {
   links = record { client = front-of-more (to_clients p (e ∷ events)) _ (went Client all) w.client; host = front-of-more (sent_to_host (is_some terms.host) p (e ∷ events)) _ (went Host all) w.host };
   told = part-more tells (told_of p (events_before all)) (told_of p (e ∷ events)) _ told;
@@ -344,10 +343,10 @@ lines-part gives stands runs_out before tells terms p asks e k k1 sent lines beg
 pub front-in : (all front back more written : List ℕ) → written ≡ all ++ front → more ≡ front ++ back → IsFront written (all ++ more)
 front-in all front back more written is parts = (back, ap (λ (l : List ℕ). all ++ l) parts ∙ sym (append_assoc all front back) ∙ ap (λ (l : List ℕ). l ++ back) (sym is))
 
-pub client-part : {D : Type 0} → (gives : D → Call → D → Type 0) (stands : List LinkEvent → Type 0) (runs_out : List LinkEvent → LinkEvent → List ℕ → List ℕ → Type 0) (tells : List ℕ → Type 0) (terms : Terms) (p : Prescribed) (asks : List Ask) (e : LinkEvent) (k k1 : Rounds) (sent : Sent) (lines bytes : List ℕ) (begun d0 d1 : D)
+pub client-part : {D : Type 0} {gives : D → Call → D → Type 0} {stands : List LinkEvent → Type 0} {runs_out : List LinkEvent → LinkEvent → List ℕ → List ℕ → Type 0} {tells : List ℕ → Type 0} {terms : Terms} {p : Prescribed} {asks : List Ask} {e : LinkEvent} {k k1 : Rounds} {sent : Sent} {lines bytes : List ℕ} {begun d0 d1 : D}
     → (t : IsTaking gives stands tells terms p asks e k begun d0) → Prepared p t.events e sent lines → k1 ≡ k → bytes ≡ sent.to_client
     → FailedBehind gives Client k1.client_up bytes t.calls begun d1 → Logged (end.LinkFault Client) gives runs_out tells terms p begun d1
-client-part gives stands runs_out tells terms p asks e k k1 sent lines bytes begun d0 d1 t prepared same is f = record {
+client-part {tells = tells} {terms = terms} {p = p} {e = e} t prepared same is f = record {
   calls = f.wrote.behind;
   called = f.wrote.called;
   settled = f.wrote.settled terms p t.settled;
@@ -362,10 +361,10 @@ client-part gives stands runs_out tells terms p asks e k k1 sent lines bytes beg
   ended = f.failed;
 }
 
-pub host-part : {D : Type 0} → (gives : D → Call → D → Type 0) (stands : List LinkEvent → Type 0) (runs_out : List LinkEvent → LinkEvent → List ℕ → List ℕ → Type 0) (tells : List ℕ → Type 0) (terms : Terms) (p : Prescribed) (asks : List Ask) (e : LinkEvent) (k k1 : Rounds) (sent : Sent) (lines bytes : List ℕ) (begun d0 d1 d2 : D)
+pub host-part : {D : Type 0} {gives : D → Call → D → Type 0} {stands : List LinkEvent → Type 0} {runs_out : List LinkEvent → LinkEvent → List ℕ → List ℕ → Type 0} {tells : List ℕ → Type 0} {terms : Terms} {p : Prescribed} {asks : List Ask} {e : LinkEvent} {k k1 : Rounds} {sent : Sent} {lines bytes : List ℕ} {begun d0 d1 d2 : D}
     → (t : IsTaking gives stands tells terms p asks e k begun d0) → Prepared p t.events e sent lines → k1 ≡ k → bytes ≡ sent.to_host
     → (w1 : WroteMore gives Client (all_if k1.client_up sent.to_client) t.calls begun d1) → FailedBehind gives Host k1.host_up bytes w1.behind begun d2 → Logged (end.LinkFault Host) gives runs_out tells terms p begun d2
-host-part gives stands runs_out tells terms p asks e k k1 sent lines bytes begun d0 d1 d2 t prepared same is w1 f = record {
+host-part {tells = tells} {terms = terms} {p = p} {e = e} {k1 = k1} {sent = sent} t prepared same is w1 f = record {
   calls = f.wrote.behind;
   called = f.wrote.called;
   settled = f.wrote.settled terms p (w1.settled terms p t.settled);

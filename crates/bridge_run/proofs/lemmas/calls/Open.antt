@@ -69,8 +69,8 @@ never-lines ran_out w out c d (Some held) is = go is
   where
     go : HasLines Never w out c d held → HasLines ran_out w out c d held
     go (inl all) = inl all
-    go (inr (inl part)) = inr (inl part)
-    go (inr (inr untold)) = absurd untold.stopped
+    go (inr (told, inl part)) = inr (told, inl part)
+    go (inr (told, inr untold)) = absurd untold.stopped
 
 pub never-cut : {ran_out : List LinkEvent → LinkEvent → List ℕ → List ℕ → Type 0} → (w : Outside) (out : Written) (c d : Course) → Cut Never w out c d → Cut ran_out w out c d
 never-cut {ran_out = ran_out} w out c d x = record {

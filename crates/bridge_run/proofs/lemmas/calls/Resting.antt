@@ -11,7 +11,8 @@ use Rattle.bridge_run.specs.Ups.{host_since}
 use Rattle.bridge_run.specs.Asks.{Ask, asks_of, quiet_rounds, is_behind_host}
 use Rattle.bridge_run.specs.Log.{Terms, events_of, BeginsRound, Logged}
 use Rattle.bridge_run.specs.inner.Keeping.{RestsBusy, Rests}
-use Rattle.bridge_run.specs.inner.Logging.{IsOn, RoundBegins, HostAsked, IsAsking, Logs}
+use Rattle.bridge_run.specs.Course.{AtDoor, AtEnd}
+use Rattle.bridge_run.specs.inner.Logging.{IsOn, IsAsking, Logs}
 use Rattle.bridge_run.proofs.lemmas.calls.Log.{lines-fault}
 
 -- what was kept of the links is the same
@@ -49,7 +50,7 @@ less-wait : (w i w' : ℕ) → w' ≡ w - 1 → w ≤ i → w' ≤ i
 less-wait w i w' less within = omega arith
 
 rested-busy : {D : Type 0} → (busy : Bool) (gives : D → Call → D → Type 0) (stands : List LinkEvent → Type 0) (tells : List ℕ → Type 0) (terms : Terms) (p : Prescribed) (k k' : Rounds) (begun now : D) → k.busy ≡ busy → RestsBusy busy k k'
-    → IsAsking HostAsked gives stands tells terms p k begun now → IsAsking RoundBegins gives stands tells terms p k' begun now
+    → IsAsking AtEnd gives stands tells terms p k begun now → IsAsking AtDoor gives stands tells terms p k' begun now
 rested-busy true gives stands tells terms p k k' begun now is r a =
     let waits : k'.waits ≡ terms.idle = ap (λ (q : Rounds). q.waits) r ∙ a.patient.idle in
     record {
@@ -91,7 +92,7 @@ last-wait : (w q i w' : ℕ) → w + q ≡ i + 1 → w' ≡ w - 1 → w' ≡ 0 �
 last-wait w q i w' is less none some = omega arith
 
 pub rested-logs : {D : Type 0} → (result : Result (Unit {0}) ServeEnd) (gives : D → Call → D → Type 0) (stands : List LinkEvent → Type 0) (runs_out : List LinkEvent → LinkEvent → List ℕ → List ℕ → Type 0) (tells : List ℕ → Type 0) (terms : Terms) (p : Prescribed) (k k' : Rounds) (begun now : D) → Rests result k k'
-    → IsAsking HostAsked gives stands tells terms p k begun now → Logs result RoundBegins gives stands runs_out tells terms p k' begun now
+    → IsAsking AtEnd gives stands tells terms p k begun now → Logs result AtDoor gives stands runs_out tells terms p k' begun now
 rested-logs (Ok x) gives stands runs_out tells terms p k k' begun now r a = rested-busy k.busy gives stands tells terms p k k' begun now refl r a
 rested-logs (Err end.Idle) gives stands runs_out tells terms p k k' begun now r a = record {
   calls = a.on.at.calls;
@@ -107,7 +108,7 @@ rested-logs (Err end.WriteFault) gives stands runs_out tells terms p k k' begun 
 rested-logs (Err end.Memory) gives stands runs_out tells terms p k k' begun now r a = absurd r
 
 -- the lines that wait couldn't be written
-pub rest-fault : {D : Type 0} → (gives : D → Call → D → Type 0) (stands : List LinkEvent → Type 0) (runs_out : List LinkEvent → LinkEvent → List ℕ → List ℕ → Type 0) (tells : List ℕ → Type 0) (terms : Terms) (p : Prescribed) (k : Rounds) (begun now : D) → IsAsking HostAsked gives stands tells terms p k begun now → not k.busy ≡ true → terms.taped ≡ true
+pub rest-fault : {D : Type 0} → (gives : D → Call → D → Type 0) (stands : List LinkEvent → Type 0) (runs_out : List LinkEvent → LinkEvent → List ℕ → List ℕ → Type 0) (tells : List ℕ → Type 0) (terms : Terms) (p : Prescribed) (k : Rounds) (begun now : D) → IsAsking AtEnd gives stands tells terms p k begun now → not k.busy ≡ true → terms.taped ≡ true
     → Logged end.WriteFault gives runs_out tells terms p begun now
 rest-fault gives stands runs_out tells terms p k begun now a due taped =
     lines-fault gives stands runs_out tells terms p a.asks k begun now a.on.at

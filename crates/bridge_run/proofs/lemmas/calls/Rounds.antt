@@ -8,31 +8,32 @@ use Rattle.gate_outside.specs.declared.fault.Failed.{Failed as Fault}
 use Rattle.gate_outside.specs.declared.turn.Polled.{Polled}
 use Rattle.gate_outside.specs.declared.turn.Polled.TheVariants.{Took, NotYet, Ended, Failed}
 use Rattle.gate_outside.specs.Calls.{Call, Accept, Poll, written_by, went}
-use Rattle.bridge_run.specs.Events.{LinkEvent, ClientComes, ClientQuiet}
+use Rattle.bridge_run.specs.Events.{LinkEvent, ClientComes, ClientQuiet, SidePiece, SideEnd}
 use Rattle.bridge_run.specs.declared.rounds.Rounds.{Rounds}
 use Rattle.bridge_run.specs.declared.serve_end.ServeEnd.{ServeEnd}
 use Rattle.bridge_run.specs.declared.serve_end.ServeEnd.TheVariants as end
 use Rattle.bridge_run.specs.Prescribed.{Prescribed, first_of}
-use Rattle.bridge_run.specs.Calls.{piece, end_of}
 use Rattle.bridge_run.specs.Ups.{client_at, client_behind, host_at, host_since, told_of, up_by}
-use Rattle.bridge_run.specs.Asks.{Ask, ForClient, OfSide, asks_of, taken, taken_by, has_just_come, quiet_rounds, is_behind_host, is_behind_client}
+use Rattle.bridge_run.specs.Asks.{Ask, ForClient, OfSide, asks_of, taken, taken_by, has_just_come, quiet_rounds, is_behind_host}
 use Rattle.bridge_run.specs.Log.{Terms, events_of, events_before, IsWritten, is_up, is_over, AsksSettled, JustCame, MayBegin, MayAsk, BeginsRound, IsTurnOf, Logged}
 use Rattle.bridge_run.specs.inner.Keeping.{up_of, with_up, chances_of, Wears, one_if}
-use Rattle.bridge_run.specs.inner.Logging.{IsAt, up_at, IsOn, IsTaking, HappenLogs, IsResting, RoundBegins, DoorAsked, IsPatient, HasWaited, Waits, DoorTurn, HasTurn, stage_of, stage_behind, IsAsking, Logs}
+use Rattle.bridge_run.specs.Course.{AtClient, AtDoor}
+use Rattle.bridge_run.specs.inner.Follows.{behind, polls}
+use Rattle.bridge_run.specs.inner.Logging.{IsAt, up_at, IsOn, IsTaking, HappenLogs, IsResting, IsPatient, HasWaited, Waits, DoorTurn, HasTurn, IsAsking, Logs}
 use Rattle.bridge_run.proofs.lemmas.calls.Log.{front-whole, failed-logs}
 use Rattle.bridge_run.proofs.lemmas.calls.Resting.{begins-of}
 
 -- ---- whom a round asks
 
 -- where it is asked for a client fewer rounds than may have brought nothing
-door-begins : (terms : Terms) (k : Rounds) (asks : List Ask) → IsPatient terms k → Waits RoundBegins terms k asks → quiet_rounds asks < terms.idle
+door-begins : (terms : Terms) (k : Rounds) (asks : List Ask) → IsPatient terms k → Waits AtDoor terms k asks → quiet_rounds asks < terms.idle
 door-begins terms k asks patient w = fewer (quiet_rounds asks) terms.idle k.waits (w.1.quiet w.0) patient.waits
   where
     fewer : (q i w : ℕ) → w + q ≡ i + 0 → 0 < w → q < i
     fewer q i w is some = omega arith
 
 -- and so where the client is polled
-client-begins : (terms : Terms) (k : Rounds) (asks : List Ask) → IsPatient terms k → Waits DoorAsked terms k asks → k.client_up ≡ true → quiet_rounds asks < terms.idle
+client-begins : (terms : Terms) (k : Rounds) (asks : List Ask) → IsPatient terms k → Waits AtClient terms k asks → k.client_up ≡ true → quiet_rounds asks < terms.idle
 client-begins terms k asks patient w up = go k.busy refl
   where
     fewer : (q i w : ℕ) → w + q ≡ i + 0 → 0 < w → q < i
@@ -45,18 +46,18 @@ client-begins terms k asks patient w up = go k.busy refl
     go true is = none (quiet_rounds asks) terms.idle (w.busy is) patient.some
     go false is = fewer (quiet_rounds asks) terms.idle k.waits (w.quiet is ∙ ap (λ (u : Bool). terms.idle + one_if (not u)) up) patient.waits
 
-may-begin : (side : Side) (terms : Terms) (k : Rounds) (asks : List Ask) (calls : List Call) → asks_of calls ≡ asks → IsPatient terms k → Waits (stage_of side) terms k asks → up_of side k ≡ true → MayBegin side terms calls
+may-begin : (side : Side) (terms : Terms) (k : Rounds) (asks : List Ask) (calls : List Call) → asks_of calls ≡ asks → IsPatient terms k → Waits (polls side) terms k asks → up_of side k ≡ true → MayBegin side terms calls
 may-begin Client terms k asks calls is patient w up = subst (λ (l : List Ask). quiet_rounds l < terms.idle) (sym is) (client-begins terms k asks patient w up)
 may-begin Host terms k asks calls is patient w up = tt
 
 -- it is the side's turn
-turn-of : (side : Side) (terms : Terms) (p : Prescribed) (k : Rounds) (asks : List Ask) (calls : List Call) → k.client_up ≡ client_behind p (events_of calls) → k.host_up ≡ host_since (is_some terms.host) p (events_of calls) → asks_of calls ≡ asks → Waits (stage_of side) terms k asks → HasTurn (stage_of side) k asks → up_of side k ≡ true → IsTurnOf side terms p calls
+turn-of : (side : Side) (terms : Terms) (p : Prescribed) (k : Rounds) (asks : List Ask) (calls : List Call) → k.client_up ≡ client_behind p (events_of calls) → k.host_up ≡ host_since (is_some terms.host) p (events_of calls) → asks_of calls ≡ asks → Waits (polls side) terms k asks → HasTurn (polls side) k asks → up_of side k ≡ true → IsTurnOf side terms p calls
 turn-of Client terms p k asks calls client host is waited turn up = go (subst (λ (b : Bool). DoorTurn b k asks) up turn)
   where
     go : (has_just_come asks ≡ true) ⊎ (k.host_up ≡ true → is_behind_host asks ≡ true) → IsTurnOf Client terms p calls
     go (inl came) = inl (ap has_just_come is ∙ came)
     go (inr behind) = inr (begins-of terms p k asks calls host is behind)
-turn-of Host terms p k asks calls client host is waited turn up = (ap is_behind_client is ∙ turn, λ just. sym client ∙ gone k.client_up refl (sym (ap has_just_come is) ∙ just))
+turn-of Host terms p k asks calls client host is waited turn up = (ap is_behind_host is ∙ turn, λ just. sym client ∙ gone k.client_up refl (sym (ap has_just_come is) ∙ just))
   where
     gone : (b : Bool) → k.client_up ≡ b → has_just_come asks ≡ true → k.client_up ≡ false
     gone true there just = absurd (false≢true (sym (waited.came there) ∙ just))
@@ -69,10 +70,10 @@ kept-up Host gives stands tells terms p asks k begun now at = sym at.host_up
 
 -- a side is polled
 pub may-poll : {D : Type 0} → (side : Side) (gives : D → Call → D → Type 0) (stands : List LinkEvent → Type 0) (tells : List ℕ → Type 0) (terms : Terms) (p : Prescribed) (k : Rounds) (begun now : D) → up_of side k ≡ true
-    → (a : IsAsking (stage_of side) gives stands tells terms p k begun now) → MayAsk side terms p a.on.at.calls × IsTurnOf side terms p a.on.at.calls × (is_up side terms p (events_of a.on.at.calls) ≡ true)
+    → (a : IsAsking (polls side) gives stands tells terms p k begun now) → MayAsk side terms p a.on.at.calls × IsTurnOf side terms p a.on.at.calls × (is_up side terms p (events_of a.on.at.calls) ≡ true)
 may-poll side gives stands tells terms p k begun now up a = (record { written = a.on.at.written; goes_on = a.on.goes_on; round = may-begin side terms k a.asks a.on.at.calls a.on.at.asks-are a.patient a.waited up; links = a.on.at.links }, turn-of side terms p k a.asks a.on.at.calls a.on.at.client_up a.on.at.host_up a.on.at.asks-are a.waited a.turn up, kept-up side gives stands tells terms p a.asks k begun now a.on.at ∙ up)
 
-pub may-accept : {D : Type 0} → (gives : D → Call → D → Type 0) (stands : List LinkEvent → Type 0) (tells : List ℕ → Type 0) (terms : Terms) (p : Prescribed) (k : Rounds) (begun now : D) → k.client_up ≡ false → (a : IsAsking RoundBegins gives stands tells terms p k begun now) → MayAsk Client terms p a.on.at.calls × BeginsRound terms p a.on.at.calls × (is_up Client terms p (events_of a.on.at.calls) ≡ false)
+pub may-accept : {D : Type 0} → (gives : D → Call → D → Type 0) (stands : List LinkEvent → Type 0) (tells : List ℕ → Type 0) (terms : Terms) (p : Prescribed) (k : Rounds) (begun now : D) → k.client_up ≡ false → (a : IsAsking AtDoor gives stands tells terms p k begun now) → MayAsk Client terms p a.on.at.calls × BeginsRound terms p a.on.at.calls × (is_up Client terms p (events_of a.on.at.calls) ≡ false)
 may-accept gives stands tells terms p k begun now down a =
     (record { written = a.on.at.written; goes_on = a.on.goes_on; round = subst (λ (l : List Ask). quiet_rounds l < terms.idle) (sym a.on.at.asks-are) (door-begins terms k a.asks a.patient a.waited); links = a.on.at.links }, begins-of terms p k a.asks a.on.at.calls a.on.at.host_up a.on.at.asks-are a.turn, sym a.on.at.client_up ∙ down)
 
@@ -84,14 +85,6 @@ quiet-written terms p events calls call client host w = record {
   client = ap (λ (l : List ℕ). went Client calls ++ l) client ∙ append-nil (went Client calls) ∙ w.client;
   host = ap (λ (l : List ℕ). went Host calls ++ l) host ∙ append-nil (went Host calls) ∙ w.host;
 }
-
-client-in : (side : Side) (b : List ℕ) (u : Bool) → client_at (piece side b) u ≡ u
-client-in Client b u = refl
-client-in Host b u = refl
-
-host-in : (side : Side) (b : List ℕ) (u : Bool) → host_at (piece side b) u ≡ u
-host-in Client b u = refl
-host-in Host b u = refl
 
 less-left : (b t n l : ℕ) → l ≡ b - t → l - n ≡ b - (t + n)
 less-left b t n l is = omega arith
@@ -159,7 +152,7 @@ quiet-on gives stands tells terms p asks ask call k begun d0 d1 on g may client 
     }
 
 -- a poll that isn't the end of its side leaves the links, and so does a door with nobody at it
-piece-links : (side of : Side) (n : ℕ) (buf : List ℕ) (terms : Terms) (p : Prescribed) (calls : List Call) → up_by of calls ≡ is_up of terms p (events_of calls) → up_by of (Poll side (Took n) buf ∷ calls) ≡ up_at of terms p (piece side (take n buf)) (events_of calls)
+piece-links : (side of : Side) (n : ℕ) (buf : List ℕ) (terms : Terms) (p : Prescribed) (calls : List Call) → up_by of calls ≡ is_up of terms p (events_of calls) → up_by of (Poll side (Took n) buf ∷ calls) ≡ up_at of terms p (SidePiece side (take n buf)) (events_of calls)
 piece-links Client Client n buf terms p calls is = is
 piece-links Client Host n buf terms p calls is = is
 piece-links Host Client n buf terms p calls is = is
@@ -179,7 +172,7 @@ quiet-links : (of : Side) (buf : List ℕ) (terms : Terms) (p : Prescribed) (cal
 quiet-links Client buf terms p calls is = is
 quiet-links Host buf terms p calls is = is
 
-end-links : (side of : Side) (buf : List ℕ) (terms : Terms) (p : Prescribed) (calls : List Call) → up_by of calls ≡ is_up of terms p (events_of calls) → up_by of (Poll side Ended buf ∷ calls) ≡ up_at of terms p (end_of side) (events_of calls)
+end-links : (side of : Side) (buf : List ℕ) (terms : Terms) (p : Prescribed) (calls : List Call) → up_by of calls ≡ is_up of terms p (events_of calls) → up_by of (Poll side Ended buf ∷ calls) ≡ up_at of terms p (SideEnd side) (events_of calls)
 end-links Client Client buf terms p calls is = refl
 end-links Client Host buf terms p calls is = is
 end-links Host Client buf terms p calls is = is
@@ -189,19 +182,19 @@ client-links : (of : Side) (terms : Terms) (p : Prescribed) (calls : List Call) 
 client-links Client terms p calls is = refl
 client-links Host terms p calls is = is
 
-pub took-taking : {D : Type 0} → (gives : D → Call → D → Type 0) (stands : List LinkEvent → Type 0) (tells : List ℕ → Type 0) (terms : Terms) (p : Prescribed) (side : Side) (n : ℕ) (buf : List ℕ) (k k' : Rounds) (begun d0 d1 : D) → (a : IsAsking (stage_of side) gives stands tells terms p k begun d0)
-    → up_of side k ≡ true → gives d0 (Poll side (Took n) buf) d1 → k' ≡ record k { busy = true; left = k.left - n } → IsTaking gives stands tells terms p (OfSide side (Took n) ∷ a.asks) (piece side (take n buf)) k' begun d1
+pub took-taking : {D : Type 0} → (gives : D → Call → D → Type 0) (stands : List LinkEvent → Type 0) (tells : List ℕ → Type 0) (terms : Terms) (p : Prescribed) (side : Side) (n : ℕ) (buf : List ℕ) (k k' : Rounds) (begun d0 d1 : D) → (a : IsAsking (polls side) gives stands tells terms p k begun d0)
+    → up_of side k ≡ true → gives d0 (Poll side (Took n) buf) d1 → k' ≡ record k { busy = true; left = k.left - n } → IsTaking gives stands tells terms p (OfSide side (Took n) ∷ a.asks) (SidePiece side (take n buf)) k' begun d1
 took-taking gives stands tells terms p side n buf k k' begun d0 d1 a up g kept =
     let at = a.on.at in
     let events = events_of at.calls in
-    brings-taking gives stands tells terms p a.asks (OfSide side (Took n)) (Poll side (Took n) buf) (piece side (take n buf)) k k' begun d0 d1 at g (may-poll side gives stands tells terms p k begun d0 up a) refl refl refl tt
+    brings-taking gives stands tells terms p a.asks (OfSide side (Took n)) (Poll side (Took n) buf) (SidePiece side (take n buf)) k k' begun d0 d1 at g (may-poll side gives stands tells terms p k begun d0 up a) refl refl refl tt
     (quiet-written terms p events at.calls (Poll side (Took n) buf) refl refl at.written) (ap (λ (q : Rounds). q.left) kept ∙ less-left terms.budget (taken a.asks) n k.left at.left)
-    (ap (λ (q : Rounds). q.client_up) kept ∙ at.client_up ∙ sym (client-in side (take n buf) (client_behind p events)))
-    (ap (λ (q : Rounds). q.host_up) kept ∙ at.host_up ∙ sym (host-in side (take n buf) (host_since (is_some terms.host) p events)))
+    (ap (λ (q : Rounds). q.client_up) kept ∙ at.client_up)
+    (ap (λ (q : Rounds). q.host_up) kept ∙ at.host_up)
     (λ of. piece-links side of n buf terms p at.calls (at.links of))
     (ap (λ (q : Rounds). q.refused) kept)
 
-pub rest-resting : {D : Type 0} → (gives : D → Call → D → Type 0) (stands : List LinkEvent → Type 0) (tells : List ℕ → Type 0) (terms : Terms) (p : Prescribed) (side : Side) (buf : List ℕ) (k : Rounds) (begun d0 d1 : D) → (a : IsAsking (stage_of side) gives stands tells terms p k begun d0)
+pub rest-resting : {D : Type 0} → (gives : D → Call → D → Type 0) (stands : List LinkEvent → Type 0) (tells : List ℕ → Type 0) (terms : Terms) (p : Prescribed) (side : Side) (buf : List ℕ) (k : Rounds) (begun d0 d1 : D) → (a : IsAsking (polls side) gives stands tells terms p k begun d0)
     → up_of side k ≡ true → gives d0 (Poll side NotYet buf) d1 → IsResting side gives stands tells terms p (OfSide side NotYet ∷ a.asks) k begun d1
 rest-resting gives stands tells terms p Client buf k begun d0 d1 a up g =
     let at = a.on.at in
@@ -219,30 +212,30 @@ down-refused : (side : Side) (k k' : Rounds) → k' ≡ record (with_up side k) 
 down-refused Client k k' is = ap (λ (q : Rounds). q.refused) is
 down-refused Host k k' is = ap (λ (q : Rounds). q.refused) is
 
-down-client : (side : Side) (k k' : Rounds) (up : Bool) → k' ≡ record (with_up side k) { busy = true } → k.client_up ≡ up → k'.client_up ≡ client_at (end_of side) up
+down-client : (side : Side) (k k' : Rounds) (up : Bool) → k' ≡ record (with_up side k) { busy = true } → k.client_up ≡ up → k'.client_up ≡ client_at (SideEnd side) up
 down-client Client k k' up is was = ap (λ (q : Rounds). q.client_up) is
 down-client Host k k' up is was = ap (λ (q : Rounds). q.client_up) is ∙ was
 
-down-host : (side : Side) (k k' : Rounds) (up : Bool) → k' ≡ record (with_up side k) { busy = true } → k.host_up ≡ up → k'.host_up ≡ host_at (end_of side) up
+down-host : (side : Side) (k k' : Rounds) (up : Bool) → k' ≡ record (with_up side k) { busy = true } → k.host_up ≡ up → k'.host_up ≡ host_at (SideEnd side) up
 down-host Client k k' up is was = ap (λ (q : Rounds). q.host_up) is ∙ was
 down-host Host k k' up is was = ap (λ (q : Rounds). q.host_up) is
 
-pub end-taking : {D : Type 0} → (gives : D → Call → D → Type 0) (stands : List LinkEvent → Type 0) (tells : List ℕ → Type 0) (terms : Terms) (p : Prescribed) (side : Side) (buf : List ℕ) (k k' : Rounds) (begun d0 d1 : D) → (a : IsAsking (stage_of side) gives stands tells terms p k begun d0)
-    → up_of side k ≡ true → gives d0 (Poll side Ended buf) d1 → k' ≡ record (with_up side k) { busy = true } → IsTaking gives stands tells terms p (OfSide side Ended ∷ a.asks) (end_of side) k' begun d1
+pub end-taking : {D : Type 0} → (gives : D → Call → D → Type 0) (stands : List LinkEvent → Type 0) (tells : List ℕ → Type 0) (terms : Terms) (p : Prescribed) (side : Side) (buf : List ℕ) (k k' : Rounds) (begun d0 d1 : D) → (a : IsAsking (polls side) gives stands tells terms p k begun d0)
+    → up_of side k ≡ true → gives d0 (Poll side Ended buf) d1 → k' ≡ record (with_up side k) { busy = true } → IsTaking gives stands tells terms p (OfSide side Ended ∷ a.asks) (SideEnd side) k' begun d1
 end-taking gives stands tells terms p side buf k k' begun d0 d1 a up g kept =
     let at = a.on.at in
     let events = events_of at.calls in
-    brings-taking gives stands tells terms p a.asks (OfSide side Ended) (Poll side Ended buf) (end_of side) k k' begun d0 d1 at g (may-poll side gives stands tells terms p k begun d0 up a) refl refl refl tt
+    brings-taking gives stands tells terms p a.asks (OfSide side Ended) (Poll side Ended buf) (SideEnd side) k k' begun d0 d1 at g (may-poll side gives stands tells terms p k begun d0 up a) refl refl refl tt
     (quiet-written terms p events at.calls (Poll side Ended buf) refl refl at.written) (down-left side k k' kept ∙ same-left terms.budget (taken a.asks) k.left at.left)
     (down-client side k k' (client_behind p events) kept at.client_up) (down-host side k k' (host_since (is_some terms.host) p events) kept at.host_up) (λ of. end-links side of buf terms p at.calls (at.links of)) (down-refused side k k' kept)
 
-pub poll-failed : {D : Type 0} → (gives : D → Call → D → Type 0) (stands : List LinkEvent → Type 0) (runs_out : List LinkEvent → LinkEvent → List ℕ → List ℕ → Type 0) (tells : List ℕ → Type 0) (terms : Terms) (p : Prescribed) (side : Side) (buf : List ℕ) (k : Rounds) (begun d0 d1 : D) → IsAsking (stage_of side) gives stands tells terms p k begun d0
+pub poll-failed : {D : Type 0} → (gives : D → Call → D → Type 0) (stands : List LinkEvent → Type 0) (runs_out : List LinkEvent → LinkEvent → List ℕ → List ℕ → Type 0) (tells : List ℕ → Type 0) (terms : Terms) (p : Prescribed) (side : Side) (buf : List ℕ) (k : Rounds) (begun d0 d1 : D) → IsAsking (polls side) gives stands tells terms p k begun d0
     → up_of side k ≡ true → gives d0 (Poll side Failed buf) d1 → Logged (end.LinkFault side) gives runs_out tells terms p begun d1
 poll-failed gives stands runs_out tells terms p side buf k begun d0 d1 a up g =
     failed-logs gives stands runs_out tells terms p a.asks side (Poll side Failed buf) k begun d0 d1 a.on.at (d0, (a.on.at.called, g)) (a.on.at.settled, may-poll side gives stands tells terms p k begun d0 up a) refl refl
     (quiet-written terms p (events_of a.on.at.calls) a.on.at.calls (Poll side Failed buf) refl refl a.on.at.written) refl
 
-pub came-taking : {D : Type 0} → (gives : D → Call → D → Type 0) (stands : List LinkEvent → Type 0) (tells : List ℕ → Type 0) (terms : Terms) (p : Prescribed) (k k' : Rounds) (begun d0 d1 : D) → k.client_up ≡ false → (a : IsAsking RoundBegins gives stands tells terms p k begun d0) → gives d0 (Accept (Ok true)) d1
+pub came-taking : {D : Type 0} → (gives : D → Call → D → Type 0) (stands : List LinkEvent → Type 0) (tells : List ℕ → Type 0) (terms : Terms) (p : Prescribed) (k k' : Rounds) (begun d0 d1 : D) → k.client_up ≡ false → (a : IsAsking AtDoor gives stands tells terms p k begun d0) → gives d0 (Accept (Ok true)) d1
     → k' ≡ record k { client_up = true; busy = true; left = k.left - 1 } → IsTaking gives stands tells terms p (ForClient (Ok true) ∷ a.asks) ClientComes k' begun d1
 came-taking gives stands tells terms p k k' begun d0 d1 down a g kept =
     let at = a.on.at in
@@ -253,8 +246,8 @@ came-taking gives stands tells terms p k k' begun d0 d1 down a g kept =
 asked-more : (w q i o : ℕ) → w + q ≡ i + 0 → o ≡ 1 → w + (q + 1) ≡ i + o
 asked-more w q i o is one = omega arith
 
-pub nobody-at : {D : Type 0} → (gives : D → Call → D → Type 0) (stands : List LinkEvent → Type 0) (tells : List ℕ → Type 0) (terms : Terms) (p : Prescribed) (k : Rounds) (begun d0 d1 : D) → IsAsking RoundBegins gives stands tells terms p k begun d0 → k.client_up ≡ false → gives d0 (Accept (Ok false)) d1
-    → IsAsking DoorAsked gives stands tells terms p k begun d1
+pub nobody-at : {D : Type 0} → (gives : D → Call → D → Type 0) (stands : List LinkEvent → Type 0) (tells : List ℕ → Type 0) (terms : Terms) (p : Prescribed) (k : Rounds) (begun d0 d1 : D) → IsAsking AtDoor gives stands tells terms p k begun d0 → k.client_up ≡ false → gives d0 (Accept (Ok false)) d1
+    → IsAsking AtClient gives stands tells terms p k begun d1
 nobody-at gives stands tells terms p k begun d0 d1 a down g = record {
   asks = ForClient (Ok false) ∷ a.asks;
   on = quiet-on gives stands tells terms p a.asks (ForClient (Ok false)) (Accept (Ok false)) k begun d0 d1 a.on g (may-accept gives stands tells terms p k begun d0 down a) refl refl refl refl refl (λ of. nobody-links of a.on.at.calls) refl;
@@ -267,7 +260,7 @@ nobody-at gives stands tells terms p k begun d0 d1 a down g = record {
   turn = subst (λ (b : Bool). DoorTurn b k (ForClient (Ok false) ∷ a.asks)) (sym down) refl;
 }
 
-pub accept-failed : {D : Type 0} → (gives : D → Call → D → Type 0) (stands : List LinkEvent → Type 0) (runs_out : List LinkEvent → LinkEvent → List ℕ → List ℕ → Type 0) (tells : List ℕ → Type 0) (terms : Terms) (p : Prescribed) (failed : Fault) (k : Rounds) (begun d0 d1 : D) → k.client_up ≡ false → IsAsking RoundBegins gives stands tells terms p k begun d0
+pub accept-failed : {D : Type 0} → (gives : D → Call → D → Type 0) (stands : List LinkEvent → Type 0) (runs_out : List LinkEvent → LinkEvent → List ℕ → List ℕ → Type 0) (tells : List ℕ → Type 0) (terms : Terms) (p : Prescribed) (failed : Fault) (k : Rounds) (begun d0 d1 : D) → k.client_up ≡ false → IsAsking AtDoor gives stands tells terms p k begun d0
     → gives d0 (Accept (Err failed)) d1 → Logged (end.LinkFault Client) gives runs_out tells terms p begun d1
 accept-failed gives stands runs_out tells terms p failed k begun d0 d1 down a g =
     failed-logs gives stands runs_out tells terms p a.asks Client (Accept (Err failed)) k begun d0 d1 a.on.at (d0, (a.on.at.called, g)) (a.on.at.settled, may-accept gives stands tells terms p k begun d0 down a) refl refl
@@ -276,8 +269,8 @@ accept-failed gives stands runs_out tells terms p failed k begun d0 d1 down a g 
 -- ---- behind an answer
 
 -- the client is there, and is polled next
-pub there-asking : {D : Type 0} → (gives : D → Call → D → Type 0) (stands : List LinkEvent → Type 0) (tells : List ℕ → Type 0) (terms : Terms) (p : Prescribed) (k : Rounds) (begun now : D) → k.client_up ≡ true → IsAsking RoundBegins gives stands tells terms p k begun now
-    → IsAsking DoorAsked gives stands tells terms p k begun now
+pub there-asking : {D : Type 0} → (gives : D → Call → D → Type 0) (stands : List LinkEvent → Type 0) (tells : List ℕ → Type 0) (terms : Terms) (p : Prescribed) (k : Rounds) (begun now : D) → k.client_up ≡ true → IsAsking AtDoor gives stands tells terms p k begun now
+    → IsAsking AtClient gives stands tells terms p k begun now
 there-asking gives stands tells terms p k begun now there a = record {
   asks = a.asks;
   on = a.on;
@@ -291,8 +284,8 @@ there-asking gives stands tells terms p k begun now there a = record {
 }
 
 -- the side isn't there, and isn't polled
-pub gone-asking : {D : Type 0} → (side : Side) (gives : D → Call → D → Type 0) (stands : List LinkEvent → Type 0) (tells : List ℕ → Type 0) (terms : Terms) (p : Prescribed) (k : Rounds) (begun now : D) → up_of side k ≡ false → IsAsking (stage_of side) gives stands tells terms p k begun now
-    → IsAsking (stage_behind side) gives stands tells terms p k begun now
+pub gone-asking : {D : Type 0} → (side : Side) (gives : D → Call → D → Type 0) (stands : List LinkEvent → Type 0) (tells : List ℕ → Type 0) (terms : Terms) (p : Prescribed) (k : Rounds) (begun now : D) → up_of side k ≡ false → IsAsking (polls side) gives stands tells terms p k begun now
+    → IsAsking (behind side) gives stands tells terms p k begun now
 gone-asking Client gives stands tells terms p k begun now down a = record {
   asks = a.asks;
   on = a.on;
@@ -325,11 +318,11 @@ still-busy k k' is w = go w.fewer
 worn-patient : (terms : Terms) (k k1 k2 : Rounds) → IsPatient terms k → k1.idle ≡ k.idle → k1.waits ≡ k.waits → Wears k1 k2 → IsPatient terms k2
 worn-patient terms k k1 k2 patient idle waits w = record { idle = w.idle ∙ idle ∙ patient.idle; some = patient.some; waits = subst (λ (n : ℕ). 0 < n) (sym (w.waits ∙ waits)) patient.waits; within = subst (λ (n : ℕ). n ≤ terms.idle) (sym (w.waits ∙ waits)) patient.within }
 
-waits-behind : (side : Side) (terms : Terms) (k : Rounds) (asks : List Ask) → HasWaited true false terms k asks → Waits (stage_behind side) terms k asks
+waits-behind : (side : Side) (terms : Terms) (k : Rounds) (asks : List Ask) → HasWaited true false terms k asks → Waits (behind side) terms k asks
 waits-behind Client terms k asks w = w
 waits-behind Host terms k asks w = w
 
-asked-turn : (side : Side) (polled : Polled) (k : Rounds) (asks : List Ask) → HasTurn (stage_behind side) k (OfSide side polled ∷ asks)
+asked-turn : (side : Side) (polled : Polled) (k : Rounds) (asks : List Ask) → HasTurn (behind side) k (OfSide side polled ∷ asks)
 asked-turn Client polled k asks = refl
 asked-turn Host polled k asks = λ up. refl
 
@@ -340,7 +333,7 @@ came-turn false k asks = refl
 -- something has come of a side
 pub came-logs : {D : Type 0} → (result : Result (Unit {0}) ServeEnd) (gives : D → Call → D → Type 0) (stands : List LinkEvent → Type 0) (runs_out : List LinkEvent → LinkEvent → List ℕ → List ℕ → Type 0) (tells : List ℕ → Type 0) (terms : Terms) (p : Prescribed) (side : Side) (polled : Polled) (asks : List Ask) (k k1 k2 : Rounds) (begun now : D)
     → HappenLogs result gives stands runs_out tells terms p (OfSide side polled ∷ asks) k2 begun now → quiet_rounds (OfSide side polled ∷ asks) ≡ 0 → IsPatient terms k → k1.busy ≡ true → k1.idle ≡ k.idle → k1.waits ≡ k.waits → Wears k1 k2
-    → Logs result (stage_behind side) gives stands runs_out tells terms p k2 begun now
+    → Logs result (behind side) gives stands runs_out tells terms p k2 begun now
 came-logs (Ok x) gives stands runs_out tells terms p side polled asks k k1 k2 begun now h none patient busy idle waits w = record {
   asks = OfSide side polled ∷ asks;
   on = h;
@@ -353,7 +346,7 @@ came-logs (Err e) gives stands runs_out tells terms p side polled asks k k1 k2 b
 -- a client has come
 pub client-logs : {D : Type 0} → (result : Result (Unit {0}) ServeEnd) (gives : D → Call → D → Type 0) (stands : List LinkEvent → Type 0) (runs_out : List LinkEvent → LinkEvent → List ℕ → List ℕ → Type 0) (tells : List ℕ → Type 0) (terms : Terms) (p : Prescribed) (asks : List Ask) (k k1 k2 : Rounds) (begun now : D)
     → HappenLogs result gives stands runs_out tells terms p (ForClient (Ok true) ∷ asks) k2 begun now → IsPatient terms k → k1.busy ≡ true → k1.idle ≡ k.idle → k1.waits ≡ k.waits → Wears k1 k2
-    → Logs result DoorAsked gives stands runs_out tells terms p k2 begun now
+    → Logs result AtClient gives stands runs_out tells terms p k2 begun now
 client-logs (Ok x) gives stands runs_out tells terms p asks k k1 k2 begun now h patient busy idle waits w = record {
   asks = ForClient (Ok true) ∷ asks;
   on = h;
@@ -364,7 +357,7 @@ client-logs (Ok x) gives stands runs_out tells terms p asks k k1 k2 begun now h 
 client-logs (Err e) gives stands runs_out tells terms p asks k k1 k2 begun now h patient busy idle waits w = h
 
 -- a side had nothing
-quiet-waited : (side : Side) (terms : Terms) (k : Rounds) (asks : List Ask) → Waits (stage_of side) terms k asks → up_of side k ≡ true → HasWaited true false terms k (OfSide side NotYet ∷ asks)
+quiet-waited : (side : Side) (terms : Terms) (k : Rounds) (asks : List Ask) → Waits (polls side) terms k asks → up_of side k ≡ true → HasWaited true false terms k (OfSide side NotYet ∷ asks)
 quiet-waited Client terms k asks w up = record {
   came = λ there. refl;
   busy = λ b. ap (λ (j : Bool). cond j (quiet_rounds asks) (quiet_rounds asks + 1)) (w.came up ∙ b) ∙ w.busy b;
@@ -374,8 +367,8 @@ quiet-waited Client terms k asks w up = record {
 quiet-waited Host terms k asks w up = record { came = λ there. refl; busy = w.busy; quiet = w.quiet }
 
 pub quiet-logs : {D : Type 0} → (result : Result (Unit {0}) ServeEnd) (gives : D → Call → D → Type 0) (stands : List LinkEvent → Type 0) (runs_out : List LinkEvent → LinkEvent → List ℕ → List ℕ → Type 0) (tells : List ℕ → Type 0) (terms : Terms) (p : Prescribed) (side : Side) (asks : List Ask) (k k1 : Rounds) (begun now : D)
-    → HappenLogs result gives stands runs_out tells terms p (OfSide side NotYet ∷ asks) k1 begun now → IsPatient terms k → Waits (stage_of side) terms k asks → up_of side k ≡ true → OnOk result (k1 ≡ k)
-    → Logs result (stage_behind side) gives stands runs_out tells terms p k1 begun now
+    → HappenLogs result gives stands runs_out tells terms p (OfSide side NotYet ∷ asks) k1 begun now → IsPatient terms k → Waits (polls side) terms k asks → up_of side k ≡ true → OnOk result (k1 ≡ k)
+    → Logs result (behind side) gives stands runs_out tells terms p k1 begun now
 quiet-logs (Ok x) gives stands runs_out tells terms p side asks k k1 begun now h patient w up same = record {
   asks = OfSide side NotYet ∷ asks;
   on = h;

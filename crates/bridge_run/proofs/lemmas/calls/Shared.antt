@@ -5,9 +5,9 @@ use Rattle.usb_base.specs.declared.side.Side.{Side}
 use Rattle.usb_base.specs.declared.side.Side.TheVariants.{Client, Host}
 use Rattle.gate_outside.specs.declared.turn.Polled.TheVariants.{Took, NotYet, Ended, Failed}
 use Rattle.gate_outside.specs.Calls.{Call, Dial, Listen, Accept, Poll, Write, Close, written_by, went}
-use Rattle.bridge_run.specs.Events.{LinkEvent, ClientComes, ClientPiece, ClientQuiet, ClientEnd, HostPiece, HostEnd}
+use Rattle.bridge_run.specs.Events.{LinkEvent, ClientComes, SideEnd}
 use Rattle.bridge_run.specs.Prescribed.{Prescribed, gained}
-use Rattle.bridge_run.specs.Calls.{piece, end_of, ends_next}
+use Rattle.bridge_run.specs.Calls.{ends_next}
 use Rattle.bridge_run.specs.Ups.{client_at, client_behind, to_clients}
 use Rattle.bridge_run.specs.Log.{Terms, events_of, behind_call, IsWritten, Settled}
 use Rattle.bridge_run.specs.Clients.{Shares, joined_list, joined, with_event, got_by, sent_to_each}
@@ -32,11 +32,7 @@ got-joined (Close side ∷ calls) = same-joined (got_by calls) (went Client call
 
 event-joined : (e : LinkEvent) (bytes all : List ℕ) (s : Shares) → joined s ≡ all → joined (with_event e bytes s) ≡ all ++ bytes
 event-joined ClientComes bytes all s is = ap (λ (l : List ℕ). l ++ bytes) is
-event-joined (ClientPiece b) bytes all s is = more-joined s.earlier s.latest bytes all is
-event-joined ClientQuiet bytes all s is = more-joined s.earlier s.latest bytes all is
-event-joined ClientEnd bytes all s is = more-joined s.earlier s.latest bytes all is
-event-joined (HostPiece b) bytes all s is = more-joined s.earlier s.latest bytes all is
-event-joined HostEnd bytes all s is = more-joined s.earlier s.latest bytes all is
+event-joined e bytes all s is = more-joined s.earlier s.latest bytes all is
 
 sent-joined : (p : Prescribed) (events : List LinkEvent) → joined (sent_to_each p events) ≡ to_clients p events
 sent-joined p [] = refl
@@ -51,15 +47,7 @@ same-shares a b earlier is =
 written-shares : (terms : Terms) (p : Prescribed) (events : List LinkEvent) (calls : List Call) → (got_by calls).earlier ≡ (sent_to_each p events).earlier → IsWritten terms p events calls → got_by calls ≡ sent_to_each p events
 written-shares terms p events calls earlier w = same-shares (got_by calls) (sent_to_each p events) earlier (got-joined calls ∙ w.client ∙ sym (sent-joined p events))
 
-piece-earlier : (side : Side) (p : Prescribed) (b : List ℕ) (events : List LinkEvent) → (sent_to_each p events).earlier ≡ (sent_to_each p (piece side b ∷ events)).earlier
-piece-earlier Client p b events = refl
-piece-earlier Host p b events = refl
-
-end-earlier : (side : Side) (p : Prescribed) (events : List LinkEvent) → (sent_to_each p events).earlier ≡ (sent_to_each p (end_of side ∷ events)).earlier
-end-earlier Client p events = refl
-end-earlier Host p events = refl
-
-end-if : (b : Bool) (p : Prescribed) (e : LinkEvent) (events : List LinkEvent) → (sent_to_each p (e ∷ events)).earlier ≡ (sent_to_each p (cond b (ClientEnd ∷ e ∷ events) (e ∷ events))).earlier
+end-if : (b : Bool) (p : Prescribed) (e : LinkEvent) (events : List LinkEvent) → (sent_to_each p (e ∷ events)).earlier ≡ (sent_to_each p (cond b (SideEnd Client ∷ e ∷ events) (e ∷ events))).earlier
 end-if true p e events = refl
 end-if false p e events = refl
 
@@ -75,10 +63,10 @@ same-earlier terms p (Accept (Ok true) ∷ calls) s =
     ap (λ (x : Shares). x.latest ∷ x.earlier) (written-shares terms p (events_of calls) calls (same-earlier terms p calls s.0) s.1.0.written)
 same-earlier terms p (Accept (Ok false) ∷ calls) s = same-earlier terms p calls s.0
 same-earlier terms p (Accept (Err e) ∷ calls) s = same-earlier terms p calls s.0
-same-earlier terms p (Poll side (Took n) buf ∷ calls) s = same-earlier terms p calls s.0 ∙ piece-earlier side p (take n buf) (events_of calls)
+same-earlier terms p (Poll side (Took n) buf ∷ calls) s = same-earlier terms p calls s.0
 same-earlier terms p (Poll Client NotYet buf ∷ calls) s = same-earlier terms p calls s.0
 same-earlier terms p (Poll Host NotYet buf ∷ calls) s = same-earlier terms p calls s.0
-same-earlier terms p (Poll side Ended buf ∷ calls) s = same-earlier terms p calls s.0 ∙ end-earlier side p (events_of calls)
+same-earlier terms p (Poll side Ended buf ∷ calls) s = same-earlier terms p calls s.0
 same-earlier terms p (Poll side Failed buf ∷ calls) s = same-earlier terms p calls s.0
 same-earlier terms p (Write side bytes answer ∷ calls) s = same-earlier terms p calls s.0
 same-earlier terms p (Close Client ∷ calls) s = same-earlier terms p calls s.0 ∙ close-earlier p (events_of calls)

@@ -36,9 +36,9 @@ went-other : (side : Side) (sent : List ℕ) (answer : Result ℕ Fault) (calls 
 went-other Client sent answer calls = append-nil (went Host calls)
 went-other Host sent answer calls = append-nil (went Client calls)
 
-pub wrote-call : {D : Type 0} → (gives : D → Call → D → Type 0) (side : Side) (bytes sent : List ℕ) (answer : Result ℕ Fault) (calls : List Call) (begun mid now : D) → WroteMore gives side bytes calls begun mid
-    → gives mid (Write side sent answer) now → WroteMore gives side (bytes ++ front_of answer sent) calls begun now
-wrote-call gives side bytes sent answer calls begun mid now w g = record {
+pub wrote-call : {D : Type 0} → (gives : D → Call → D → Type 0) (side : Side) (bytes sent all : List ℕ) (answer : Result ℕ Fault) (calls : List Call) (begun mid now : D) → bytes ++ front_of answer sent ≡ all → WroteMore gives side bytes calls begun mid
+    → gives mid (Write side sent answer) now → WroteMore gives side all calls begun now
+wrote-call gives side bytes sent all answer calls begun mid now is w g = record {
   behind = Write side sent answer ∷ w.behind;
   called = (mid, (w.called, g));
   settled = λ terms p settled. (w.settled terms p settled, tt);
@@ -47,30 +47,21 @@ wrote-call gives side bytes sent answer calls begun mid now w g = record {
   before-are = w.before-are;
   just_came = w.just_came;
   links = w.links;
-  side-is = went-side side sent answer w.behind ∙ ap (λ (l : List ℕ). l ++ front_of answer sent) w.side-is ∙ append_assoc (went side calls) bytes (front_of answer sent);
+  side-is = went-side side sent answer w.behind ∙ ap (λ (l : List ℕ). l ++ front_of answer sent) w.side-is ∙ append_assoc (went side calls) bytes (front_of answer sent)
+      ∙ ap (λ (l : List ℕ). went side calls ++ l) is;
   other-is = went-other side sent answer w.behind ∙ w.other-is;
 }
 
 -- a write failed, which wrote nothing
 pub failed-behind : {D : Type 0} → (gives : D → Call → D → Type 0) (side : Side) (up : Bool) (bytes front back sent : List ℕ) (failed : Fault) (calls : List Call) (begun mid now : D) → up ≡ true → bytes ≡ front ++ back
     → WroteMore gives side front calls begun mid → gives mid (Write side sent (Err failed)) now → FailedBehind gives side up bytes calls begun now
+unfolding wrote-call
 failed-behind gives side up bytes front back sent failed calls begun mid now is parts w g = record {
   front = front;
   back = back;
   is_up = is;
   parts = parts;
-  wrote = record {
-    behind = Write side sent (Err failed) ∷ w.behind;
-    called = (mid, (w.called, g));
-    settled = λ terms p settled. (w.settled terms p settled, tt);
-    asks-are = w.asks-are;
-    events-are = w.events-are;
-    before-are = w.before-are;
-    just_came = w.just_came;
-    links = w.links;
-    side-is = went-side side sent (Err failed) w.behind ∙ append-nil (went side w.behind) ∙ w.side-is;
-    other-is = went-other side sent (Err failed) w.behind ∙ w.other-is;
-  };
+  wrote = wrote-call gives side front sent front (Err failed) calls begun mid now (append-nil front) w g;
   failed = refl;
 }
 

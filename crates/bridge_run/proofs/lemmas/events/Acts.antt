@@ -1,22 +1,25 @@
 -- What is done with a lent device's host, act by act and event by event.
 use Rattle.std.proofs.Common.{◌≡◌, ℕ, ◌||◌, Bool, true, false, cond, List, [], ◌∷◌, ◌++◌, length, drop, Result, Ok, Err, refl, sym, ap, ◌∙◌, subst, append-nil, append_assoc}
-use Rattle.std.specs.List.{list_any}
+use Rattle.std.specs.List.{flat_map, list_any}
 use Rattle.std.specs.Result.{OnOk}
 use Rattle.std.proofs.Math.Seq.{drop-append_seam}
+use Rattle.usb_base.specs.declared.side.Side.TheVariants.{Client}
 use Rattle.usb_base.specs.declared.refusal.Refusal.{Refusal}
 use Rattle.model_device.specs.Meaning.{Meaning}
 use Rattle.redir_host.specs.state.Kept.{HostKept as Core}
 use Rattle.redir_host.specs.declared.note.HostNote.{HostNote}
+use Rattle.redir_host.specs.declared.note.HostNote.TheVariants as note
 use Rattle.redir_host.specs.step.Acts.{Act, Piece}
 use Rattle.redir_host.specs.write.Output.{host_out, act_bytes, act_notes}
 use Rattle.redir_host.specs.step.Stands.{Stands, DoesAct, TakesAct}
 use Rattle.redir_host.proofs.lemmas.step.Acts.{act-out}
 use Rattle.bridge_run.specs.declared.lent.Lent.{Lent}
 use Rattle.bridge_run.specs.declared.sent.Sent.{Sent}
-use Rattle.bridge_run.specs.Events.{LinkEvent}
-use Rattle.bridge_run.specs.Lent.{each, used, is_refusal, behind_piece, acts_behind, acts_of, is_coming, has_come, refused_by, lent_refusals, lent_sends}
+use Rattle.bridge_run.specs.Events.{LinkEvent, SidePiece}
+use Rattle.bridge_run.specs.Recorded.{has_any}
+use Rattle.bridge_run.specs.Lent.{each, used, refusal_in, acts_behind, acts_of, is_coming, has_come, refused_by, lent_refusals, lent_sends}
 use Rattle.bridge_run.specs.inner.Sends.{Sends}
-use Rattle.bridge_run.specs.inner.Lending.{Acts, IsLent}
+use Rattle.bridge_run.specs.inner.Lending.{is_refusal, Acts, IsLent}
 
 -- ---- acts
 
@@ -56,16 +59,27 @@ midway-all act m s k past all left old new none x = subst (λ (acts : List Act).
 
 -- ---- a piece
 
+pub any-refused : (notes : List HostNote) → has_any (flat_map refusal_in notes) ≡ list_any is_refusal notes
+any-refused [] = refl
+any-refused (note.Refused place reason ∷ notes) = refl
+any-refused (note.Cancelled id ∷ notes) = any-refused notes
+
+-- whether the piece is refused, by the notes of its being taken
+pub piece-refused : {S : Type 0} (m : Meaning S) (s : S) (k : Core S) (past : List Act) (b : List ℕ) (notes : List HostNote) (old new : List ℕ) (refused : Bool) → TakesAct m s k past (Piece b) old new [] notes → list_any is_refusal notes ≡ refused
+    → acts_behind m s past (SidePiece Client b) ≡ cond refused (Piece b ∷ past) (used (Piece b ∷ past))
+piece-refused m s k past b notes old new refused takes is =
+    ap (λ (x : Bool). cond x (Piece b ∷ past) (used (Piece b ∷ past))) (ap (λ (ns : List HostNote). has_any (flat_map refusal_in ns)) (sym takes.told) ∙ any-refused notes ∙ is)
+
 pub heard-refused : {S : Type 0} (m : Meaning S) (s : S) (k : Core S) (past : List Act) (b : List ℕ) (notes : List HostNote) (old new : List ℕ) → TakesAct m s k past (Piece b) old new [] notes → list_any is_refusal notes ≡ true
-    → Acts m s k past (behind_piece (act_notes m s past (Piece b)) (Piece b ∷ past)) old new
+    → Acts m s k past (acts_behind m s past (SidePiece Client b)) old new
 heard-refused m s k past b notes old new takes refused =
-    subst (λ (acts : List Act). Acts m s k past acts old new) (sym (ap (λ (x : Bool). cond x (Piece b ∷ past) (used (Piece b ∷ past))) (ap (list_any is_refusal) (sym takes.told) ∙ refused)))
+    subst (λ (acts : List Act). Acts m s k past acts old new) (sym (piece-refused m s k past b notes old new true takes refused))
     (one-act m s k past (Piece b) old new takes.does)
 
 pub heard-used : {S : Type 0} (m : Meaning S) (s : S) (j k : Core S) (past : List Act) (b : List ℕ) (notes : List HostNote) (old out new : List ℕ) → TakesAct m s j past (Piece b) old out [] notes → list_any is_refusal notes ≡ false
-    → Acts m s k (Piece b ∷ past) (used (Piece b ∷ past)) out new → Acts m s k past (behind_piece (act_notes m s past (Piece b)) (Piece b ∷ past)) old new
+    → Acts m s k (Piece b ∷ past) (used (Piece b ∷ past)) out new → Acts m s k past (acts_behind m s past (SidePiece Client b)) old new
 heard-used m s j k past b notes old out new takes fine uses =
-    subst (λ (acts : List Act). Acts m s k past acts old new) (sym (ap (λ (x : Bool). cond x (Piece b ∷ past) (used (Piece b ∷ past))) (ap (list_any is_refusal) (sym takes.told) ∙ fine)))
+    subst (λ (acts : List Act). Acts m s k past acts old new) (sym (piece-refused m s j past b notes old out false takes fine))
     (acts-then m s j k past (Piece b ∷ past) (used (Piece b ∷ past)) old out new (one-act m s j past (Piece b) old out takes.does) uses)
 
 pub on-ok : {T E : Type 0} (r : Result T E) (P Q : Type 0) → (P → Q) → OnOk r P → OnOk r Q

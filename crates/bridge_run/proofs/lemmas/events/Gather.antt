@@ -10,7 +10,7 @@ use Rattle.gate_outside.specs.declared.turn.Polled.TheVariants.{Took, NotYet, En
 use Rattle.gate_outside.specs.Turns.{pending, answer, given}
 use Rattle.bridge_run.specs.declared.serve_end.ServeEnd.{ServeEnd}
 use Rattle.bridge_run.specs.declared.serve_end.ServeEnd.TheVariants as end
-use Rattle.bridge_run.specs.Events.{LinkEvent, ClientEnd}
+use Rattle.bridge_run.specs.Events.{LinkEvent, SideEnd}
 use Rattle.bridge_run.specs.Prescribed.{Prescribed, gained, refuses, drops, first_of}
 use Rattle.bridge_run.specs.Recorded.{has_any, sends_any, is_last, piece, is_full, waiting_if}
 use Rattle.bridge_run.specs.Course.{Setting, Course, Next, Making, AtDoor, AtClient, AtHost, AtEnd, Takes}
@@ -75,7 +75,7 @@ settle-written s e next c =
 
 take-written : (s : Setting) (e : LinkEvent) (next : Next) (c : Course) → IsWritten (take_event s e next c)
 take-written s e next c =
-    if-written (ends_next e (drops s.served c.events e)) (Goes (Takes ClientEnd next) (put s.served e c)) (settle s next (put s.served e c)) (λ dropped. tt) (λ stays. settle-written s e next c)
+    if-written (ends_next e (drops s.served c.events e)) (Goes (Takes (SideEnd Client) next) (put s.served e c)) (settle s next (put s.served e c)) (λ dropped. tt) (λ stays. settle-written s e next c)
 
 come-written : (clients : List (List Turn)) (c : Course) → IsWritten (come clients c)
 come-written [] c = tt
@@ -181,7 +181,7 @@ call-few s AtEnd c h =
     if-few c.busy (Goes AtDoor (record c { busy = false; waits = s.idle })) (cond (c.waits - 1 == 0) (Stops end.Idle (record (gathered c) { waits = c.waits - 1 })) (Goes AtDoor (record (gathered c) { waits = c.waits - 1 }))) h
     (if-few (c.waits - 1 == 0) (Stops end.Idle (record (gathered c) { waits = c.waits - 1 })) (Goes AtDoor (record (gathered c) { waits = c.waits - 1 })) none-few none-few)
 call-few s (Takes e next) c h =
-    if-few (ends_next e (drops s.served c.events e)) (Goes (Takes ClientEnd next) (put s.served e c)) (settle s next (put s.served e c)) (put-few s.served e c) (settle-few s next (put s.served e c) (put-few s.served e c))
+    if-few (ends_next e (drops s.served c.events e)) (Goes (Takes (SideEnd Client) next) (put s.served e c)) (settle s next (put s.served e c)) (put-few s.served e c) (settle-few s next (put s.served e c) (put-few s.served e c))
 
 then-few : (s : Setting) (o : Outcome) → IsFew o → IsFew (and_then o (call s))
 then-few s (Goes next c) h = call-few s next c h
@@ -214,30 +214,6 @@ ends-so s next c e w begun told tape waiting none x = record {
   };
 }
 
-part-of : (ran_out : List LinkEvent → LinkEvent → List ℕ → List ℕ → Type 0) (w : Outside) (begun told tape known : Option (List ℕ)) (waiting : List ℕ) (c d : Course) → IfSome known (λ held. HasLines ran_out w (gathering begun told tape waiting) c d held)
-    → IfSome known (λ held. HasLines ran_out w (written begun told tape) c d held)
-part-of ran_out w begun told tape None waiting c d is = tt
-part-of ran_out w begun told tape (Some held) waiting c d is = go is
-  where
-    go : HasLines ran_out w (gathering begun told tape waiting) c d held → HasLines ran_out w (written begun told tape) c d held
-    go (inl all) = inl all
-    go (inr (inr untold)) =
-        inr (inr (record {
-          event = untold.event;
-          takes = untold.takes;
-          sent_client = untold.sent_client;
-          sent_host = untold.sent_host;
-          stopped = untold.stopped;
-          some = untold.some;
-          held-is = untold.held-is;
-          lost = untold.lost;
-          all-is = untold.all-is;
-          to_client = untold.to_client;
-          to_host = untold.to_host;
-          told = untold.told;
-        }))
-    go (inr (inl part)) = inr (inl (record { more = part.more; lost = part.lost; held-is = part.held-is; all-is = part.all-is; to_client = part.to_client; to_host = part.to_host; told = part.told }))
-
 cut-short : {e : ServeEnd} {runs_out : List LinkEvent → LinkEvent → List ℕ → List ℕ → Type 0} → (s : Setting) (next : Next) (c : Course) (w : Outside) (begun told tape : Option (List ℕ)) (waiting : List ℕ) → CutShort e runs_out s (Goes next c) w (gathering begun told tape waiting) → CutShort e runs_out s (Goes next c) w (written begun told tape)
 cut-short {e = e} {runs_out = runs_out} s next c w begun told tape waiting x = record {
   next = x.next;
@@ -250,7 +226,7 @@ cut-short {e = e} {runs_out = runs_out} s next c w begun told tape waiting x = r
     to_client = x.cut.to_client;
     to_host = x.cut.to_host;
     told = x.cut.told;
-    tape = part-of (MayRunOut e runs_out s.served) w begun told tape tape waiting x.course _ x.cut.tape;
+    tape = x.cut.tape;
   };
 }
 

@@ -2,11 +2,11 @@
 use Rattle.std.proofs.Common.{◌≡◌, ℕ, ◌||◌, Bool, true, false, cond, List, [], ◌∷◌, ◌++◌, Result, Ok, Err, refl, sym, ap, ◌∙◌, inl, inr, append-nil, append_assoc}
 use Rattle.std.specs.List.{flat_map, list_any}
 use Rattle.std.specs.Result.{OnErr}
+use Rattle.usb_base.specs.declared.side.Side.TheVariants.{Client}
 use Rattle.usb_base.specs.declared.refusal.Refusal.{Refusal}
 use Rattle.model_device.specs.Meaning.{Meaning}
 use Rattle.redir_host.specs.state.Kept.{HostKept as Core}
 use Rattle.redir_host.specs.declared.note.HostNote.{HostNote}
-use Rattle.redir_host.specs.declared.note.HostNote.TheVariants as note
 use Rattle.redir_host.specs.step.Acts.{Act, Piece}
 use Rattle.redir_host.specs.step.Machine.{bytes_of, given_by, steps}
 use Rattle.redir_host.specs.write.Output.{host_of, host_out, act_bytes, act_notes}
@@ -16,16 +16,16 @@ use Rattle.bridge_run.specs.declared.lent.Lent.{Lent}
 use Rattle.bridge_run.specs.declared.lent.Use.{Use}
 use Rattle.bridge_run.specs.declared.lent.Use.TheVariants.{Perform, Offer}
 use Rattle.bridge_run.specs.declared.sent.Sent.{Sent}
-use Rattle.bridge_run.specs.Events.{LinkEvent}
+use Rattle.bridge_run.specs.Events.{LinkEvent, SidePiece}
 use Rattle.bridge_run.specs.Prescribed.{gained}
 use Rattle.bridge_run.specs.Recorded.{has_any}
-use Rattle.bridge_run.specs.Lent.{each, used, out_addresses, in_addresses, refusal_in, is_refusal, behind_piece, acts_behind, acts_of, is_coming, has_come, lent_bytes, refused_by, lent_refusals, lent_sends}
+use Rattle.bridge_run.specs.Lent.{each, used, out_addresses, in_addresses, refusal_in, acts_behind, acts_of, is_coming, has_come, lent_bytes, refused_by, lent_refusals, lent_sends}
 use Rattle.bridge_run.specs.LentStops.{ActsStop, LentStops}
 use Rattle.bridge_run.specs.Log.{IsFront}
 use Rattle.bridge_run.specs.RanOut.{RanOutWithin}
 use Rattle.bridge_run.specs.inner.Sends.{SendsPart}
-use Rattle.bridge_run.specs.inner.Lending.{Acts, StopsIn, Halts, IsLent, act_of}
-use Rattle.bridge_run.proofs.lemmas.events.Acts.{Midway, one-act, heard-refused, gained-is, handed-is}
+use Rattle.bridge_run.specs.inner.Lending.{is_refusal, Acts, StopsIn, Halts, IsLent, act_of}
+use Rattle.bridge_run.proofs.lemmas.events.Acts.{Midway, one-act, any-refused, piece-refused, heard-refused, gained-is, handed-is}
 
 -- ---- acts that are left
 
@@ -113,17 +113,14 @@ offered-more acts = each-more (act_of Offer) in_addresses (each (act_of Perform)
 
 -- ---- a piece
 
-behind-more : (notes : List HostNote) (acts : List Act) → (more : List Act) × (behind_piece notes acts ≡ more ++ acts)
-behind-more notes acts = go (list_any is_refusal notes)
-  where
-    go : (b : Bool) → (more : List Act) × (cond b acts (used acts) ≡ more ++ acts)
-    go true = ([], refl)
-    go false = used-more acts
+behind-more : (refused : Bool) (acts : List Act) → (more : List Act) × (cond refused acts (used acts) ≡ more ++ acts)
+behind-more true acts = ([], refl)
+behind-more false acts = used-more acts
 
 -- memory ran out within the piece
-pub stop-piece : {S : Type 0} (m : Meaning S) (s : S) (past : List Act) (b old new : List ℕ) (refusals : List Refusal) → Stops m s past (Piece b) old new → Halts m s past (behind_piece (act_notes m s past (Piece b)) (Piece b ∷ past)) refusals old new
+pub stop-piece : {S : Type 0} (m : Meaning S) (s : S) (past : List Act) (b old new : List ℕ) (refusals : List Refusal) → Stops m s past (Piece b) old new → Halts m s past (acts_behind m s past (SidePiece Client b)) refusals old new
 stop-piece m s past b old new refusals x =
-    let later = behind-more (act_notes m s past (Piece b)) (Piece b ∷ past) in
+    let later = behind-more (has_any (refused_by m s past (SidePiece Client b))) (Piece b ∷ past) in
     inl (record {
       given = given_by bytes_of m (host_of m s past) x.taken;
       stops = record {
@@ -138,24 +135,19 @@ stop-piece m s past b old new refusals x =
       sent = x.sent;
     })
 
-any-refusal : (notes : List HostNote) → has_any (flat_map refusal_in notes) ≡ true → list_any is_refusal notes ≡ true
-any-refusal [] some = some
-any-refusal (note.Refused place reason ∷ notes) some = refl
-any-refusal (note.Cancelled id ∷ notes) some = any-refusal notes some
-
 -- it was taken, and its refusal couldn't be told
 pub stop-refused : {S : Type 0} (m : Meaning S) (s : S) (k : Core S) (past : List Act) (b : List ℕ) (notes : List HostNote) (old new : List ℕ) → TakesAct m s k past (Piece b) old new [] notes → has_any (flat_map refusal_in notes) ≡ true
-    → Halts m s past (behind_piece (act_notes m s past (Piece b)) (Piece b ∷ past)) (flat_map refusal_in (act_notes m s past (Piece b))) old new
+    → Halts m s past (acts_behind m s past (SidePiece Client b)) (refused_by m s past (SidePiece Client b)) old new
 stop-refused m s k past b notes old new takes some =
-    let a = heard-refused m s k past b notes old new takes (any-refusal notes some) in
+    let a = heard-refused m s k past b notes old new takes (sym (any-refused notes) ∙ some) in
     inr (record { given = a.given; sends = a.sends; sent = a.sent; refuses = ap (λ (ns : List HostNote). has_any (flat_map refusal_in ns)) (sym takes.told) ∙ some })
 
 -- it was taken, and memory ran out as the device was used
 pub stop-used : {S : Type 0} (m : Meaning S) (s : S) (j : Core S) (past : List Act) (b : List ℕ) (notes : List HostNote) (old out new : List ℕ) (refusals : List Refusal) → TakesAct m s j past (Piece b) old out [] notes → list_any is_refusal notes ≡ false
-    → StopsIn m s (Piece b ∷ past) (used (Piece b ∷ past)) out new → Halts m s past (behind_piece (act_notes m s past (Piece b)) (Piece b ∷ past)) refusals old new
+    → StopsIn m s (Piece b ∷ past) (used (Piece b ∷ past)) out new → Halts m s past (acts_behind m s past (SidePiece Client b)) refusals old new
 stop-used m s j past b notes old out new refusals takes fine x =
-    inl (stop-then m s j past (Piece b ∷ past) (used (Piece b ∷ past)) (behind_piece (act_notes m s past (Piece b)) (Piece b ∷ past)) old out new (one-act m s j past (Piece b) old out takes.does) x
-    ([], ap (λ (y : Bool). cond y (Piece b ∷ past) (used (Piece b ∷ past))) (ap (list_any is_refusal) (sym takes.told) ∙ fine)))
+    inl (stop-then m s j past (Piece b ∷ past) (used (Piece b ∷ past)) (acts_behind m s past (SidePiece Client b)) old out new (one-act m s j past (Piece b) old out takes.does) x
+    ([], piece-refused m s j past b notes old out false takes fine))
 
 pub on-err : {T E : Type 0} (r : Result T E) (P Q : Type 0) → (P → Q) → OnErr r P → OnErr r Q
 on-err (Ok x) P Q f p = tt

@@ -23,7 +23,7 @@ use Rattle.bridge_run.specs.Course.{Course}
 use Rattle.session_tape.specs.Tapes.{Counts, GrowsInPart}
 use Rattle.bridge_run.specs.Recorded.{lines_of, sends_any, is_last, is_full, written_if, waiting_if}
 use Rattle.bridge_run.specs.Calls.{put, sends_now}
-use Rattle.bridge_run.specs.Outside.{Outside, Shows, Tells, IsTold, IsToldBetween, IsBetween, IsOneOf, HasLines, IsTaped, Cut, Written, HasCause, faults}
+use Rattle.bridge_run.specs.Outside.{Outside, Shows, Tells, IsTold, IsBetween, IsOneOf, HasLines, IsTaped, Cut, Written, HasCause, faults}
 use Rattle.bridge_run.specs.Serves.{MayRunOut}
 use Rattle.bridge_run.specs.inner.Links.{wrote_if, WritesFront, closed_if}
 use Rattle.bridge_run.specs.inner.Keeping.{refusing}
@@ -191,15 +191,17 @@ all-recorded ran_out P w out c d (Some held) is = inl is.0
 recorded-front : (ran_out : List LinkEvent → LinkEvent → List ℕ → List ℕ → Type 0) (P : Type 0) (w : Outside) (out : Written) (c d : Course) (front back : List ℕ) → d.recorded ≡ c.recorded ++ (front ++ back) → w.client.written ≡ Some c.to_client → w.host.written ≡ Some c.to_host → IsTold out c.told
     → (known : Option (List ℕ)) → IfSome known (λ held. (held ≡ c.recorded) × P) → IfSome (append_known known front) (λ held. HasLines ran_out w out c d held)
 recorded-front ran_out P w out c d front back all client host told None is = tt
-recorded-front ran_out P w out c d front back all client host told (Some held) is = inr (inl (record {
-  more = front;
-  lost = back;
-  held-is = ap (λ (l : List ℕ). l ++ front) is.0;
-  all-is = all ∙ sym (append_assoc c.recorded front back);
-  to_client = client;
-  to_host = host;
-  told = told;
-}))
+recorded-front ran_out P w out c d front back all client host told (Some held) is = inr (
+  told,
+  inl (record {
+    more = front;
+    lost = back;
+    held-is = ap (λ (l : List ℕ). l ++ front) is.0;
+    all-is = all ∙ sym (append_assoc c.recorded front back);
+    to_client = client;
+    to_host = host;
+  }),
+)
 
 -- of what a call writes of those that wait a front is written
 pub written-front : (ran_out : List LinkEvent → LinkEvent → List ℕ → List ℕ → Type 0) (writes : List ℕ → List ℕ) (w : Outside) (out : Written) (c d : Course) (known known' : Option (List ℕ)) (waiting : List ℕ) → GrowsInPart known known' (writes waiting) → IfSome known (λ held. (held ≡ c.recorded) × (waiting ≡ c.waiting))
@@ -267,11 +269,11 @@ client-before p c e l s = (inl s.turns-is, between-none c.to_client l.written (p
 host-before : (p : Prescribed) (c : Course) (e : LinkEvent) (l : Link) → Shows l c.host_up c.host c.to_host → IsOneOf c.host l.turns (put p e c).host × IsBetween c.to_host l.written (put p e c).to_host
 host-before p c e l s = (inl s.turns-is, between-none c.to_host l.written (put p e c).to_host _ s.written-is (more_if c.host_up c.to_host (gained p.to_host c.events e)))
 
-pub told-before : (p : Prescribed) (c : Course) (e : LinkEvent) (out : Written) → IsTold out c.told → IsToldBetween c.told out (put p e c).told
+pub told-before : (p : Prescribed) (c : Course) (e : LinkEvent) (out : Written) → IsTold out c.told → IfSome out.begun (λ first. IsBetween c.told out.told (put p e c).told)
 told-before p c e out s = if-told out.begun (λ (is : out.told ≡ Some c.told). between-none c.told out.told (put p e c).told _ is refl) s
 
 -- nothing of it is written to the links yet
-put-cut : {ran_out : List LinkEvent → LinkEvent → List ℕ → List ℕ → Type 0} → (p : Prescribed) (c : Course) (e : LinkEvent) (w : Outside) (out out' : Written) → Tells w out c → IsToldBetween c.told out' (put p e c).told
+put-cut : {ran_out : List LinkEvent → LinkEvent → List ℕ → List ℕ → Type 0} → (p : Prescribed) (c : Course) (e : LinkEvent) (w : Outside) (out out' : Written) → Tells w out c → IfSome out'.begun (λ first. IsBetween c.told out'.told (put p e c).told)
     → IfSome out'.tape (λ held. HasLines ran_out w out' c (put p e c) held) → Cut ran_out w out' c (put p e c)
 put-cut p c e w out out' t told tape =
     let client = client-before p c e w.client t.client in
@@ -345,14 +347,14 @@ tells-front begun known new x b is a = if-told begun (λ (e : known ≡ Some x).
 -- within the lines of refusals, behind all that goes to both sides
 pub put-in_lines : {ran_out : List LinkEvent → LinkEvent → List ℕ → List ℕ → Type 0} → (p : Prescribed) (c : Course) (e : LinkEvent) (sent : Sent) (lines : List ℕ) (due : Bool) (w w' : Outside) (out out' : Written) → Prepared p c.events e sent lines → Tells w out c
     → Shows w'.client (put p e c).client_up (put p e c).client (put p e c).to_client → Shows w'.host (put p e c).host_up (put p e c).host (put p e c).to_host
-    → w'.door ≡ w.door → IsToldBetween c.told out' (c.told ++ lines) → IsRecorded p c e sent due out out' → Cut ran_out w' out' c (put p e c)
+    → w'.door ≡ w.door → IfSome out'.begun (λ first. IsBetween c.told out'.told (c.told ++ lines)) → IsRecorded p c e sent due out out' → Cut ran_out w' out' c (put p e c)
 put-in_lines {ran_out = ran_out} p c e sent lines due w w' out out' prepared t client host door front recorded = record {
   client = inr client.turns-is;
   host = inr host.turns-is;
   clients = inl (ap (λ (d : Door). d.to_come) door ∙ t.clients);
   to_client = between-all c.to_client w'.client.written (put p e c).to_client _ client.written-is (more_if c.client_up c.to_client (gained p.to_client c.events e));
   to_host = between-all c.to_host w'.host.written (put p e c).to_host _ host.written-is (more_if c.host_up c.to_host (gained p.to_host c.events e));
-  told = subst (λ (l : List ℕ). IsToldBetween c.told out' (c.told ++ l)) (prepared.lines-is ∙ ap (flat_map refusal_line) prepared.refusals) front;
+  told = subst (λ (l : List ℕ). IfSome out'.begun (λ first. IsBetween c.told out'.told (c.told ++ l))) (prepared.lines-is ∙ ap (flat_map refusal_line) prepared.refusals) front;
   tape = all-recorded ran_out _ w' out' c (put p e c) out'.tape (taped p c e sent lines due out out' prepared t.tape recorded);
 }
 

@@ -149,11 +149,8 @@ rests (Err Memory) stands runs_out p idle k k' w out out' from c r same f is rea
 
 -- ---- what waits is written in part
 
--- the end of a round writes what waits, where it brought nothing, and moves no turns
+-- the end of a round writes what waits, where it brought nothing, and nothing else
 record RestMoves (busy : Bool) (c d : Course) : Type 0 where
-  pub client : d.client ≡ c.client
-  pub host : d.host ≡ c.host
-  pub clients : d.clients ≡ c.clients
   pub to_client : d.to_client ≡ c.to_client
   pub to_host : d.to_host ≡ c.to_host
   pub told : d.told ≡ c.told
@@ -161,9 +158,9 @@ record RestMoves (busy : Bool) (c d : Course) : Type 0 where
 
 rest-moves : (busy last : Bool) (s : Setting) (c : Course)
     → RestMoves busy c (course_of (cond busy (Goes AtDoor (record c { busy = false; waits = s.idle })) (cond last (Stops Idle (record (gathered c) { waits = c.waits - 1 })) (Goes AtDoor (record (gathered c) { waits = c.waits - 1 })))))
-rest-moves true last s c = record { client = refl; host = refl; clients = refl; to_client = refl; to_host = refl; told = refl; recorded = sym (append-nil c.recorded) }
-rest-moves false true s c = record { client = refl; host = refl; clients = refl; to_client = refl; to_host = refl; told = refl; recorded = refl }
-rest-moves false false s c = record { client = refl; host = refl; clients = refl; to_client = refl; to_host = refl; told = refl; recorded = refl }
+rest-moves true last s c = record { to_client = refl; to_host = refl; told = refl; recorded = sym (append-nil c.recorded) }
+rest-moves false true s c = record { to_client = refl; to_host = refl; told = refl; recorded = refl }
+rest-moves false false s c = record { to_client = refl; to_host = refl; told = refl; recorded = refl }
 
 pub rest-cut : {ran_out : List LinkEvent → LinkEvent → List ℕ → List ℕ → Type 0} → (s : Setting) (busy : Bool) (w : Outside) (out out' : Written) (c : Course) → busy ≡ c.busy → Tells w out c → IsTold out' c.told → GrowsInPart out.tape out'.tape (written_if (not busy) out.waiting) → Cut ran_out w out' c (course_of (rest s c))
 rest-cut {ran_out = ran_out} s busy w out out' c is t told grows =

@@ -3,7 +3,8 @@ use Rattle.std.proofs.Common.{◌≡◌, ℕ, ◌<◌, ◌==◌, ◌&&◌, not, 
 use Rattle.std.specs.Result.{OnOk}
 use Rattle.std.proofs.lemmas.Bool.Decides.{nat_tests}
 use Rattle.usb_base.specs.declared.refusal.Refusal.{Refusal}
-use Rattle.bridge_run.specs.Events.{LinkEvent, ClientComes, ClientPiece, ClientQuiet, ClientEnd, HostPiece, HostEnd}
+use Rattle.usb_base.specs.declared.side.Side.TheVariants.{Client, Host}
+use Rattle.bridge_run.specs.Events.{LinkEvent, ClientComes, SidePiece, ClientQuiet, SideEnd}
 use Rattle.bridge_run.specs.declared.serve_end.ServeEnd.{ServeEnd}
 use Rattle.bridge_run.specs.declared.serve_end.ServeEnd.TheVariants.{Ended, LinkFault, WriteFault, Idle, Spent, Memory}
 use Rattle.bridge_run.specs.declared.rounds.Rounds.{Rounds}
@@ -27,7 +28,7 @@ settle-course s next c =
 
 pub take-course : (s : Setting) (e : LinkEvent) (next : Next) (c : Course) → course_of (call s (Takes e next) c) ≡ put s.served e c
 take-course s e next c =
-    course-choice (ends_next e (drops s.served c.events e)) (Goes (Takes ClientEnd next) (put s.served e c)) (settle s next (put s.served e c)) (put s.served e c) refl
+    course-choice (ends_next e (drops s.served c.events e)) (Goes (Takes (SideEnd Client) next) (put s.served e c)) (settle s next (put s.served e c)) (put s.served e c) refl
     (settle-course s next (put s.served e c))
 
 -- ---- going on or ending
@@ -76,21 +77,20 @@ settled (Err (LinkFault side)) stands runs_out p idle k w out from now b next c 
 -- what a taken event comes to where no end of the client is next, and where one is
 pub take-settles : (s : Setting) (e : LinkEvent) (next : Next) (c : Course) (refused : Bool) → refused ≡ drops s.served c.events e → ends_next e refused ≡ false
     → call s (Takes e next) c ≡ settle s next (put s.served e c)
-take-settles s e next c refused is none = ap (λ (b : Bool). cond b (Goes (Takes ClientEnd next) (put s.served e c)) (settle s next (put s.served e c))) (ap (λ (b : Bool). ends_next e b) (sym is) ∙ none)
+take-settles s e next c refused is none = ap (λ (b : Bool). cond b (Goes (Takes (SideEnd Client) next) (put s.served e c)) (settle s next (put s.served e c))) (ap (λ (b : Bool). ends_next e b) (sym is) ∙ none)
 
 pub take-ends : (s : Setting) (e : LinkEvent) (next : Next) (c : Course) (refused : Bool) → refused ≡ drops s.served c.events e → ends_next e refused ≡ true
-    → call s (Takes e next) c ≡ Goes (Takes ClientEnd next) (put s.served e c)
-take-ends s e next c refused is some = ap (λ (b : Bool). cond b (Goes (Takes ClientEnd next) (put s.served e c)) (settle s next (put s.served e c))) (ap (λ (b : Bool). ends_next e b) (sym is) ∙ some)
+    → call s (Takes e next) c ≡ Goes (Takes (SideEnd Client) next) (put s.served e c)
+take-ends s e next c refused is some = ap (λ (b : Bool). cond b (Goes (Takes (SideEnd Client) next) (put s.served e c)) (settle s next (put s.served e c))) (ap (λ (b : Bool). ends_next e b) (sym is) ∙ some)
 
 -- ---- a quiet client
 
 pub quiet-on : (e : LinkEvent) (refused : Bool) → refused ≡ false → ends_next e refused ≡ false
 quiet-on ClientComes refused r = r
-quiet-on (ClientPiece b) refused r = r
 quiet-on ClientQuiet refused r = r
-quiet-on ClientEnd refused r = refl
-quiet-on (HostPiece b) refused r = r
-quiet-on HostEnd refused r = r
+quiet-on (SidePiece side b) refused r = r
+quiet-on (SideEnd Client) refused r = refl
+quiet-on (SideEnd Host) refused r = r
 
 pub on-all : {T E : Type 0} (r : Result T E) (P : Type 0) → P → OnOk r P
 on-all (Ok x) P p = p

@@ -68,20 +68,22 @@ recorded-line {ran_out = ran_out} p c e w out client host sent (Some held) known
     ap (λ (l : List ℕ). l ++ (waiting ++ (event_line e ++ []))) has.0 ∙ ap (λ (l : List ℕ). c.recorded ++ (l ++ (event_line e ++ []))) has.1 ∙ ap (λ (l : List ℕ). c.recorded ++ (c.waiting ++ l)) (append-nil (event_line e)) in
     let comments = flat_map refusal_comment (gained p.refusals c.events e) in
     subst (λ (k : Option (List ℕ)). IfSome k (λ held. HasLines ran_out w out c (put p e c) held)) (sym is)
-    (inr (inr (record {
-      event = e;
-      takes = refl;
-      sent_client = client;
-      sent_host = host;
-      stopped = sent.stopped;
-      some = sent.some;
-      held-is = same;
-      lost = comments;
-      all-is = all-lines p c e due ∙ ap (λ (l : List ℕ). l ++ comments) (sym same);
-      to_client = sent.to_client;
-      to_host = sent.to_host;
-      told = sent.told;
-    })))
+    (inr (
+      sent.told,
+      inr (record {
+        event = e;
+        takes = refl;
+        sent_client = client;
+        sent_host = host;
+        stopped = sent.stopped;
+        some = sent.some;
+        held-is = same;
+        lost = comments;
+        all-is = all-lines p c e due ∙ ap (λ (l : List ℕ). l ++ comments) (sym same);
+        to_client = sent.to_client;
+        to_host = sent.to_host;
+      }),
+    ))
 
 stop-recorded : (ran_out : List LinkEvent → LinkEvent → List ℕ → List ℕ → Type 0) (p : Prescribed) (c : Course) (e : LinkEvent) (client host : List ℕ) (refusals : List Refusal) (w : Outside) (out out' : Written) (waiting : List ℕ) → Sent ran_out c e client host w out' → IsFront client (gained p.to_client c.events e) → IsFront host (gained p.to_host c.events e)
     → (has_any client || has_any host) ≡ true → refusals ≡ [] → waiting ≡ out.waiting → IsTaped out c → out'.tape ≡ append_known out.tape (waiting ++ lines_of e refusals) → IfSome out'.tape (λ held. HasLines ran_out w out' c (put p e c) held)
@@ -97,16 +99,18 @@ recorded-part ran_out p c e w out (Some held) known' waiting due has grows clien
     let comments = flat_map refusal_comment (gained p.refusals c.events e) in
     let parts : c.waiting ++ event_line e ≡ grows.front ++ grows.back = ap (λ (l : List ℕ). l ++ event_line e) (sym has.1) ∙ ap (λ (l : List ℕ). waiting ++ l) (sym (append-nil (event_line e))) ∙ grows.parts in
     subst (λ (k : Option (List ℕ)). IfSome k (λ held. HasLines ran_out w out c (put p e c) held)) (sym grows.grows)
-    (inr (inl (record {
-      more = grows.front;
-      lost = grows.back ++ comments;
-      held-is = ap (λ (l : List ℕ). l ++ grows.front) has.0;
-      all-is = all-lines p c e due ∙ ap (λ (l : List ℕ). (c.recorded ++ l) ++ comments) parts ∙ ap (λ (l : List ℕ). l ++ comments) (sym (append_assoc c.recorded grows.front grows.back))
-          ∙ append_assoc (c.recorded ++ grows.front) grows.back comments;
-      to_client = client;
-      to_host = host;
-      told = told;
-    })))
+    (inr (
+      told,
+      inl (record {
+        more = grows.front;
+        lost = grows.back ++ comments;
+        held-is = ap (λ (l : List ℕ). l ++ grows.front) has.0;
+        all-is = all-lines p c e due ∙ ap (λ (l : List ℕ). (c.recorded ++ l) ++ comments) parts ∙ ap (λ (l : List ℕ). l ++ comments) (sym (append_assoc c.recorded grows.front grows.back))
+            ∙ append_assoc (c.recorded ++ grows.front) grows.back comments;
+        to_client = client;
+        to_host = host;
+      }),
+    ))
 
 pub stop-unrecorded : (ran_out : List LinkEvent → LinkEvent → List ℕ → List ℕ → Type 0) (p : Prescribed) (c : Course) (e : LinkEvent) (client host : List ℕ) (refusals : List Refusal) (w : Outside) (out out' : Written) (waiting : List ℕ) → IsFront client (gained p.to_client c.events e) → IsFront host (gained p.to_host c.events e)
     → (has_any client || has_any host) ≡ true → refusals ≡ [] → waiting ≡ out.waiting → Tells w out c → IsTold out' c.told → GrowsInPart out.tape out'.tape (waiting ++ lines_of e refusals) → IfSome out'.tape (λ held. HasLines ran_out w out' c (put p e c) held)

@@ -4,7 +4,6 @@ use Rattle.std.proofs.Math.Seq.{take-add}
 use Rattle.gate_outside.specs.Link.{Link}
 use Rattle.gate_outside.specs.Doors.{faulted}
 use Rattle.bridge_run.specs.inner.Links.{wrote}
-use Rattle.bridge_run.specs.inner.Logging.{WroteMore}
 use Rattle.bridge_run.proofs.lemmas.events.Links.{wrote-twice}
 use Rattle.bridge_run.proofs.lemmas.calls.Writing.{wrote-call, failed-behind}
 use Rattle.bridge_run.proofs.link.write_link.Goals as goal
@@ -25,9 +24,8 @@ loop-done-preserved g c =
       other = c.in-Ok.ensures.other ∙ c.loop-done.invariant.other;
       door = c.in-Ok.ensures.door ∙ c.loop-done.invariant.door;
       log = λ begun calls called.
-          subst (λ (b : List ℕ). WroteMore g.D.Doors.call_gives c.args.side b calls begun c.write.new.self)
-          (ap (λ (l : List ℕ). take done bytes ++ take n l) (take_rest bytes done) ∙ sym (take-add done n bytes))
-          (wrote-call g.D.Doors.call_gives c.args.side (take done bytes) _ _ calls begun c.loop-done.doors c.write.new.self (c.loop-done.invariant.log begun calls called) c.in-Ok.ensures.gives);
+          wrote-call g.D.Doors.call_gives c.args.side (take done bytes) _ _ _ calls begun c.loop-done.doors c.write.new.self
+          (ap (λ (l : List ℕ). take done bytes ++ take n l) (take_rest bytes done) ∙ sym (take-add done n bytes)) (c.loop-done.invariant.log begun calls called) c.in-Ok.ensures.gives;
     }
 
 pub returns-in-Err-clause-link : goal.returns-in-Err-clause-link

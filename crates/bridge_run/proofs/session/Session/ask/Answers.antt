@@ -1,17 +1,17 @@
 use Rattle.std.proofs.Common.{◌≡◌, ◌-◌, true, ◌∷◌, refl, length, take, sym, ◌∙◌, ap, subst, arith}
 use Rattle.gate_outside.specs.declared.turn.Polled.TheVariants.{Took, NotYet, Ended}
 use Rattle.gate_outside.specs.Link.{Link}
-use Rattle.bridge_run.specs.Events.{LinkEvent}
-use Rattle.bridge_run.specs.Calls.{Goes, piece, end_of, down, quiet}
+use Rattle.bridge_run.specs.Events.{SidePiece, SideEnd}
+use Rattle.bridge_run.specs.Course.{Takes}
+use Rattle.bridge_run.specs.Calls.{Goes, down, quiet}
 use Rattle.bridge_run.specs.Calls.{turned as passed}
 use Rattle.bridge_run.specs.Outside.{outside, gathering, faults}
 use Rattle.bridge_run.specs.inner.Follows.{setting, polls, behind}
 use Rattle.bridge_run.proofs.lemmas.calls.Course.{reaches-none}
 use Rattle.bridge_run.proofs.lemmas.calls.Answers.{passed-follows, took-follows, ended-follows, failed-cut, up-is}
-use Rattle.bridge_run.proofs.lemmas.calls.Asked.{polled-faults, polled-runs, polled-takes}
+use Rattle.bridge_run.proofs.lemmas.calls.Asked.{polled-faults, polled-runs}
 use Rattle.bridge_run.proofs.lemmas.events.Rest.{wears-then, end-wears}
 use Rattle.bridge_run.specs.declared.rounds.Rounds.{Rounds}
-use Rattle.bridge_run.specs.inner.Logging.{IsTaking}
 use Rattle.bridge_run.specs.Asks.{OfSide}
 use Rattle.bridge_run.specs.Log.{Told}
 use Rattle.bridge_run.proofs.lemmas.calls.Rounds.{gone-asking, took-taking, rest-resting, end-taking, poll-failed, came-logs, quiet-logs, down-idle, down-waits}
@@ -25,8 +25,8 @@ returns-in-Took-clause-course g c = λ first begun k f.
     let passed_on = passed-follows side (g.C.Served.stands first c.args.self.now.core) (g.C.Served.sends first) c.args.self.now.rounds (g.D.Doors.link c.args.doors.now) (g.D.Doors.link c.poll.new.self) (g.D.Doors.door c.args.doors.now) (g.D.Doors.door c.poll.new.self) (gathering begun (g.K.Sink.contents c.args.out.now) (g.T.Tape.contents c.args.tape.now) c.args.self.now.waiting) k (length c.poll.new.buf) f len (record { other-is = c.in-Took.ensures.other; door-is = c.in-Took.ensures.door })
     (ap (λ (l : Link). l.up) c.in-Took.ensures.link.1) (ap (λ (l : Link). l.turns) c.in-Took.ensures.link.1) (ap (λ (l : Link). l.written) c.in-Took.ensures.link.1) in
     let d = record (passed side k) { busy = true; left = (passed side k).left - n } in
-    polled-takes c.happen.result (g.C.Served.stands first c.args.self.now.core) (g.C.Served.stands first c.happen.new.self.core) (g.C.Served.runs_out first) (g.C.Served.sends first) side c.args.self.now.rounds c.take.new.self c.happen.new.self.rounds (g.D.Doors.link c.args.doors.now) (g.D.Doors.door c.args.doors.now)
-    (outside (g.D.Doors.link c.happen.new.doors) (g.D.Doors.door c.happen.new.doors)) (gathering begun (g.K.Sink.contents c.args.out.now) (g.T.Tape.contents c.args.tape.now) c.args.self.now.waiting) (gathering begun (g.K.Sink.contents c.happen.new.out) (g.T.Tape.contents c.happen.new.tape) c.happen.new.self.waiting) k d (Took n) c.poll.new.buf _ (piece side (take n c.poll.new.buf)) f (sym c.is_up.ensures ∙ c.if-not-is_up.false) len c.in-Took.ensures.link.0 refl c.piece.ensures (ap (λ (q : Rounds). q.idle) c.take.ensures)
+    polled-runs c.happen.result (g.C.Served.stands first c.args.self.now.core) (g.C.Served.stands first c.happen.new.self.core) (g.C.Served.runs_out first) (g.C.Served.sends first) side c.args.self.now.rounds c.take.new.self c.happen.new.self.rounds (g.D.Doors.link c.args.doors.now) (g.D.Doors.door c.args.doors.now)
+    (outside (g.D.Doors.link c.happen.new.doors) (g.D.Doors.door c.happen.new.doors)) (gathering begun (g.K.Sink.contents c.args.out.now) (g.T.Tape.contents c.args.tape.now) c.args.self.now.waiting) (gathering begun (g.K.Sink.contents c.happen.new.out) (g.T.Tape.contents c.happen.new.tape) c.happen.new.self.waiting) k d (Took n) c.poll.new.buf (Takes (SidePiece side (take n c.poll.new.buf)) (behind side)) f (sym c.is_up.ensures ∙ c.if-not-is_up.false) len c.in-Took.ensures.link.0 refl (ap (λ (q : Rounds). q.idle) c.take.ensures)
     (c.happen.ensures.course first begun (behind side) d (took-follows (g.C.Served.stands first c.args.self.now.core) (g.C.Served.sends first) c.args.self.now.rounds c.take.new.self (outside (g.D.Doors.link c.poll.new.self) (g.D.Doors.door c.poll.new.self)) (gathering begun (g.K.Sink.contents c.args.out.now) (g.T.Tape.contents c.args.tape.now) c.args.self.now.waiting) (passed side k) n passed_on c.take.ensures))
 
 pub returns-in-NotYet-clause-course : goal.returns-in-NotYet-clause-course
@@ -43,8 +43,8 @@ returns-in-Ended-clause-course g c = λ first begun k f.
     let side = c.args.side in
     let len : length c.poll.new.buf ≡ 65536 = omega (arith, c.poll.auto.buf, c.requires.room) in
     let d = record (down side (passed side k)) { busy = true } in
-    polled-takes c.happen-in-Ended.result (g.C.Served.stands first c.args.self.now.core) (g.C.Served.stands first c.happen-in-Ended.new.self.core) (g.C.Served.runs_out first) (g.C.Served.sends first) side c.args.self.now.rounds c.end.new.self c.happen-in-Ended.new.self.rounds (g.D.Doors.link c.args.doors.now) (g.D.Doors.door c.args.doors.now)
-    (outside (g.D.Doors.link c.happen-in-Ended.new.doors) (g.D.Doors.door c.happen-in-Ended.new.doors)) (gathering begun (g.K.Sink.contents c.args.out.now) (g.T.Tape.contents c.args.tape.now) c.args.self.now.waiting) (gathering begun (g.K.Sink.contents c.happen-in-Ended.new.out) (g.T.Tape.contents c.happen-in-Ended.new.tape) c.happen-in-Ended.new.self.waiting) k d Ended c.poll.new.buf _ (end_of side) f (sym c.is_up.ensures ∙ c.if-not-is_up.false) len c.in-Ended.ensures.link.0 refl c.end_of.ensures (down-idle side c.args.self.now.rounds c.end.new.self c.end.ensures)
+    polled-runs c.happen-in-Ended.result (g.C.Served.stands first c.args.self.now.core) (g.C.Served.stands first c.happen-in-Ended.new.self.core) (g.C.Served.runs_out first) (g.C.Served.sends first) side c.args.self.now.rounds c.end.new.self c.happen-in-Ended.new.self.rounds (g.D.Doors.link c.args.doors.now) (g.D.Doors.door c.args.doors.now)
+    (outside (g.D.Doors.link c.happen-in-Ended.new.doors) (g.D.Doors.door c.happen-in-Ended.new.doors)) (gathering begun (g.K.Sink.contents c.args.out.now) (g.T.Tape.contents c.args.tape.now) c.args.self.now.waiting) (gathering begun (g.K.Sink.contents c.happen-in-Ended.new.out) (g.T.Tape.contents c.happen-in-Ended.new.tape) c.happen-in-Ended.new.self.waiting) k d Ended c.poll.new.buf (Takes (SideEnd side) (behind side)) f (sym c.is_up.ensures ∙ c.if-not-is_up.false) len c.in-Ended.ensures.link.0 refl (down-idle side c.args.self.now.rounds c.end.new.self c.end.ensures)
     (c.happen-in-Ended.ensures.course first begun (behind side) d (ended-follows side (g.C.Served.stands first c.args.self.now.core) (g.C.Served.sends first) c.args.self.now.rounds c.end.new.self (g.D.Doors.link c.args.doors.now) (g.D.Doors.link c.poll.new.self) (g.D.Doors.door c.args.doors.now) (g.D.Doors.door c.poll.new.self) (gathering begun (g.K.Sink.contents c.args.out.now) (g.T.Tape.contents c.args.tape.now) c.args.self.now.waiting) k (length c.poll.new.buf) f len (record { other-is = c.in-Ended.ensures.other; door-is = c.in-Ended.ensures.door })
     (ap (λ (l : Link). l.up) c.in-Ended.ensures.link.1) (ap (λ (l : Link). l.turns) c.in-Ended.ensures.link.1) (ap (λ (l : Link). l.written) c.in-Ended.ensures.link.1) c.end.ensures))
 
@@ -87,8 +87,8 @@ returns-in-Took-clause-log g c = λ first terms begun begun_out taped a.
     let k = c.args.self.now.rounds in
     let polled = Took c.in-Took.n in
     let asks = OfSide c.args.side polled ∷ a.asks in
-    let h = c.happen.ensures.log first terms asks begun begun_out taped (subst (λ (e : LinkEvent). IsTaking gives stands tells terms p asks e c.take.new.self begun c.poll.new.self) (sym c.piece.ensures)
-    (took-taking gives stands tells terms p c.args.side c.in-Took.n c.poll.new.buf k c.take.new.self begun c.args.doors.now c.poll.new.self a (sym c.is_up.ensures ∙ c.if-not-is_up.false) c.in-Took.ensures.gives c.take.ensures)) in
+    let h = c.happen.ensures.log first terms asks begun begun_out taped
+    (took-taking gives stands tells terms p c.args.side c.in-Took.n c.poll.new.buf k c.take.new.self begun c.args.doors.now c.poll.new.self a (sym c.is_up.ensures ∙ c.if-not-is_up.false) c.in-Took.ensures.gives c.take.ensures) in
     came-logs c.happen.result gives (g.C.Served.stands first c.happen.new.self.core) (g.C.Served.runs_out first) (Told g.K.Sink.write_gives begun_out c.happen.new.out) terms p c.args.side polled a.asks k c.take.new.self c.happen.new.self.rounds begun c.happen.new.doors h refl a.patient
     (ap (λ (q : Rounds). q.busy) c.take.ensures) (ap (λ (q : Rounds). q.idle) c.take.ensures) (ap (λ (q : Rounds). q.waits) c.take.ensures) c.happen.ensures.wears
 
@@ -110,8 +110,8 @@ returns-in-Ended-clause-log g c = λ first terms begun begun_out taped a.
     let tells = Told g.K.Sink.write_gives begun_out c.args.out.now in
     let k = c.args.self.now.rounds in
     let asks = OfSide c.args.side Ended ∷ a.asks in
-    let h = c.happen-in-Ended.ensures.log first terms asks begun begun_out taped (subst (λ (e : LinkEvent). IsTaking gives stands tells terms p asks e c.end.new.self begun c.poll.new.self) (sym c.end_of.ensures)
-    (end-taking gives stands tells terms p c.args.side c.poll.new.buf k c.end.new.self begun c.args.doors.now c.poll.new.self a (sym c.is_up.ensures ∙ c.if-not-is_up.false) c.in-Ended.ensures.gives c.end.ensures)) in
+    let h = c.happen-in-Ended.ensures.log first terms asks begun begun_out taped
+    (end-taking gives stands tells terms p c.args.side c.poll.new.buf k c.end.new.self begun c.args.doors.now c.poll.new.self a (sym c.is_up.ensures ∙ c.if-not-is_up.false) c.in-Ended.ensures.gives c.end.ensures) in
     came-logs c.happen-in-Ended.result gives (g.C.Served.stands first c.happen-in-Ended.new.self.core) (g.C.Served.runs_out first) (Told g.K.Sink.write_gives begun_out c.happen-in-Ended.new.out) terms p c.args.side Ended a.asks k c.end.new.self c.happen-in-Ended.new.self.rounds begun c.happen-in-Ended.new.doors h refl a.patient
     (ap (λ (q : Rounds). q.busy) c.end.ensures) (down-idle c.args.side k c.end.new.self c.end.ensures) (down-waits c.args.side k c.end.new.self c.end.ensures) c.happen-in-Ended.ensures.wears
 

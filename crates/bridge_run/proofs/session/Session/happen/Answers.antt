@@ -1,6 +1,7 @@
 use Rattle.std.proofs.Common.{Bool, Result, refl, sym, ◌∙◌, subst}
 use Rattle.std.proofs.lemmas.Bool.{false≢true}
-use Rattle.bridge_run.specs.Events.{ClientEnd, event_of}
+use Rattle.usb_base.specs.declared.side.Side.TheVariants.{Client}
+use Rattle.bridge_run.specs.Events.{SideEnd, event_of}
 use Rattle.bridge_run.specs.declared.serve_end.ServeEnd.{ServeEnd}
 use Rattle.bridge_run.specs.Course.{Takes}
 use Rattle.bridge_run.specs.Calls.{Goes, put}
@@ -37,8 +38,8 @@ returns-in_err-put-clause-course g c = λ first begun next k f.
     let first_put = c.in_ok-dropped.ensures.course first begun k f in
     let ends = take-ends s e next k c.in_ok-dropped.dropped first_put.1 (sym c.ends_next.ensures ∙ c.if-not-ends_next.false) in
     err-runs c.from_residual-in_err-put.result end c.from_residual-in_err-put.ensures.1 (g.C.Served.stands first c.put-2.new.self.core) (g.C.Served.runs_out first) s c.put-2.new.self.rounds w out from next
-    (cut-leaves end (g.C.Served.runs_out first) s from w out c.in_err-put.ensures.cut (cut-next s from (Takes ClientEnd next) (put p e k) (put p ClientEnd (put p e k)) w out
-    (reaches-call s from (Takes e next) k (Goes (Takes ClientEnd next) (put p e k)) (reaches-none s from) ends) (take-course s ClientEnd next (put p e k)) (c.in_err-put.ensures.course first begun (put p e k) first_put.0)))
+    (cut-leaves end (g.C.Served.runs_out first) s from w out c.in_err-put.ensures.cut (cut-next s from (Takes (SideEnd Client) next) (put p e k) (put p (SideEnd Client) (put p e k)) w out
+    (reaches-call s from (Takes e next) k (Goes (Takes (SideEnd Client) next) (put p e k)) (reaches-none s from) ends) (take-course s (SideEnd Client) next (put p e k)) (c.in_err-put.ensures.course first begun (put p e k) first_put.0)))
 
 pub returns-then-not-ends_next-clause-course : goal.returns-then-not-ends_next-clause-course
 returns-then-not-ends_next-clause-course g c = λ first begun next k f.
@@ -63,8 +64,8 @@ returns-clause-course g c = λ first begun next k f.
     let first_put = c.in_ok-dropped.ensures.course first begun k f in
     let second_put = c.in_ok-put.ensures.course first begun (put p e k) first_put.0 in
     let ends = take-ends s e next k c.in_ok-dropped.dropped first_put.1 (sym c.ends_next.ensures ∙ c.if-not-ends_next.false) in
-    settled c.settle-2.result (g.C.Served.stands first c.put-2.new.self.core) (g.C.Served.runs_out first) p c.args.self.now.rounds.idle c.put-2.new.self.rounds w out from (Takes ClientEnd next) (put p e k) next (put p ClientEnd (put p e k)) c.settle-2.ensures second_put.0
-    (reaches-call s from (Takes e next) k (Goes (Takes ClientEnd next) (put p e k)) (reaches-none s from) ends) (take-settles s ClientEnd next (put p e k) _ second_put.1 refl)
+    settled c.settle-2.result (g.C.Served.stands first c.put-2.new.self.core) (g.C.Served.runs_out first) p c.args.self.now.rounds.idle c.put-2.new.self.rounds w out from (Takes (SideEnd Client) next) (put p e k) next (put p (SideEnd Client) (put p e k)) c.settle-2.ensures second_put.0
+    (reaches-call s from (Takes e next) k (Goes (Takes (SideEnd Client) next) (put p e k)) (reaches-none s from) ends) (take-settles s (SideEnd Client) next (put p e k) _ second_put.1 refl)
 
 pub returns-then-not-ends_next-clause-quiet : goal.returns-then-not-ends_next-clause-quiet
 returns-then-not-ends_next-clause-quiet g c = on-all c.settle.result _ (λ quiet. (c.in_ok-dropped.ensures.quiet quiet).1)

@@ -127,35 +127,20 @@ returns-in_err-write_link-clause-log g c = λ first terms asks begun begun_out t
     let gives = g.D.Doors.call_gives in
     let tells = Told g.K.Sink.write_gives begun_out c.args.out.now in
     let p = g.C.Served.sends first in
-    let e = event_of c.args.event in
-    let old = c.args.self.now.rounds in
-    let k1 = c.prepare.new.self.rounds in
-    let sent = c.prepare.new.self.sent in
-    let lines = c.prepare.new.self.lines in
-    let stands = g.C.Served.stands first c.args.self.now.core in
-    let prepared = c.in_default.ensures.prepared first t.events t.stands_for in
-    let same = c.prepare.ensures.rounds in
-    put-err _ c.from_residual-in_err-write_link.result gives (g.C.Served.stands first c.prepare.new.self.core) (g.C.Served.runs_out first) tells terms p asks e k1 begun c.write_link.new.doors c.from_residual-in_err-write_link.ensures.1
+    put-err _ c.from_residual-in_err-write_link.result gives (g.C.Served.stands first c.prepare.new.self.core) (g.C.Served.runs_out first) tells terms p asks (event_of c.args.event) c.prepare.new.self.rounds begun c.write_link.new.doors c.from_residual-in_err-write_link.ensures.1
     (λ x is. subst (λ (y : ServeEnd). Logged y gives (g.C.Served.runs_out first) tells terms p begun c.write_link.new.doors) (sym (is ∙ c.in_err-write_link.ensures.fault))
-    (client-part gives stands (g.C.Served.runs_out first) tells terms p asks e old k1 sent lines c.as_slice.result.now begun c.args.doors.now c.write_link.new.doors t prepared same c.as_slice.ensures (c.in_err-write_link.ensures.log begun t.calls t.called)))
+    (client-part t (c.in_default.ensures.prepared first t.events t.stands_for) c.prepare.ensures.rounds c.as_slice.ensures (c.in_err-write_link.ensures.log begun t.calls t.called)))
 
 pub returns-in_err-write_link-2-clause-log : goal.returns-in_err-write_link-2-clause-log
 returns-in_err-write_link-2-clause-log g c = λ first terms asks begun begun_out taped t.
     let gives = g.D.Doors.call_gives in
     let tells = Told g.K.Sink.write_gives begun_out c.args.out.now in
     let p = g.C.Served.sends first in
-    let e = event_of c.args.event in
-    let old = c.args.self.now.rounds in
     let k1 = c.prepare.new.self.rounds in
-    let sent = c.prepare.new.self.sent in
-    let lines = c.prepare.new.self.lines in
-    let stands = g.C.Served.stands first c.args.self.now.core in
-    let prepared = c.in_default.ensures.prepared first t.events t.stands_for in
-    let same = c.prepare.ensures.rounds in
     let w1 = subst (λ (b : List ℕ). WroteMore gives Client (all_if k1.client_up b) t.calls begun c.write_link.new.doors) c.as_slice.ensures (c.in_ok-write_link.ensures.log begun t.calls t.called) in
-    put-err _ c.from_residual-in_err-write_link-2.result gives (g.C.Served.stands first c.prepare.new.self.core) (g.C.Served.runs_out first) tells terms p asks e k1 begun c.write_link-2.new.doors c.from_residual-in_err-write_link-2.ensures.1
+    put-err _ c.from_residual-in_err-write_link-2.result gives (g.C.Served.stands first c.prepare.new.self.core) (g.C.Served.runs_out first) tells terms p asks (event_of c.args.event) k1 begun c.write_link-2.new.doors c.from_residual-in_err-write_link-2.ensures.1
     (λ x is. subst (λ (y : ServeEnd). Logged y gives (g.C.Served.runs_out first) tells terms p begun c.write_link-2.new.doors) (sym (is ∙ c.in_err-write_link-2.ensures.fault))
-    (host-part gives stands (g.C.Served.runs_out first) tells terms p asks e old k1 sent lines c.as_slice-2.result.now begun c.args.doors.now c.write_link.new.doors c.write_link-2.new.doors t prepared same c.as_slice-2.ensures w1 (c.in_err-write_link-2.ensures.log begun w1.behind w1.called)))
+    (host-part t (c.in_default.ensures.prepared first t.events t.stands_for) c.prepare.ensures.rounds c.as_slice-2.ensures w1 (c.in_err-write_link-2.ensures.log begun w1.behind w1.called)))
 
 pub returns-in-Err-write_all-clause-log : goal.returns-in-Err-write_all-clause-log
 returns-in-Err-write_all-clause-log g c = λ first terms asks begun begun_out taped t.

@@ -9,7 +9,7 @@ use Rattle.bridge_run.proofs.lemmas.events.Put.{tape-faults}
 use Rattle.bridge_run.specs.inner.Idling.{RoundIdles}
 use Rattle.bridge_run.proofs.lemmas.calls.Idle.{cut-within, ends-idles, round-idles}
 use Rattle.bridge_run.proofs.lemmas.events.Rest.{faults-then, no-faults, rests, rest-cut, rests-faults, wears-then, fewer-if_ok, goes-ok, goes-on}
-use Rattle.bridge_run.specs.inner.Logging.{RoundBegins, Logs}
+use Rattle.bridge_run.specs.inner.Logging.{Logs}
 use Rattle.bridge_run.specs.Log.{Told, Logged}
 use Rattle.bridge_run.proofs.lemmas.calls.Resting.{rested-logs, rest-fault}
 use Rattle.bridge_run.proofs.session.Session.round.Goals as goal
@@ -77,7 +77,7 @@ returns-in_err-write_waiting-clause-log g c = λ first terms begun begun_out tap
     let k = c.ask-2.new.self.rounds in
     let asked = c.in_ok-ask-2.ensures.log first terms begun begun_out (taped ∙ sym c.ask_door.ensures.made ∙ sym c.ask.ensures.made) (c.in_ok-ask.ensures.log first terms begun begun_out (taped ∙ sym c.ask_door.ensures.made) (c.in_ok-ask_door.ensures.log first terms begun begun_out taped a)) in
     let runs_out = g.C.Served.runs_out first in
-    subst (λ (r : Result (Unit {0}) ServeEnd). Logs r RoundBegins gives stands runs_out tells terms p k begun c.ask-2.new.doors) (sym (is-err c.from_residual-in_err-write_waiting.result c.in_err-write_waiting.field-0.0 c.from_residual-in_err-write_waiting.ensures.1))
+    subst (λ (r : Result (Unit {0}) ServeEnd). Logs r AtDoor gives stands runs_out tells terms p k begun c.ask-2.new.doors) (sym (is-err c.from_residual-in_err-write_waiting.result c.in_err-write_waiting.field-0.0 c.from_residual-in_err-write_waiting.ensures.1))
     (subst (λ (x : ServeEnd). Logged x gives runs_out tells terms p begun c.ask-2.new.doors) (sym c.in_err-write_waiting.ensures.fault) (rest-fault gives stands runs_out tells terms p k begun c.ask-2.new.doors asked c.in_err-write_waiting.ensures.wanted.0 (taped ∙ sym c.ask_door.ensures.made ∙ sym c.ask.ensures.made ∙ sym c.ask-2.ensures.made ∙ c.in_err-write_waiting.ensures.wanted.1)))
 
 pub returns-clause-course : goal.returns-clause-course
@@ -133,17 +133,17 @@ returns-clause-idles g c = round-idles c.rest.result c.args.self.now.rounds c.as
 
 pub returns-in_err-ask_door-clause-log : goal.returns-in_err-ask_door-clause-log
 returns-in_err-ask_door-clause-log g c = λ first terms begun begun_out taped a.
-    subst (λ (r : Result (Unit {0}) ServeEnd). Logs r RoundBegins g.D.Doors.call_gives (g.C.Served.stands first c.ask_door.new.self.core) (g.C.Served.runs_out first) (Told g.K.Sink.write_gives begun_out c.ask_door.new.out) terms (g.C.Served.sends first) c.ask_door.new.self.rounds begun c.ask_door.new.doors) (sym (is-err c.from_residual.result c.in_err-ask_door.field-0.0 c.from_residual.ensures.1))
+    subst (λ (r : Result (Unit {0}) ServeEnd). Logs r AtDoor g.D.Doors.call_gives (g.C.Served.stands first c.ask_door.new.self.core) (g.C.Served.runs_out first) (Told g.K.Sink.write_gives begun_out c.ask_door.new.out) terms (g.C.Served.sends first) c.ask_door.new.self.rounds begun c.ask_door.new.doors) (sym (is-err c.from_residual.result c.in_err-ask_door.field-0.0 c.from_residual.ensures.1))
     (c.in_err-ask_door.ensures.log first terms begun begun_out taped a)
 
 pub returns-in_err-ask-clause-log : goal.returns-in_err-ask-clause-log
 returns-in_err-ask-clause-log g c = λ first terms begun begun_out taped a.
-    subst (λ (r : Result (Unit {0}) ServeEnd). Logs r RoundBegins g.D.Doors.call_gives (g.C.Served.stands first c.ask.new.self.core) (g.C.Served.runs_out first) (Told g.K.Sink.write_gives begun_out c.ask.new.out) terms (g.C.Served.sends first) c.ask.new.self.rounds begun c.ask.new.doors) (sym (is-err c.from_residual-in_err-ask.result c.in_err-ask.field-0.0 c.from_residual-in_err-ask.ensures.1))
+    subst (λ (r : Result (Unit {0}) ServeEnd). Logs r AtDoor g.D.Doors.call_gives (g.C.Served.stands first c.ask.new.self.core) (g.C.Served.runs_out first) (Told g.K.Sink.write_gives begun_out c.ask.new.out) terms (g.C.Served.sends first) c.ask.new.self.rounds begun c.ask.new.doors) (sym (is-err c.from_residual-in_err-ask.result c.in_err-ask.field-0.0 c.from_residual-in_err-ask.ensures.1))
     (c.in_err-ask.ensures.log first terms begun begun_out (taped ∙ sym c.ask_door.ensures.made) (c.in_ok-ask_door.ensures.log first terms begun begun_out taped a))
 
 pub returns-in_err-ask-2-clause-log : goal.returns-in_err-ask-2-clause-log
 returns-in_err-ask-2-clause-log g c = λ first terms begun begun_out taped a.
-    subst (λ (r : Result (Unit {0}) ServeEnd). Logs r RoundBegins g.D.Doors.call_gives (g.C.Served.stands first c.ask-2.new.self.core) (g.C.Served.runs_out first) (Told g.K.Sink.write_gives begun_out c.ask-2.new.out) terms (g.C.Served.sends first) c.ask-2.new.self.rounds begun c.ask-2.new.doors) (sym (is-err c.from_residual-in_err-ask-2.result c.in_err-ask-2.field-0.0 c.from_residual-in_err-ask-2.ensures.1))
+    subst (λ (r : Result (Unit {0}) ServeEnd). Logs r AtDoor g.D.Doors.call_gives (g.C.Served.stands first c.ask-2.new.self.core) (g.C.Served.runs_out first) (Told g.K.Sink.write_gives begun_out c.ask-2.new.out) terms (g.C.Served.sends first) c.ask-2.new.self.rounds begun c.ask-2.new.doors) (sym (is-err c.from_residual-in_err-ask-2.result c.in_err-ask-2.field-0.0 c.from_residual-in_err-ask-2.ensures.1))
     (c.in_err-ask-2.ensures.log first terms begun begun_out (taped ∙ sym c.ask_door.ensures.made ∙ sym c.ask.ensures.made) (c.in_ok-ask.ensures.log first terms begun begun_out (taped ∙ sym c.ask_door.ensures.made) (c.in_ok-ask_door.ensures.log first terms begun begun_out taped a)))
 
 pub returns-clause-log : goal.returns-clause-log
