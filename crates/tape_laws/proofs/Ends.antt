@@ -20,12 +20,13 @@ use Rattle.bridge_run.proofs.lemmas.events.Gather.{ended-waiting}
 use Rattle.usbgate_tapes.specs.declared.status.Status.{Status}
 use Rattle.usbgate_tapes.specs.declared.status.Status.TheVariants.{Done, Usage, Refused, ReadFault, WriteFault, LinkFault, OutOfMemory, BadTape, Idle, Spent}
 use Rattle.usbgate_tapes.specs.Text.{made_text, counts_line}
-use Rattle.usbgate_tapes.specs.tape.TapeCommand.{tape_limit, Reading, last_text}
+use Rattle.usbgate_tapes.specs.declared.tape.lines.TheConstants.{TAPE_LIMIT as tape_limit}
+use Rattle.usbgate_tapes.specs.tape.TapeCommand.{Reading, last_text}
 use Rattle.usbgate_tapes.specs.tape.EventCommand.{over_events}
 use Rattle.usbgate_tapes.specs.Replay.{replay}
 use Rattle.usbgate_commands.specs.Recording.{IsUnmade, IsUnbegun}
 use Rattle.usbgate_commands.specs.Serving.{ServeSettings}
-use Rattle.usbgate_commands.specs.Serves.{setting_of, ended_as, IsUnrecorded, IsRecorded, Serves, ServesBy}
+use Rattle.usbgate_commands.specs.Serves.{setting_of, ended_as, IsUnrecorded, IsRecorded, Serves}
 use Rattle.bridge_run.specs.Recorded.{event_line, lines_of as event_lines}
 use Rattle.tape_laws.specs.Recordings.{recorded, served, all_replayed}
 use Rattle.bridge_run.specs.Log.{IsFront}
@@ -377,9 +378,9 @@ told-line : (known : Option (List ℕ)) (line recorded waiting : List ℕ) → I
 told-line None line recorded waiting h is none = tt
 told-line (Some l) line recorded waiting h is none = (h ∙ sym is, sym none)
 
-pub replays : (status : Status) (asked : ServeSettings) (name : List ℕ) (old new : Outside) (f f' : Faults) (w w' : Written) (c : Course) (held : List ℕ) → asked.recording ≡ Some name → Serves status asked old new f f' w w' → IsFresh asked c
+pub replays : (status : Status) (asked : ServeSettings) (name : List ℕ) (old new : Outside) (f f' : Faults) (w w' : Written) (c : Course) (held : List ℕ) → asked.recording ≡ Some name → Serves asked.recording asked status old new f f' w w' → IsFresh asked c
     → Tells old (written w.begun w.told None) c → w'.tape ≡ Some held → length held ≤ tape_limit → Replays status asked c w.tape new held
-replays status asked name old new f f' w w' c held asks serves fresh tells tape-is room = go (subst (λ (o : Option (List ℕ)). ServesBy o asked status old new f f' w w') asks serves)
+replays status asked name old new f f' w w' c held asks serves fresh tells tape-is room = go (subst (λ (o : Option (List ℕ)). Serves o asked status old new f f' w w') asks serves)
   where
     go : IsUnrecorded asked status old new f f' w w' ⊎ IsRecorded asked status old new f f' w w' → Replays status asked c w.tape new held
     go (inl x) =

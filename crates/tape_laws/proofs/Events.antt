@@ -1,5 +1,5 @@
 -- The lines that are recorded of events are read as these events.
-use Rattle.std.proofs.Common.{◌≡◌, ℕ, ◌+◌, ◌≤◌, Bool, false, cond, not, List, [], ◌∷◌, ◌++◌, length, drop, Option, Some, None, Result, Ok, refl, sym, ap, ◌∙◌, subst, append-nil, arith}
+use Rattle.std.proofs.Common.{◌≡◌, ℕ, ◌+◌, ◌≤◌, Bool, false, cond, not, List, [], ◌∷◌, ◌++◌, length, drop, option_and_then, Option, Some, None, Result, Ok, refl, sym, ap, ◌∙◌, subst, append-nil, arith}
 use Rattle.std.proofs.lemmas.List.{length-append, drop_all}
 use Rattle.std.specs.List.{flat_map}
 use Rattle.std.specs.Prelude.{option_map}
@@ -21,10 +21,11 @@ use Rattle.bridge_run.specs.Events.{LinkEvent, ClientComes, ClientQuiet, SidePie
 use Rattle.bridge_run.specs.Recorded.{lines_of}
 use Rattle.bridge_run.specs.Prescribed.{gained}
 use Rattle.bridge_run.specs.Gate.{gate_events, gate_notes}
-use Rattle.usbgate_tapes.specs.tape.Tape.{host_ended}
+use Rattle.usbgate_tapes.specs.tape.Tape.{event_said, host_ended}
 use Rattle.usbgate_tapes.specs.Text.{sent_text}
-use Rattle.usbgate_tapes.specs.tape.TapeCommand.{TapeCommand, tape_limit, Progress, one_further}
-use Rattle.usbgate_tapes.specs.tape.EventCommand.{EventCommand, on_said, over_events}
+use Rattle.usbgate_tapes.specs.declared.tape.lines.TheConstants.{TAPE_LIMIT as tape_limit}
+use Rattle.usbgate_tapes.specs.tape.TapeCommand.{TapeCommand, Progress, one_further}
+use Rattle.usbgate_tapes.specs.tape.EventCommand.{EventCommand, on_event, over_events}
 use Rattle.usbgate_tapes.specs.Replay.{replay}
 use Rattle.usbgate_tapes.specs.Run.{HasNoLF}
 use Rattle.usbgate_commands.specs.Serving.{ServeSettings}
@@ -71,9 +72,9 @@ host-line : (bytes : List ℕ) → IsPiece bytes → tape_line Replay (104 ∷ 3
 host-line bytes piece = ap (λ (o : Option (List ℕ)). option_map tape.Host o) (digits-back bytes piece)
 
 -- a line tells an event that may happen
-tells : (command : EventCommand) (events : List GateEvent) (text : List ℕ) (said : TapeLine) → tape_line Replay text ≡ Some said → (x : Option (List ℕ × List GateEvent)) → on_said command events (Some said) ≡ x
+tells : (command : EventCommand) (events : List GateEvent) (text : List ℕ) (said : TapeLine) → tape_line Replay text ≡ Some said → (x : Option (List ℕ × List GateEvent)) → on_event command events (event_said said) ≡ x
     → (over_events command).line events text ≡ x
-tells command events text said is x gives = ap (λ (o : Option TapeLine). on_said command events o) is ∙ gives
+tells command events text said is x gives = ap (option_and_then (λ (line : TapeLine). on_event command events (event_said line))) is ∙ gives
 
 abbrev told : EventCommand → List GateEvent → GateEvent → Option (List ℕ × List GateEvent)
 told command events e = Some (command.text events e, e ∷ events)

@@ -1,5 +1,5 @@
 -- What is read of a recording, and of a front of one.
-use Rattle.std.proofs.Common.{◌≡◌, ◌⊎◌, ◌≤◌, ℕ, zero, suc, ◌+◌, ◌-◌, Bool, false, cond, ◌&&◌, ◌==◌, inl, inr, List, [], ◌∷◌, ◌++◌, length, take, slice_index, nat_eq, nat_lt, Option, Some, None, refl, sym, ap, subst, ◌∙◌, append_assoc, append-nil, arith}
+use Rattle.std.proofs.Common.{◌≡◌, ◌⊎◌, ◌≤◌, ℕ, zero, suc, ◌+◌, ◌-◌, Bool, false, cond, ◌&&◌, ◌==◌, inl, inr, List, [], ◌∷◌, ◌++◌, length, take, slice_index, nat_eq, nat_lt, option_and_then, Option, Some, None, refl, sym, ap, subst, ◌∙◌, append_assoc, append-nil, arith}
 use Rattle.std.proofs.lemmas.Bool.{cond_both, eqb-true, false_from_ne_true, le-ltb}
 use Rattle.std.proofs.lemmas.List.{length-append}
 use Rattle.gate_history.specs.step.Events.{Event as GateEvent}
@@ -11,10 +11,11 @@ use Rattle.packet_show.specs.declared.tape.TapeLine.{TapeLine}
 use Rattle.packet_show.specs.declared.tape.TapeLine.TheVariants.{Skip}
 use Rattle.packet_show.specs.Tape.{tape_line}
 use Rattle.bridge_run.specs.Log.{IsFront}
-use Rattle.usbgate_tapes.specs.tape.Tape.{before_first, lines_of, content}
+use Rattle.usbgate_tapes.specs.tape.Tape.{before_first, event_said, lines_of, content}
 use Rattle.usbgate_tapes.specs.Text.{made_text}
-use Rattle.usbgate_tapes.specs.tape.TapeCommand.{tape_limit, Progress, begin, one_further, next_line, Reading, on_line, read_lines, last_text}
-use Rattle.usbgate_tapes.specs.tape.EventCommand.{on_said, over_events}
+use Rattle.usbgate_tapes.specs.declared.tape.lines.TheConstants.{TAPE_LIMIT as tape_limit}
+use Rattle.usbgate_tapes.specs.tape.TapeCommand.{Progress, begin, one_further, next_line, Reading, on_line, read_lines, last_text}
+use Rattle.usbgate_tapes.specs.tape.EventCommand.{on_event, over_events}
 use Rattle.usbgate_tapes.specs.Replay.{replay}
 use Rattle.usbgate_commands.specs.Serving.{ServeSettings}
 use Rattle.usbgate_tapes.specs.Run.{HasNoLF}
@@ -137,7 +138,7 @@ comment-read asked bs one room =
     let within : nat_lt tape_limit (0 + length line) ≡ false = le-ltb tape_limit (0 + length line) (omega (arith, room)) in
     let next : next_line command from line ≡ Some (one_further from line none) =
     ap (λ (t : Bool). cond t None (option_map (one_further from line) (command.line [] (content line)))) within
-    ∙ ap (λ (o : Option TapeLine). option_map (one_further from line) (on_said (replay asked.first_id) [] o)) (comment-skips bs) in
+    ∙ ap (λ (o : Option TapeLine). option_map (one_further from line) (option_and_then (λ (said : TapeLine). on_event (replay asked.first_id) [] (event_said said)) o)) (comment-skips bs) in
     record {
       to = (one_further from line none).1;
       read-is = ap (λ (l : List (List ℕ)). read_lines command from l) one ∙ ap (λ (o : Option (List ℕ × Progress (List GateEvent))). on_line from (λ (q : Progress (List GateEvent)). read_lines command q []) o) next;

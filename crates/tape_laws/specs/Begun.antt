@@ -7,7 +7,7 @@ use Rattle.session_tape.specs.Lines.{first_comment}
 use Rattle.bridge_run.specs.Course.{Course}
 use Rattle.bridge_run.specs.Serves.{NothingYet}
 use Rattle.usbgate_commands.specs.Serving.{ServeSettings}
-use Rattle.usbgate_commands.specs.Serves.{budget}
+use Rattle.usbgate_commands.specs.declared.serve.TheConstants.{BUDGET}
 
 -- what a peer sends are bytes
 abbrev pub SendBytes : List Turn → Type 0
@@ -22,7 +22,7 @@ AllSendBytes (turns ∷ peers) = SendBytes turns × AllSendBytes peers
 
 -- the tape has its first line, and the links have nothing
 pub record IsFresh (asked : ServeSettings) (c : Course) : Type 0 where
-  pub begins : NothingYet asked.idle budget c
+  pub begins : NothingYet asked.idle BUDGET c
   pub recorded-is : c.recorded ≡ first_comment asked.first_id
   pub no_client : c.to_client ≡ []
   pub no_host : c.to_host ≡ []

@@ -6,7 +6,7 @@ ghost use Rattle.bridge_run.specs.Outside.{Outside, Written, Faults, written, Te
 ghost use Rattle.usbgate_tapes.specs.declared.status.Status.{Status as End};
 ghost use Rattle.usbgate_commands.specs.Serving.{ServeSettings};
 ghost use Rattle.usbgate_commands.specs.Serves.{Serves};
-ghost use Rattle.usbgate_tapes.specs.tape.TapeCommand.{tape_limit};
+ghost use Rattle.usbgate_tapes.specs.declared.tape.lines.TheConstants.{TAPE_LIMIT as tape_limit};
 ghost use Rattle.tape_laws.specs.Begun.{IsFresh};
 ghost use Rattle.tape_laws.specs.Plays.{Replays};
 
@@ -16,7 +16,7 @@ ghost use Rattle.tape_laws.specs.Plays.{Replays};
 /// nothing was served the tape is as it was, or has a front of its first line, whose replay prints what one of nothing does.
 pub fn recordings_replay()
     ensures { (status : End) (asked : ServeSettings) (name : List ℕ) (old new : Outside) (faults_old faults_new : Faults) (written_old written_new : Written) (c : Course) (held : List ℕ)
-        → asked.recording ≡ Some name → Serves status asked old new faults_old faults_new written_old written_new
+        → asked.recording ≡ Some name → Serves asked.recording asked status old new faults_old faults_new written_old written_new
         → IsFresh asked c → Tells old (written written_old.begun written_old.told None) c → written_new.tape ≡ Some held → length held ≤ tape_limit
         → Replays status asked c written_old.tape new held }
 {}

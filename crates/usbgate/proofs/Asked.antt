@@ -1,5 +1,5 @@
 -- What a run leaves is of what the words ask for.
-use Rattle.std.proofs.Common.{◌≡◌, ℕ, List, Option, Some, Result, sym, ap, subst, ◌∙◌}
+use Rattle.std.proofs.Common.{◌≡◌, ℕ, true, false, List, Option, Some, IfSome, Result, sym, ap, subst, ◌∙◌}
 use Rattle.std.proofs.lemmas.Option.{same_Some}
 use Rattle.usb_base.specs.declared.side.Side.{Side}
 use Rattle.gate_outside.specs.declared.fault.Failed.{Failed}
@@ -16,6 +16,12 @@ use Rattle.usbgate_commands.specs.Lending.{AskedLent}
 use Rattle.usbgate_commands.specs.Logs.{RunServes, RunLends}
 use Rattle.usbgate_commands.specs.Serving.{ServeSettings}
 use Rattle.usbgate.specs.Prescribed.{prescribed}
+
+-- a command that reads a tape isn't one of those that don't
+pub reads-tape : {A : Type 0} (x y : Command) (p : Prescribed) → x ≡ y → prescribed x ≡ Some p → p.taped ≡ true → IfSome (prescribed y) (λ q. q.taped ≡ false) → A
+reads-tape x y p same of taped untaped =
+    let not_taped : p.taped ≡ false = subst (λ (o : Option Prescribed). IfSome o (λ q. q.taped ≡ false)) (sym (ap prescribed same) ∙ of) untaped in
+    let e : true ≡ false = sym taped ∙ not_taped in cc
 
 pub leaves-asked : {S K : Type 0} {read_gives : S → List ℕ → Result ℕ Failed → S → Type 0} {write_gives : K → List ℕ → Result ℕ Failed → K → Type 0} {remaining : S → Option (List ℕ)} {contents : K → Option (List ℕ)} {status : Status} {tape tape' : S} {out out' : K} (x y : Command) (p q : Prescribed) → x ≡ y → prescribed x ≡ Some p → prescribed y ≡ Some q
     → RunLeaves read_gives write_gives remaining contents status p tape tape' out out' → RunLeaves read_gives write_gives remaining contents status q tape tape' out out'

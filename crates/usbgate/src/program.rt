@@ -1,6 +1,6 @@
 //! A run of the program, over a tape, a sink and doors.
 
-ghost use Rattle.std.specs.Prelude.{◌≡◌, ◌≢◌, ◌⊎◌, ℕ, true, false, Some};
+ghost use Rattle.std.specs.Prelude.{◌≡◌, ◌≢◌, ◌⊎◌, ℕ, true, false, Some, IfSome};
 ghost use Rattle.gate_outside.specs.Faults.{Rose};
 ghost use Rattle.usb_base.specs.declared.side.Side.{Side as ASide};
 ghost use Rattle.usb_base.specs.declared.side.Side.TheVariants.{Client, Host};
@@ -8,7 +8,6 @@ ghost use Rattle.session_tape.specs.Tapes.{WasThere};
 ghost use Rattle.bridge_run.specs.Log.{Told};
 ghost use Rattle.bridge_run.specs.Outside.{written, faults, OneRose};
 ghost use Rattle.usbgate_tapes.specs.declared.model.device.Device.{Device as ADevice};
-ghost use Rattle.usbgate_tapes.specs.Run.{OpensNoLink, IsOfNoCommand, IsOfNoTape};
 ghost use Rattle.usbgate_tapes.specs.Logs.{RunLeaves};
 ghost use Rattle.usbgate_tapes.specs.Prescribed.{Prescribed};
 ghost use Rattle.usbgate.specs.Prescribed.{prescribed};
@@ -26,7 +25,7 @@ use usbgate_commands::Command;
 use usbgate_commands::host::host;
 use usbgate_commands::serve::serve;
 use usbgate_tapes::runs::{model, replay, show};
-use usbgate_tapes::{Status, load, make, print_usage};
+use usbgate_tapes::{Status, USAGE, load, make, print};
 
 /// Does what the words say: `replay` puts the tape to a gate, and prints what that sends and which sides it refuses;
 /// `model` does the steps of the tape with a gateway and a modelled device, and prints what each tells; `show` prints the
@@ -55,12 +54,7 @@ pub fn run<S: Source, K: Sink, D: Doors, T: MakeTape>(
         → RunLends D.call_gives D.link D.door (Told K.write_gives out.old out.new) result asked doors.old doors.new
         (K.faults out.old) (K.faults out.new) (K.contents out.old) (K.contents out.new) }
     ensures usage { result ≡ Status.Usage → (command_of (texts words.now) ≡ Command.Unknown) ⊎ ((records (command_of (texts words.now)) ≡ true) × WasThere (T.counts recording.old) (T.counts recording.new)) }
-    ensures no_command { command_of (texts words.now) ≡ Command.Unknown → IsOfNoCommand result }
-    ensures made { (count : ℕ) → command_of (texts words.now) ≡ Command.Make count → IsOfNoTape result × (tape.new ≡ tape.old) }
-    ensures loaded { (count : ℕ) → command_of (texts words.now) ≡ Command.Load count → IsOfNoTape result × (tape.new ≡ tape.old) }
-    ensures untouched { command_of (texts words.now) ≡ Command.Unknown → tape.new ≡ tape.old }
-    ensures unread { (asked : ServeSettings) → command_of (texts words.now) ≡ Command.Serve asked → tape.new ≡ tape.old }
-    ensures unread_lent { (asked : AskedLent) → command_of (texts words.now) ≡ Command.Host asked → tape.new ≡ tape.old }
+    ensures unread { IfSome (prescribed (command_of (texts words.now))) (λ p. p.taped ≡ false) → tape.new ≡ tape.old }
     ensures read_fault { result ≡ Status.ReadFault → Rose (S.faults tape.old) (S.faults tape.new) }
     ensures write_fault { result ≡ Status.WriteFault → OneRose (faults (K.faults out.old) (T.counts recording.old)) (faults (K.faults out.new) (T.counts recording.new)) }
     ensures sink_fault { records (command_of (texts words.now)) ≡ false → result ≡ Status.WriteFault → Rose (K.faults out.old) (K.faults out.new) }
@@ -69,7 +63,6 @@ pub fn run<S: Source, K: Sink, D: Doors, T: MakeTape>(
     ensures recording_stands { result ≢ Status.WriteFault → result ≢ Status.Usage → T.counts recording.new ≡ T.counts recording.old }
     ensures link_fault { (side : ASide) → result ≡ Status.LinkFault side → Rose (D.link doors.old side).faults (D.link doors.new side).faults }
     ensures links_stand { (side : ASide) → result ≢ Status.LinkFault side → (D.link doors.new side).faults ≡ (D.link doors.old side).faults }
-    ensures no_links { (p : Prescribed) → prescribed (command_of (texts words.now)) ≡ Some p → OpensNoLink result }
     ensures doors { (p : Prescribed) → prescribed (command_of (texts words.now)) ≡ Some p → doors.new ≡ doors.old }
     ensures unrecorded { records (command_of (texts words.now)) ≡ false → recording.new ≡ recording.old }
 {
@@ -84,6 +77,6 @@ pub fn run<S: Source, K: Sink, D: Doors, T: MakeTape>(
         Command::Host(lending) => host(alloc, &lending, doors, out),
         Command::Make { count } => make(alloc, count, out),
         Command::Load { count } => load(alloc, count, out),
-        Command::Unknown => print_usage(out),
+        Command::Unknown => print(USAGE, Status::Usage, out),
     }
 }

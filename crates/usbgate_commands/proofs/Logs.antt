@@ -35,7 +35,7 @@ unlogged gives runs_out writes terms p now out = record {
 pub run-unserved : {D K : Type 0} → (gives : D → Call → D → Type 0) (link : D → Side → Link) (door : D → Door) (writes : K → List ℕ → Result ℕ Failed → K → Type 0) (asked : ServeSettings) (now : D) (out : K) (f : Faults) (w : Written) → RunServes gives link door (Told writes out out) OutOfMemory asked now now f f w w
 run-unserved gives link door writes asked now out f w = record {
   by_log = inr (unlogged gives (gate_runs_out asked.first_id) writes (terms_of asked) (gate_sends asked.after_loss asked.first_id) now out);
-  where_told = unserved asked (outside (link now) (door now)) f w;
+  where_told = unserved asked.recording asked (outside (link now) (door now)) f w;
 }
 
 pub run-unlent : {D K : Type 0} → (gives : D → Call → D → Type 0) (link : D → Side → Link) (door : D → Door) (writes : K → List ℕ → Result ℕ Failed → K → Type 0) (asked : AskedLent) (now : D) (out : K) (count : ℕ) (contents : Option (List ℕ)) → RunLends gives link door (Told writes out out) OutOfMemory asked now now count count contents contents

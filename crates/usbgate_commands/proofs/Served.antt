@@ -20,7 +20,7 @@ use Rattle.usbgate_tapes.specs.declared.status.Status.TheVariants.{Done, Usage, 
 use Rattle.usbgate_commands.specs.Serving.{ServeSettings}
 use Rattle.usbgate_commands.specs.Lending.{AskedLent}
 use Rattle.usbgate_commands.specs.Recording.{IsUnmade, HasServed}
-use Rattle.usbgate_commands.specs.Serves.{Serves, ServesBy, EndsOf, HasNoTape, IsUnrecorded, IsRecorded, device_runs_out, setting_of, setting_lent, ended_as}
+use Rattle.usbgate_commands.specs.Serves.{Serves, EndsOf, HasNoTape, IsUnrecorded, IsRecorded, device_runs_out, setting_of, setting_lent, ended_as}
 
 -- nothing was written of what was to be put behind it
 unwritten : (known : Option (List ℕ)) (least more : List ℕ) → known ≡ Some least → IsBetween least known (least ++ more)
@@ -69,13 +69,10 @@ unserved-so s w f begun out = record {
   leaves = λ c begins tells. unmade s c w begun out tells;
 }
 
-unserved-by : (recording : Option (List ℕ)) (asked : ServeSettings) (w : Outside) (f : Faults) (out : Written) → ServesBy recording asked OutOfMemory w w f f out out
-unserved-by None asked w f out = record { tape-is = refl; counts-are = refl; ends = unserved-so (setting_of asked) w (faults f.sink (counts 0 0)) out.begun out.told }
-unserved-by (Some name) asked w f out = inl (record { outside-is = refl; sink = refl; told = refl; cause = refl; tape = inl refl })
-
 -- memory ran out before
-pub unserved : (asked : ServeSettings) (w : Outside) (f : Faults) (out : Written) → Serves OutOfMemory asked w w f f out out
-unserved asked w f out = unserved-by asked.recording asked w f out
+pub unserved : (recording : Option (List ℕ)) (asked : ServeSettings) (w : Outside) (f : Faults) (out : Written) → Serves recording asked OutOfMemory w w f f out out
+unserved None asked w f out = record { tape-is = refl; counts-are = refl; ends = unserved-so (setting_of asked) w (faults f.sink (counts 0 0)) out.begun out.told }
+unserved (Some name) asked w f out = inl (record { outside-is = refl; sink = refl; told = refl; cause = refl; tape = inl refl })
 
 -- nobody is asked for at the door yet
 no-guest : {ran_out : List LinkEvent → LinkEvent → List ℕ → List ℕ → Type 0} → (clients : List (List Turn)) (c : Course) (w : Outside) (begun out : Option (List ℕ)) → Tells w (written begun out None) c → Cut ran_out w (written begun out None) c (course_of (come clients c))
@@ -243,7 +240,7 @@ never-usage (end.LinkFault side) is = cc
 
 -- ---- what serving leaves
 
-pub serves-none : (recording : Option (List ℕ)) (asked : ServeSettings) (status : Status) (old new : Outside) (f f' : Faults) (w w' : Written) → recording ≡ None → HasNoTape asked status old new f f' w w' → ServesBy recording asked status old new f f' w w'
+pub serves-none : (recording : Option (List ℕ)) (asked : ServeSettings) (status : Status) (old new : Outside) (f f' : Faults) (w w' : Written) → recording ≡ None → HasNoTape asked status old new f f' w w' → Serves recording asked status old new f f' w w'
 serves-none None asked status old new f f' w w' is h = h
 serves-none (Some name) asked status old new f f' w w' is h = absurd (some-none is)
   where
@@ -251,7 +248,7 @@ serves-none (Some name) asked status old new f f' w w' is h = absurd (some-none 
     some-none e = cc
 
 pub serves-some : (recording : Option (List ℕ)) (name : List ℕ) (asked : ServeSettings) (status : Status) (old new : Outside) (f f' : Faults) (w w' : Written) → recording ≡ Some name
-    → IsUnrecorded asked status old new f f' w w' ⊎ IsRecorded asked status old new f f' w w' → ServesBy recording asked status old new f f' w w'
+    → IsUnrecorded asked status old new f f' w w' ⊎ IsRecorded asked status old new f f' w w' → Serves recording asked status old new f f' w w'
 serves-some None name asked status old new f f' w w' is h = absurd (none-some is)
   where
     none-some : None ≡ Some name → ⊥

@@ -14,8 +14,9 @@ use Rattle.bridge_run.specs.Log.{Terms, Logged}
 use Rattle.bridge_run.specs.Outside.{Faults, Written, faults, outside, written}
 use Rattle.bridge_run.specs.Prescribed.{Prescribed as Sends}
 use Rattle.usbgate_tapes.specs.declared.status.Status.{Status}
+use Rattle.usbgate_commands.specs.declared.serve.TheConstants.{BUDGET}
 use Rattle.usbgate_commands.specs.Lending.{AskedLent}
-use Rattle.usbgate_commands.specs.Serves.{budget, device_sends, device_runs_out, ended_as, setting_lent, EndsOf, Serves}
+use Rattle.usbgate_commands.specs.Serves.{device_sends, device_runs_out, ended_as, setting_lent, EndsOf, Serves}
 use Rattle.usbgate_commands.specs.Serving.{ServeSettings}
 
 pub record HasLog {D : Type 0} (gives : D → Call → D → Type 0) (runs_out : List LinkEvent → LinkEvent → List ℕ → List ℕ → Type 0) (tells : List ℕ → Type 0) (terms : Terms) (p : Sends) (status : Status) (old new : D) : Type 0 where
@@ -24,10 +25,10 @@ pub record HasLog {D : Type 0} (gives : D → Call → D → Type 0) (runs_out :
   pub log : Logged end gives runs_out tells terms p old new
 
 abbrev pub terms_of : ServeSettings → Terms
-terms_of asked = record { host = Some asked.host; door = asked.listen; taped = is_some asked.recording; idle = asked.idle; budget = budget }
+terms_of asked = record { host = Some asked.host; door = asked.listen; taped = is_some asked.recording; idle = asked.idle; budget = BUDGET }
 
 abbrev pub terms_lent : AskedLent → Terms
-terms_lent asked = record { host = None; door = asked.listen; taped = false; idle = asked.idle; budget = budget }
+terms_lent asked = record { host = None; door = asked.listen; taped = false; idle = asked.idle; budget = BUDGET }
 
 -- a file to record in was asked for, and wasn't begun: nothing was asked of the doors, and nothing was told
 pub record IsUnasked {D : Type 0} (tells : List ℕ → Type 0) (asked : ServeSettings) (old new : D) : Type 0 where
@@ -39,7 +40,7 @@ pub record IsUnasked {D : Type 0} (tells : List ℕ → Type 0) (asked : ServeSe
 -- and of idle answers and those of the recording, and where all of these tell their bytes.
 pub record RunServes {D : Type 0} (gives : D → Call → D → Type 0) (link : D → Side → Link) (door : D → Door) (tells : List ℕ → Type 0) (status : Status) (asked : ServeSettings) (old new : D) (faults_old faults_new : Faults) (written_old written_new : Written) : Type 0 where
   pub by_log : IsUnasked tells asked old new ⊎ HasLog gives (gate_runs_out asked.first_id) tells (terms_of asked) (gate_sends asked.after_loss asked.first_id) status old new
-  pub where_told : Serves status asked (outside (link old) (door old)) (outside (link new) (door new)) faults_old faults_new written_old written_new
+  pub where_told : Serves asked.recording asked status (outside (link old) (door old)) (outside (link new) (door new)) faults_old faults_new written_old written_new
 
 -- the same of a run of `host`, which has no recording, and asks for the guest first
 pub record RunLends {D : Type 0} (gives : D → Call → D → Type 0) (link : D → Side → Link) (door : D → Door) (tells : List ℕ → Type 0) (status : Status) (asked : AskedLent) (old new : D) (faults_old faults_new : ℕ) (contents_old contents_new : Option (List ℕ)) : Type 0 where

@@ -18,13 +18,10 @@ use Rattle.usbgate_tapes.specs.declared.model.device.Device.{Device}
 use Rattle.usbgate_tapes.specs.model.Device.{as_plugged}
 use Rattle.usbgate_tapes.specs.declared.status.Status.{Status}
 use Rattle.usbgate_tapes.specs.declared.status.Status.TheVariants.{Done, Refused, WriteFault, LinkFault, OutOfMemory, Idle, Spent}
+use Rattle.usbgate_commands.specs.declared.serve.TheConstants.{BUDGET}
 use Rattle.usbgate_commands.specs.Serving.{ServeSettings}
 use Rattle.usbgate_commands.specs.Lending.{AskedLent}
 use Rattle.usbgate_commands.specs.Recording.{IsUnmade, IsUnbegun}
-
--- so many bytes and clients may come: 2 ^ 62
-abbrev pub budget : ℕ
-budget = 4611686018427387904
 
 -- the gateway between sockets
 abbrev pub setting_of : ServeSettings → Setting
@@ -57,7 +54,7 @@ pub record EndsOf (runs_out : List LinkEvent → LinkEvent → List ℕ → List
   pub status-is : status ≡ ended_as end
   pub cause : HasCause end old new faults_old faults_new
   pub reason : HasReason end setting.idle old new
-  pub leaves : (c : Course) → NothingYet setting.idle budget c → Tells old written_old c → Leaves end runs_out setting (Goes first c) new written_new
+  pub leaves : (c : Course) → NothingYet setting.idle BUDGET c → Tells old written_old c → Leaves end runs_out setting (Goes first c) new written_new
 
 -- ---- serving, where the host is dialled first
 
@@ -81,10 +78,8 @@ pub record HasNoTape (asked : ServeSettings) (status : Status) (old new : Outsid
   pub counts-are : faults_new.tape ≡ faults_old.tape
   pub ends : EndsOf (gate_runs_out asked.first_id) (setting_of asked) Making status old new (faults faults_old.sink (counts 0 0)) (faults faults_new.sink (counts 0 0)) (written written_old.begun written_old.told None) (written written_new.begun written_new.told None)
 
-abbrev pub ServesBy : Option (List ℕ) → ServeSettings → Status → (old new : Outside) → (faults_old faults_new : Faults) → (written_old written_new : Written) → Type 0
-ServesBy None asked status old new faults_old faults_new written_old written_new = HasNoTape asked status old new faults_old faults_new written_old written_new
-ServesBy (Some name) asked status old new faults_old faults_new written_old written_new =
+-- by the recording that is asked for, if there is one
+abbrev pub Serves : Option (List ℕ) → ServeSettings → Status → (old new : Outside) → (faults_old faults_new : Faults) → (written_old written_new : Written) → Type 0
+Serves None asked status old new faults_old faults_new written_old written_new = HasNoTape asked status old new faults_old faults_new written_old written_new
+Serves (Some name) asked status old new faults_old faults_new written_old written_new =
     IsUnrecorded asked status old new faults_old faults_new written_old written_new ⊎ IsRecorded asked status old new faults_old faults_new written_old written_new
-
-abbrev pub Serves : Status → ServeSettings → (old new : Outside) → (faults_old faults_new : Faults) → (written_old written_new : Written) → Type 0
-Serves status asked old new faults_old faults_new written_old written_new = ServesBy asked.recording asked status old new faults_old faults_new written_old written_new

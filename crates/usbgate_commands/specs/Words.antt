@@ -3,7 +3,7 @@ use Rattle.std.specs.Prelude.{ℕ, nat_le, ◌≤◌, ◌<◌, ◌^◌, not, Boo
 use Rattle.std.specs.Borrow.{Bor}
 use Rattle.std.specs.List.{list_all}
 use Rattle.std.specs.Str.{bytes_eq}
-use Rattle.clap.specs.Words.{Row as Found, Text, first_of}
+use Rattle.clap.specs.Words.{Text, first_of}
 use Rattle.packet_show.specs.Number.{number_of}
 use Rattle.usb_base.specs.declared.side.Side.{Side}
 use Rattle.usb_base.specs.declared.side.Side.TheVariants.{Client, Host}
@@ -17,7 +17,7 @@ use Rattle.usbgate_commands.specs.declared.command_table.CommandRow.{CommandRow}
 use Rattle.usbgate_commands.specs.declared.command_table.TheConstants.{ROWS}
 use Rattle.usbgate_commands.specs.CommandLine.{options, found}
 use Rattle.usbgate_tapes.specs.declared.model.device.Device.{Device}
-use Rattle.usbgate_tapes.specs.model.Device.{device_of}
+use Rattle.usbgate_tapes.specs.model.Device.{named, device_of}
 use Rattle.bridge_run.specs.declared.after_loss.AfterLoss.{AfterLoss}
 use Rattle.bridge_run.specs.declared.after_loss.AfterLoss.TheVariants.{Keep, Close}
 use Rattle.usbgate_commands.specs.Serving.{ServeSettings}
@@ -33,10 +33,6 @@ abbrev pub admits : Need → Bool → Bool
 admits Must given = given
 admits May given = true
 admits MustNot given = not given
-
--- the value that the words give an argument
-abbrev pub given_by : List Found → Text → Option Text
-given_by rows name = first_of name rows
 
 -- what a row says of the number, and of each option in the order of `options`
 abbrev pub needs_of : CommandRow → List Need
@@ -61,16 +57,14 @@ row_named name = find (λ row. bytes_eq (name_of row.verb) name) ROWS
 
 -- without it the first id is 1
 abbrev pub first_id_of : Option Text → Option ℕ
-first_id_of None = Some 1
-first_id_of (Some text) = number_of text
+first_id_of text = unwrap_or (option_map number_of text) (Some 1)
 
 -- without it the client is kept
 abbrev pub after_loss_of : Option Text → Option AfterLoss
-after_loss_of None = Some Keep
-after_loss_of (Some text) = if bytes_eq text (codes "keep") then Some Keep else if bytes_eq text (codes "close") then Some Close else None
+after_loss_of text = named ((codes "keep", Keep) ∷ (codes "close", Close) ∷ []) (unwrap_or text (codes "keep"))
 
 abbrev pub side_of : Text → Option Side
-side_of text = if bytes_eq text (codes "client") then Some Client else if bytes_eq text (codes "host") then Some Host else None
+side_of text = named ((codes "client", Client) ∷ (codes "host", Host) ∷ []) text
 
 abbrev pub serving_of : (host listen : Option Text) → (idle first_id : Option ℕ) → Option AfterLoss → (recording : Option Text) → Option ServeSettings
 serving_of (Some host) (Some listen) (Some idle) (Some first_id) (Some after_loss) recording =
@@ -97,11 +91,8 @@ asked_by verb.Load given = option_map Load (count_of (given (codes "number")))
 abbrev pub command_in : (Text → Option Text) → Option Command
 command_in given = option_and_then (λ row. if is_met row given then asked_by row.verb given else None) (option_and_then row_named (given (codes "command")))
 
-abbrev pub command_by : Option (List Found) → Command
-command_by rows = unwrap_or (option_and_then (λ it. command_in (given_by it)) rows) Unknown
-
 abbrev pub command_of : List Text → Command
-command_of words = command_by (found words)
+command_of words = unwrap_or (option_and_then (λ rows. command_in (λ name. first_of name rows)) (found words)) Unknown
 
 -- its numbers are from 1 to 4294967295, and those of made tapes at most 1,000
 abbrev pub HasNumbers : Command → Type 0

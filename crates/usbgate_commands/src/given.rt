@@ -1,7 +1,6 @@
 //! What the words give.
 
-ghost use Rattle.clap.specs.Words.{rows_of, found_of};
-ghost use Rattle.usbgate_commands.specs.Words.{given_by};
+ghost use Rattle.clap.specs.Words.{rows_of, found_of, first_of};
 ghost use Rattle.usbgate_commands.specs.inner.Given.{IsGiven};
 
 use clap::ArgMatches;
@@ -24,7 +23,7 @@ pub struct Given<'a> {
 impl<'a> Given<'a> {
     /// The values that were found.
     pub fn of(matches: &ArgMatches<'a>) -> Given<'a>
-        ensures { IsGiven result (given_by (rows_of (found_of matches.now))) }
+        ensures { IsGiven result (λ name. first_of name (rows_of (found_of matches.now))) }
     {
         Given {
             command: matches.get_str("command"),

@@ -20,7 +20,7 @@ use session_tape::{MakeTape, NoTape, Tape, Unmade, first_comment, record};
 use std::alloc::Global;
 use usbgate_tapes::Status;
 
-/// How many bytes and clients may come.
+/// How many bytes and clients may come: 2 ^ 62.
 pub const BUDGET: u64 = 4_611_686_018_427_387_904;
 
 /// Serves the device of a host to clients, one after another, and writes a line for each refusal. Where that is asked a

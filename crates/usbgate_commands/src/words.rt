@@ -70,33 +70,32 @@ fn known<'a>(given: &Given<'a>) -> Option<Command<'a>>
     if !row.is_met(given) {
         return None;
     }
-    match row.verb {
-        Verb::Replay => replay(given),
-        Verb::Model => model(given),
+    asked(row.verb, given)
+}
+
+/// What this command asks for by its values: `replay [--first-id N]`, `model --device NAME`, `make N`, `load N`, and
+/// those below.
+fn asked<'a>(verb: Verb, given: &Given<'a>) -> Option<Command<'a>>
+    ensures value { (words : List ℕ → Option (List ℕ)) → IsGiven given.now words → result ≡ asked_by verb words }
+    ensures numbers { IfSome result HasNumbers }
+{
+    match verb {
+        Verb::Replay => Some(Command::Replay {
+            first_id: first_id(given)?,
+        }),
+        Verb::Model => Some(Command::Model {
+            device: Device::named(given.device?)?,
+        }),
         Verb::Show => show(given),
         Verb::Serve => serve(given),
         Verb::Host => host(given),
-        Verb::Make => make(given),
-        Verb::Load => load(given),
+        Verb::Make => Some(Command::Make {
+            count: count(given)?,
+        }),
+        Verb::Load => Some(Command::Load {
+            count: count(given)?,
+        }),
     }
-}
-
-/// `replay [--first-id N]`
-fn replay<'a>(given: &Given<'a>) -> Option<Command<'a>>
-    ensures value { (words : List ℕ → Option (List ℕ)) → IsGiven given.now words → result ≡ asked_by verb.Replay words }
-    ensures numbers { IfSome result HasNumbers }
-{
-    let first_id = first_id(given)?;
-    Some(Command::Replay { first_id })
-}
-
-/// `model --device NAME`
-fn model<'a>(given: &Given<'a>) -> Option<Command<'a>>
-    ensures value { (words : List ℕ → Option (List ℕ)) → IsGiven given.now words → result ≡ asked_by verb.Model words }
-    ensures numbers { IfSome result HasNumbers }
-{
-    let device = Device::named(given.device?)?;
-    Some(Command::Model { device })
 }
 
 /// `show --side client` or `show --side host`.
@@ -139,24 +138,6 @@ fn host<'a>(given: &Given<'a>) -> Option<Command<'a>>
         idle: read_number(given.idle?.as_bytes())?,
     };
     Some(Command::Host(lending))
-}
-
-/// `make N`
-fn make<'a>(given: &Given<'a>) -> Option<Command<'a>>
-    ensures value { (words : List ℕ → Option (List ℕ)) → IsGiven given.now words → result ≡ asked_by verb.Make words }
-    ensures numbers { IfSome result HasNumbers }
-{
-    let count = count(given)?;
-    Some(Command::Make { count })
-}
-
-/// `load N`
-fn load<'a>(given: &Given<'a>) -> Option<Command<'a>>
-    ensures value { (words : List ℕ → Option (List ℕ)) → IsGiven given.now words → result ≡ asked_by verb.Load words }
-    ensures numbers { IfSome result HasNumbers }
-{
-    let count = count(given)?;
-    Some(Command::Load { count })
 }
 
 /// The number of a made tape.

@@ -17,14 +17,14 @@ pub record LeavesByLog {S K : Type 0} (read_gives : S → List ℕ → Result �
   pub read : Moved read_gives reads tape_old tape_new
   pub written : List ℕ
   pub writes : Moves write_gives written out_old out_new
-  pub leaves : (later : List ℕ) → MayFollow reads later → LeavesTold status p (moved reads ++ later) [] (Some later) (Some written)
+  pub leaves : (later : List ℕ) → MayFollow reads later → LeavesTold status p (moved reads ++ later) (Some later) written
   pub wants : status ≡ OutOfMemory → RunsOut p reads written
 
 -- the same of a run that reads no tape: memory ran out only before anything was written
 pub record WritesByLog {K : Type 0} (write_gives : K → List ℕ → Result ℕ Failed → K → Type 0) (status : Status) (p : Prescribed) (out_old out_new : K) : Type 0 where
   pub written : List ℕ
   pub writes : Moves write_gives written out_old out_new
-  pub leaves : (tape : List ℕ) → LeavesTold status p tape [] (Some tape) (Some written)
+  pub leaves : (tape : List ℕ) → LeavesTold status p tape (Some tape) written
   pub wants : status ≡ OutOfMemory → written ≡ []
 
 -- what a run leaves: by its log, over any tape and any sink, and where these tell their bytes

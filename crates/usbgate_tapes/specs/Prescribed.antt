@@ -1,11 +1,13 @@
 -- What a command is to print that goes over a tape or over nothing, and how it is to end, where it meets no fault and has memory.
-use Rattle.std.specs.Prelude.{Bool, false, List, [], ℕ, Option, None}
+use Rattle.std.specs.Prelude.{Bool, true, false, List, [], ◌∷◌, ◌++◌, ℕ, codes, Option, None}
 use Rattle.usbgate_tapes.specs.declared.status.Status.{Status}
 use Rattle.usbgate_tapes.specs.declared.status.Status.TheVariants.{Done, Usage}
-use Rattle.usbgate_tapes.specs.Text.{usage_line}
+use Rattle.packet_show.specs.Line.{LF}
 use Rattle.usbgate_tapes.specs.tape.TapeCommand.{TapeCommand, tape_text, tape_status, front_text}
 
 pub record Prescribed : Type 0 where
+  -- whether a tape is read
+  pub taped : Bool
   -- the whole text of a tape
   pub text : List ℕ → List ℕ
   pub status : List ℕ → Status
@@ -17,14 +19,14 @@ pub record Prescribed : Type 0 where
   pub says : List ℕ → Bool
 
 abbrev pub over_tape : {S : Type 0} → TapeCommand S → Prescribed
-over_tape command = record { text = λ tape. tape_text command tape; status = λ tape. tape_status command tape; front = λ whole. front_text command whole; rest = λ tape. []; says = command.says }
+over_tape command = record { taped = true; text = λ tape. tape_text command tape; status = λ tape. tape_status command tape; front = λ whole. front_text command whole; rest = λ tape. []; says = command.says }
 
 -- a text for which no tape is read
 abbrev pub untaped : Status → List ℕ → Prescribed
-untaped status text = record { text = λ tape. text; status = λ tape. status; front = λ whole. None; rest = λ tape. tape; says = λ line. false }
+untaped status text = record { taped = false; text = λ tape. text; status = λ tape. status; front = λ whole. None; rest = λ tape. tape; says = λ line. false }
 
 abbrev pub usage : Prescribed
-usage = untaped Usage usage_line
+usage = untaped Usage (codes "usage: usbgate COMMAND [options]" ++ LF ∷ [])
 
 abbrev pub printed : List ℕ → Prescribed
 printed text = untaped Done text

@@ -14,7 +14,6 @@ use Rattle.usbip_urb.specs.declared.client.ClientPacket.{ClientPacket}
 use Rattle.usbip_urb.specs.declared.client.ClientPacket.TheVariants.{Op, Urb}
 use Rattle.redir_wire.specs.declared.packet.Header.{Header}
 use Rattle.redir_data.specs.declared.packet.RedirPacket.{RedirPacket}
-use Rattle.redir_data.specs.declared.state.RedirState.{RedirState}
 use Rattle.packet_show.specs.Client.{client_line}
 use Rattle.packet_show.specs.Urb.{urb_line}
 use Rattle.packet_show.specs.Redir.{redir_line}
@@ -49,14 +48,14 @@ stream_split shown events = split shown.reader shown.start (shown.bytes events)
 
 -- ---- events
 
--- a stream of the side has met a wrong place
-abbrev pub was_wrong : {S P : Type 0} → Shown S P → List Event → Bool
-was_wrong shown [] = false
-was_wrong shown (e ∷ events) = was_wrong shown events || is_some (stream_split shown (e ∷ events)).wrong
-
--- the side's present stream has
+-- the side's present stream has met a wrong place
 abbrev pub is_wrong : {S P : Type 0} → Shown S P → List Event → Bool
 is_wrong shown events = is_some (stream_split shown events).wrong
+
+-- that one, or one before it
+abbrev pub was_wrong : {S P : Type 0} → Shown S P → List Event → Bool
+was_wrong shown [] = false
+was_wrong shown (e ∷ events) = was_wrong shown events || is_wrong shown (e ∷ events)
 
 -- the lines that the side's stream has with an event, and without it hasn't
 abbrev pub gained_lines : {S P : Type 0} → Shown S P → List Event → Event → List ℕ
@@ -83,12 +82,6 @@ asked_line place packet = []
 abbrev pub told_line : ℕ → Header × RedirPacket → List ℕ
 told_line place packet = redir_line place packet.0 packet.1
 
-abbrev pub clients_shown : Shown (Unit {0}) ClientPacket
-clients_shown = record { side = Client; reader = client_reader; start = client_start; bytes = client_bytes; line = asked_line }
-
-abbrev pub host_shown : Shown RedirState (Header × RedirPacket)
-host_shown = record { side = Host; reader = host_reader; start = host_start; bytes = host_bytes; line = told_line }
-
 abbrev pub show : Side → EventCommand
-show Client = show_side clients_shown
-show Host = show_side host_shown
+show Client = show_side (record { side = Client; reader = client_reader; start = client_start; bytes = client_bytes; line = asked_line })
+show Host = show_side (record { side = Host; reader = host_reader; start = host_start; bytes = host_bytes; line = told_line })

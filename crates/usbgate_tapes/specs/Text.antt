@@ -19,49 +19,35 @@ use Rattle.direct_run.specs.Lines.{item_line}
 use Rattle.packet_show.specs.Line.{LF, SPACE}
 
 -- a letter, the bytes in lower-case hexadecimal and LF; nothing where there are no bytes
-abbrev pub bytes_line : ℕ → List ℕ → List ℕ
+abbrev pub bytes_line : List ℕ → List ℕ → List ℕ
 bytes_line letter [] = []
-bytes_line letter (b ∷ bs) = letter ∷ SPACE ∷ encode_lower (b ∷ bs) ++ LF ∷ []
+bytes_line letter (b ∷ bs) = letter ++ SPACE ∷ encode_lower (b ∷ bs) ++ LF ∷ []
 
 -- a refusal is told, and no other note
 abbrev pub note_line : Note → List ℕ
 note_line (note.Refused refusal) = refusal_line refusal
 note_line _ = []
 
--- the letters of the sides
-abbrev pub CAPITAL_C : ℕ
-CAPITAL_C = 67
-
-abbrev pub CAPITAL_H : ℕ
-CAPITAL_H = 72
-
--- a modelled host's bytes
-abbrev pub CAPITAL_D : ℕ
-CAPITAL_D = 68
-
 -- what an event sends, and tells
 abbrev pub sent_text : List ℕ → List ℕ → List Note → List ℕ
-sent_text client host notes = bytes_line CAPITAL_C client ++ bytes_line CAPITAL_H host ++ flat_map note_line notes
-
--- what was told of a past, in order
-abbrev pub told_notes : ℕ → List Mark → List Note
-told_notes first marks = all_of notes_of first marks
+sent_text client host notes = bytes_line (codes "C") client ++ bytes_line (codes "H") host ++ flat_map note_line notes
 
 -- what the past has with an event, and without it hasn't
 abbrev pub gained : {X : Type 0} → (ℕ → List Mark → List X) → ℕ → List Event → Event → List X
 gained out first events e = drop (length (out first (history first events))) (out first (history first (e ∷ events)))
 
 abbrev pub event_text : ℕ → List Event → Event → List ℕ
-event_text first events e = sent_text (gained out_client first events e) (gained out_host first events e) (gained told_notes first events e)
+event_text first events e = sent_text (gained out_client first events e) (gained out_host first events e) (gained (all_of notes_of) first events e)
 
 -- the bytes of the making come first
 abbrev pub made_text : ℕ → List ℕ
-made_text first = bytes_line CAPITAL_H (out_host first [])
+made_text first = bytes_line (codes "H") (out_host first [])
 
--- what a step of a gateway and a modelled device tells
+-- what a step of a gateway and a modelled device tells; `D` are that host's bytes
 abbrev pub told_text : Told → List ℕ
 told_text told =
-    flat_map item_line told.items ++ bytes_line CAPITAL_C told.to_client ++ bytes_line CAPITAL_H told.to_host ++ bytes_line CAPITAL_D told.from_host ++ flat_map refusal_line told.refusals
+    flat_map item_line told.items ++ bytes_line (codes "C") told.to_client ++ bytes_line (codes "H") told.to_host ++ bytes_line (codes "D") told.from_host
+    ++ flat_map refusal_line told.refusals
 
 abbrev pub counts_line : Counts → List ℕ
 counts_line c =
@@ -69,6 +55,3 @@ counts_line c =
 
 abbrev pub bad_line : ℕ → List ℕ
 bad_line number = codes "bad tape " ++ decimal number ++ LF ∷ []
-
-abbrev pub usage_line : List ℕ
-usage_line = codes "usage: usbgate COMMAND [options]" ++ LF ∷ []

@@ -5,7 +5,7 @@ use Rattle.std.specs.Prelude.{◌≡◌, ◌⊎◌, ℕ, ◌+◌, ◌<◌, ◌�
 use Rattle.gate_outside.specs.Calls.{front_of}
 use Rattle.gate_outside.specs.Moved.{Move, moved}
 use Rattle.usbgate_tapes.specs.tape.Tape.{content}
-use Rattle.usbgate_tapes.specs.tape.TapeCommand.{tape_limit}
+use Rattle.usbgate_tapes.specs.declared.tape.lines.TheConstants.{TAPE_LIMIT}
 use Rattle.usbgate_tapes.specs.Prescribed.{Prescribed}
 use Rattle.usbgate_tapes.specs.Run.{EndsALine, HasNoLF, ReadInPart}
 
@@ -33,7 +33,7 @@ pub record PieceWants (p : Prescribed) (read piece : List ℕ) : Type 0 where
   pub part_of_line : HasNoLF pending
   pub good : IsSome (p.front whole)
   pub some : 0 < length last
-  pub within : length whole + length (pending ++ last) ≤ tape_limit
+  pub within : length whole + length (pending ++ last) ≤ TAPE_LIMIT
   pub wants : (HasNoLF last × (rest ≡ [])) ⊎ (EndsALine last × LineWants p whole pending last)
 
 -- a read found the end of a tape whose lines are good, or brought such a piece
@@ -44,4 +44,4 @@ ReadWants p read piece = ((piece ≡ []) × IsSome (p.front read)) ⊎ PieceWant
 -- the text of all whole lines before it. Where none was made, the run has only begun, and nothing is written.
 abbrev pub RunsOut : Prescribed → List Move → List ℕ → Type 0
 RunsOut p [] written = written ≡ []
-RunsOut p (move ∷ moves) written = ReadInPart p (moved moves) [] (Some []) (Some written) × ReadWants p (moved moves) (front_of move.answer move.bytes)
+RunsOut p (move ∷ moves) written = ReadInPart p (moved moves) (Some []) written × ReadWants p (moved moves) (front_of move.answer move.bytes)

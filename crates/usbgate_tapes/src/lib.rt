@@ -13,4 +13,5 @@ pub use model::device::{BLOCKS, Device};
 pub use model::load::load;
 pub use model::make::make;
 pub use status::Status;
-pub use text::printed::print_usage;
+pub use text::USAGE;
+pub use text::printed::print;

@@ -22,7 +22,7 @@ pub const USAGE: &[u8] = b"usage: usbgate COMMAND [options]\n";
 /// Appends a side's letter, a space, the bytes that are sent to it in lower-case hexadecimal, and LF. Where
 /// there are no bytes it appends nothing. For want of memory a front of the line may be there.
 pub fn push_bytes(alloc: Global, letter: u8, bytes: &[u8], text: &mut Bytes) -> Result<(), Memory>
-    ensures { OnOk result (text.new ≡ text.old ++ bytes_line letter bytes.now) }
+    ensures { OnOk result (text.new ≡ text.old ++ bytes_line (letter ∷ []) bytes.now) }
 {
     if bytes.is_empty() {
         return Ok(());

@@ -14,12 +14,13 @@ use Rattle.gate_history.specs.client.Submits.{Pending, ends}
 use Rattle.gate_history.specs.state.State.{State, state_of}
 use Rattle.gate_history.specs.step.History.{history}
 use Rattle.gate_history.specs.write.Notes.{is_by_answer, when, came_notes, submit_notes, answer_notes, refusal_notes, notes_of}
+use Rattle.gate_history.specs.write.All.{all_of}
 use Rattle.gate_history.specs.write.Output.{present}
 use Rattle.gate_history.specs.write.Bytes.{out_client, out_host}
 use Rattle.gate_history.specs.Headline.{Gains}
 use Rattle.gate_core.specs.step.Stands.{Takes}
 use Rattle.usbgate_tapes.specs.declared.replay.Replay.{Replay}
-use Rattle.usbgate_tapes.specs.Text.{told_notes, gained, sent_text}
+use Rattle.usbgate_tapes.specs.Text.{gained, sent_text}
 use Rattle.usbgate_tapes.specs.Replay.{has_refusal}
 use Rattle.usbgate_tapes.specs.inner.Replay.{is_refusal, HasSeen, Sees}
 
@@ -62,16 +63,16 @@ told-mark st m =
     quiet-then (came ++ answer_notes st m.what ++ gone) left next_three ∙ quiet-when (leaves m.what && not st.client_over) note.ClientGone refl in
     quiet-then (came ++ answer_notes st m.what ++ gone ++ left) (refusal_notes (refused_at m.what)) all_seven ∙ told-refusal (refused_at m.what)
 
-told-past : (first : ℕ) (ms : List Mark) → list_any is_refusal (told_notes first ms) ≡ has_refusal ms
+told-past : (first : ℕ) (ms : List Mark) → list_any is_refusal (all_of notes_of first ms) ≡ has_refusal ms
 told-past first [] = refl
 told-past first (m ∷ ms) =
-    list_any-append is_refusal (told_notes first ms) (notes_of (state_of first ms) m) ∙ ap (λ (b : Bool). b || list_any is_refusal (notes_of (state_of first ms) m)) (told-past first ms)
+    list_any-append is_refusal (all_of notes_of first ms) (notes_of (state_of first ms) m) ∙ ap (λ (b : Bool). b || list_any is_refusal (notes_of (state_of first ms) m)) (told-past first ms)
     ∙ ap (λ (b : Bool). has_refusal ms || b) (told-mark (state_of first ms) m) ∙ or_comm (has_refusal ms) (is_some (refused_at m.what))
 
 -- with the notes that an event told
-pub refused-more : (first : ℕ) (before after : List Mark) (notes : List Note) → told_notes first after ≡ told_notes first before ++ notes → (has_refusal before || list_any is_refusal notes) ≡ has_refusal after
+pub refused-more : (first : ℕ) (before after : List Mark) (notes : List Note) → all_of notes_of first after ≡ all_of notes_of first before ++ notes → (has_refusal before || list_any is_refusal notes) ≡ has_refusal after
 refused-more first before after notes told =
-    ap (λ (b : Bool). b || list_any is_refusal notes) (sym (told-past first before)) ∙ sym (list_any-append is_refusal (told_notes first before) notes) ∙ ap (list_any is_refusal) (sym told) ∙ told-past first after
+    ap (λ (b : Bool). b || list_any is_refusal notes) (sym (told-past first before)) ∙ sym (list_any-append is_refusal (all_of notes_of first before) notes) ∙ ap (list_any is_refusal) (sym told) ∙ told-past first after
 
 -- ---- what is printed
 
@@ -88,8 +89,8 @@ pub sees : (first : ℕ) (old new : Replay) (events : List Event) (e : Event) (c
 sees first old new events e client host text_old text_new notes h t text no_client no_host refused =
     let to_client : client ≡ gained out_client first events e = gains-is old.to_client client _ _ h.to_client t.client in
     let to_host : host ≡ gained out_host first events e = gains-is old.to_host host _ _ h.to_host t.host in
-    let told : notes ≡ gained told_notes first events e =
-    sym (drop_at (told_notes first (history first events)) notes _ refl) ∙ ap (drop (length (told_notes first (history first events)))) (sym t.told) in
+    let told : notes ≡ gained (all_of notes_of) first events e =
+    sym (drop_at (all_of notes_of first (history first events)) notes _ refl) ∙ ap (drop (length (all_of notes_of first (history first events)))) (sym t.told) in
     record {
       text = text ∙ ap (λ (l : List ℕ). text_old ++ l) (ap (λ (l : List ℕ). sent_text l host notes) to_client ∙ ap (λ (l : List ℕ). sent_text (gained out_client first events e) l notes) to_host
           ∙ ap (λ (l : List Note). sent_text (gained out_client first events e) (gained out_host first events e) l) told);

@@ -11,10 +11,11 @@ use Rattle.usbgate_tapes.specs.declared.tape.reader.TapeReader.{TapeReader}
 use Rattle.usbgate_tapes.specs.declared.status.Status.{Status}
 use Rattle.usbgate_tapes.specs.declared.status.Status.TheVariants.{Done, Usage, Refused, ReadFault, WriteFault, LinkFault, OutOfMemory, BadTape, Idle, Spent}
 use Rattle.usbgate_tapes.specs.tape.Tape.{lines_of}
-use Rattle.usbgate_tapes.specs.tape.TapeCommand.{TapeCommand, tape_limit, begin, Reading, read_lines, read_tape, tape_text}
+use Rattle.usbgate_tapes.specs.declared.tape.lines.TheConstants.{TAPE_LIMIT}
+use Rattle.usbgate_tapes.specs.tape.TapeCommand.{TapeCommand, begin, Reading, read_lines, read_tape, tape_text}
 use Rattle.usbgate_tapes.specs.Prescribed.{Prescribed, over_tape}
-use Rattle.usbgate_tapes.specs.Causes.{HasCauses}
-use Rattle.usbgate_tapes.specs.Run.{ReadInPart, WrittenInPart, WrittenWhole, LeavesTold, OpensNoLink, ComesToEnd}
+use Rattle.usbgate_tapes.specs.Causes.{HasCauses, OpensNoLink}
+use Rattle.usbgate_tapes.specs.Run.{ReadInPart, WrittenInPart, WrittenWhole, LeavesTold, ComesToEnd}
 use Rattle.usbgate_tapes.specs.Wants.{ReadWants}
 use Rattle.usbgate_tapes.specs.inner.tape.TapeReader.{IsKept, Stage, Closes, Runs, end_text}
 use Rattle.usbgate_tapes.proofs.lemmas.tape.Stages.{text_begins}
@@ -73,20 +74,20 @@ refused-bad : {A : Type 0} (n : ℕ) → Refused ≡ BadTape n → A
 refused-bad n e = cc
 
 -- the tape has come to its end, or the status is that of a bad line
-ends_by : (status : Status) (p : Prescribed) (tape text : List ℕ) (remaining contents : Option (List ℕ)) → is_quiet status ≡ true → WrittenWhole status p tape text contents
-    → ((number : ℕ) × (status ≡ BadTape number)) ⊎ (remaining ≡ Some (p.rest tape)) → LeavesTold status p tape text remaining contents
-ends_by Done p tape text remaining contents e written (inl b) = done-bad b.0 b.1
-ends_by Done p tape text remaining contents e written (inr none) = (none, written)
-ends_by Refused p tape text remaining contents e written (inl b) = refused-bad b.0 b.1
-ends_by Refused p tape text remaining contents e written (inr none) = (none, written)
-ends_by (BadTape n) p tape text remaining contents e written either = written
-ends_by Usage p tape text remaining contents e written either = false-true e
-ends_by ReadFault p tape text remaining contents e written either = false-true e
-ends_by WriteFault p tape text remaining contents e written either = false-true e
-ends_by (LinkFault side) p tape text remaining contents e written either = false-true e
-ends_by OutOfMemory p tape text remaining contents e written either = record { front = p.text tape; back = []; parts = sym (append-nil (p.text tape)); contents-is = written.contents-is }
-ends_by Idle p tape text remaining contents e written either = false-true e
-ends_by Spent p tape text remaining contents e written either = false-true e
+ends_by : (status : Status) (p : Prescribed) (tape text : List ℕ) (remaining : Option (List ℕ)) → is_quiet status ≡ true → WrittenWhole status p tape text
+    → ((number : ℕ) × (status ≡ BadTape number)) ⊎ (remaining ≡ Some (p.rest tape)) → LeavesTold status p tape remaining text
+ends_by Done p tape text remaining e written (inl b) = done-bad b.0 b.1
+ends_by Done p tape text remaining e written (inr none) = (none, written)
+ends_by Refused p tape text remaining e written (inl b) = refused-bad b.0 b.1
+ends_by Refused p tape text remaining e written (inr none) = (none, written)
+ends_by (BadTape n) p tape text remaining e written either = written
+ends_by Usage p tape text remaining e written either = false-true e
+ends_by ReadFault p tape text remaining e written either = false-true e
+ends_by WriteFault p tape text remaining e written either = false-true e
+ends_by (LinkFault side) p tape text remaining e written either = false-true e
+ends_by OutOfMemory p tape text remaining e written either = record { back = []; text-is = written.text-is ∙ sym (append-nil text) }
+ends_by Idle p tape text remaining e written either = false-true e
+ends_by Spent p tape text remaining e written either = false-true e
 
 pub comes-to : {A : Type 0} (status : Status) → A → ComesToEnd status A
 comes-to Done a = a
@@ -132,21 +133,19 @@ closes-remembers {T = T} command Keeps {piece = piece} read c e =
 module _ {C T : Type 0} {command : TapeCommand T} {Keeps : C → T → Type 0} where
   -- all text is written
   end-whole : {status : Status} {q : TapeReader C} {bytes written : List ℕ} (piece read : List ℕ) → Closes command Keeps status q piece read written → bytes ≡ q.text ++ end_text status → (later : List ℕ) → (piece ≡ [] → later ≡ [])
-      → LeavesTold status (over_tape command) ((read ++ piece) ++ later) [] (Some later) (Some (written ++ bytes))
+      → LeavesTold status (over_tape command) ((read ++ piece) ++ later) (Some later) (written ++ bytes)
   end-whole {status = status} {bytes = bytes} {written = written} piece read c bytes-is later none =
-      ends_by status (over_tape command) ((read ++ piece) ++ later) [] (Some later) (Some (written ++ bytes)) (closes-is_quiet command Keeps read c) (record {
-        contents-is = ap (λ (l : List ℕ). Some l) (ap (λ (l : List ℕ). written ++ l) bytes-is ∙ sym (c.text later none));
+      ends_by status (over_tape command) ((read ++ piece) ++ later) (written ++ bytes) (Some later) (closes-is_quiet command Keeps read c) (record {
+        text-is = c.text later none ∙ ap (λ (l : List ℕ). written ++ l) (sym bytes-is);
         status-is = sym (c.outcome later none);
       }) (closed piece later status (Some later) c.bad none refl)
 
   -- a front of it is
   last-part : {status : Status} {q : TapeReader C} {written : List ℕ} (piece read front back : List ℕ) → Closes command Keeps status q piece read written → q.text ++ end_text status ≡ front ++ back → (later : List ℕ) → (piece ≡ [] → later ≡ [])
-      → WrittenInPart (over_tape command) ((read ++ piece) ++ later) [] (Some (written ++ front))
+      → WrittenInPart (over_tape command) ((read ++ piece) ++ later) (written ++ front)
   last-part {written = written} piece read front back c parts later none = record {
-    front = written ++ front;
     back = back;
-    parts = c.text later none ∙ ap (λ (l : List ℕ). written ++ l) parts ∙ sym (append_assoc written front back);
-    contents-is = refl;
+    text-is = c.text later none ∙ ap (λ (l : List ℕ). written ++ l) parts ∙ sym (append_assoc written front back);
   }
 
 -- ---- a run
@@ -203,14 +202,12 @@ module _ {C T S K : Type 0} {command : TapeCommand T} {Keeps : C → T → Type 
   runs-none tape out = record { leaves = leaves-none read_gives write_gives remaining contents (over_tape command) tape out; kept = record { by_log = tt; where_told = tt } }
 
   -- a front of the text is written
-  in_part : {tape_old tape : S} {out_old out : K} {p : TapeReader C} (g : Goes command Keeps read_gives write_gives remaining contents tape_old tape out_old out p) (front back : List ℕ) → p.text ≡ front ++ back → (later : List ℕ) → WrittenInPart (over_tape command) (moved g.reads ++ later) [] (Some (g.written ++ front))
+  in_part : {tape_old tape : S} {out_old out : K} {p : TapeReader C} (g : Goes command Keeps read_gives write_gives remaining contents tape_old tape out_old out p) (front back : List ℕ) → p.text ≡ front ++ back → (later : List ℕ) → WrittenInPart (over_tape command) (moved g.reads ++ later) (g.written ++ front)
   in_part g front back parts later =
       let begins = text_begins command Keeps g.stage later in
       record {
-        front = g.written ++ front;
         back = back ++ begins.0;
-        parts = begins.1 ∙ ap (λ (l : List ℕ). l ++ begins.0) (ap (λ (l : List ℕ). g.written ++ l) parts ∙ sym (append_assoc g.written front back)) ∙ append_assoc (g.written ++ front) back begins.0;
-        contents-is = refl;
+        text-is = begins.1 ∙ ap (λ (l : List ℕ). l ++ begins.0) (ap (λ (l : List ℕ). g.written ++ l) parts ∙ sym (append_assoc g.written front back)) ∙ append_assoc (g.written ++ front) back begins.0;
       }
 
   -- the write of the text fails
@@ -232,7 +229,7 @@ module _ {C T S K : Type 0} {command : TapeCommand T} {Keeps : C → T → Type 
   }
 
   -- the text of whole lines is written
-  read-part : {tape_old tape : S} {out_old out : K} {p : TapeReader C} (g : Goes command Keeps read_gives write_gives remaining contents tape_old tape out_old out p) → p.text ≡ [] → (later : List ℕ) → ReadInPart (over_tape command) (moved g.reads ++ later) [] (Some later) (Some g.written)
+  read-part : {tape_old tape : S} {out_old out : K} {p : TapeReader C} (g : Goes command Keeps read_gives write_gives remaining contents tape_old tape out_old out p) → p.text ≡ [] → (later : List ℕ) → ReadInPart (over_tape command) (moved g.reads ++ later) (Some later) g.written
   read-part {p = p} g none later =
       let s = g.stage in
       let written : g.written ≡ command.opening ++ s.text = sym (append-nil g.written) ∙ ap (λ (l : List ℕ). g.written ++ l) (sym none) ∙ s.text-is in
@@ -240,19 +237,17 @@ module _ {C T S K : Type 0} {command : TapeCommand T} {Keeps : C → T → Type 
         whole = s.whole;
         part = p.pending;
         rest = later;
-        front = command.opening ++ s.text;
         tape-is = ap (λ (l : List ℕ). l ++ later) s.read-is;
         whole_lines = s.whole_lines;
         part_of_line = s.part_of_line;
-        good = ap (λ (x : Reading T). if x.bad then None else Some (command.opening ++ x.text)) (whole-read command Keeps s);
-        within = subst (λ (n : ℕ). n + length p.pending ≤ tape_limit) s.bytes-is s.within;
+        good = ap (λ (x : Reading T). if x.bad then None else Some (command.opening ++ x.text)) (whole-read command Keeps s) ∙ ap (λ (l : List ℕ). Some l) (sym written);
+        within = subst (λ (n : ℕ). n + length p.pending ≤ TAPE_LIMIT) s.bytes-is s.within;
         remaining-is = refl;
-        contents-is = ap (λ (l : List ℕ). Some l) written;
       }
 
   -- what was read before, and nothing behind it
-  part-alone : {tape_old tape : S} {out_old out : K} {p : TapeReader C} (g : Goes command Keeps read_gives write_gives remaining contents tape_old tape out_old out p) → p.text ≡ [] → (later : List ℕ) → ReadInPart (over_tape command) ((moved g.reads ++ []) ++ later) [] (Some later) (Some g.written)
-  part-alone g none later = subst (λ (l : List ℕ). ReadInPart (over_tape command) (l ++ later) [] (Some later) (Some g.written)) (sym (append-nil (moved g.reads))) (read-part g none later)
+  part-alone : {tape_old tape : S} {out_old out : K} {p : TapeReader C} (g : Goes command Keeps read_gives write_gives remaining contents tape_old tape out_old out p) → p.text ≡ [] → (later : List ℕ) → ReadInPart (over_tape command) ((moved g.reads ++ []) ++ later) (Some later) g.written
+  part-alone g none later = subst (λ (l : List ℕ). ReadInPart (over_tape command) (l ++ later) (Some later) g.written) (sym (append-nil (moved g.reads))) (read-part g none later)
 
   -- the read fails
   pub runs-read : {tape_old tape new : S} {out_old out : K} {p : TapeReader C} (buf : List ℕ) (failed : Failed) → Goes command Keeps read_gives write_gives remaining contents tape_old tape out_old out p → p.text ≡ [] → KeepsBytes (remaining tape) (remaining new) → read_gives tape buf (Err failed) new
@@ -274,14 +269,12 @@ module _ {C T S K : Type 0} {command : TapeCommand T} {Keeps : C → T → Type 
   }
 
   -- memory runs out after a piece was read
-  memory-part : {tape_old tape : S} {out_old out : K} {p : TapeReader C} (g : Goes command Keeps read_gives write_gives remaining contents tape_old tape out_old out p) (piece later : List ℕ) → WrittenInPart (over_tape command) ((moved g.reads ++ piece) ++ later) [] (Some g.written)
+  memory-part : {tape_old tape : S} {out_old out : K} {p : TapeReader C} (g : Goes command Keeps read_gives write_gives remaining contents tape_old tape out_old out p) (piece later : List ℕ) → WrittenInPart (over_tape command) ((moved g.reads ++ piece) ++ later) g.written
   memory-part {p = p} g piece later =
       let begins = text_begins command Keeps g.stage (piece ++ later) in
       record {
-        front = g.written;
         back = p.text ++ begins.0;
-        parts = ap (tape_text command) (append_assoc (moved g.reads) piece later) ∙ begins.1 ∙ append_assoc g.written p.text begins.0;
-        contents-is = refl;
+        text-is = ap (tape_text command) (append_assoc (moved g.reads) piece later) ∙ begins.1 ∙ append_assoc g.written p.text begins.0;
       }
 
   pub runs-memory : {tape_old tape new : S} {out_old out : K} {p : TapeReader C} (n : ℕ) (buf : List ℕ) (g : Goes command Keeps read_gives write_gives remaining contents tape_old tape out_old out p) → p.text ≡ [] → Consumes (remaining tape) (remaining new) (take n buf) → read_gives tape buf (Ok n) new
@@ -294,7 +287,7 @@ module _ {C T S K : Type 0} {command : TapeCommand T} {Keeps : C → T → Type 
         written = g.written;
         writes = g.writes;
         leaves = λ later follows. memory-part g (take n buf) later;
-        wants = λ e. (subst (λ (l : List ℕ). ReadInPart (over_tape command) l [] (Some []) (Some g.written)) (append-nil (moved g.reads)) (read-part g none []), wants);
+        wants = λ e. (subst (λ (l : List ℕ). ReadInPart (over_tape command) l (Some []) g.written) (append-nil (moved g.reads)) (read-part g none []), wants);
       };
       where_told = leaves-told OutOfMemory (over_tape command) (remaining tape_old) (remaining new) (contents out_old) (contents out) (moved g.reads ++ take n buf) g.written
           (Consumes-trans (remaining tape_old) (remaining tape) (remaining new) (moved g.reads) (take n buf) g.consumed read) g.wrote (λ later told. memory-part g (take n buf) later);

@@ -1,5 +1,5 @@
 -- What a run leaves that reads no tape.
-use Rattle.std.proofs.Common.{◌≡◌, ℕ, List, [], Option, Some, Result, refl, sym, ap, ◌∙◌}
+use Rattle.std.proofs.Common.{◌≡◌, ◌⊎◌, inl, inr, ℕ, List, [], Option, Some, Result, refl, sym, ap, subst, ◌∙◌}
 use Rattle.std.proofs.lemmas.List.{append-nil}
 use Rattle.std.specs.Io.KnownBytes.{Appends}
 use Rattle.std.proofs.KnownBytes.{Consumes-nil}
@@ -9,8 +9,7 @@ use Rattle.gate_outside.specs.Moved.{Moves, MovesFront}
 use Rattle.usbgate_tapes.specs.declared.status.Status.{Status}
 use Rattle.usbgate_tapes.specs.declared.status.Status.TheVariants.{Done, Usage, WriteFault, OutOfMemory}
 use Rattle.usbgate_tapes.specs.Run.{LeavesTold, LeavesWhereTold}
-use Rattle.usbgate_tapes.specs.Text.{usage_line}
-use Rattle.usbgate_tapes.specs.Prescribed.{Prescribed, untaped, printed, usage}
+use Rattle.usbgate_tapes.specs.Prescribed.{Prescribed, untaped}
 use Rattle.usbgate_tapes.specs.Logs.{RunLeaves, RunWrites}
 use Rattle.gate_outside.proofs.Moving.{moves-none}
 use Rattle.usbgate_tapes.proofs.lemmas.Told.{leaves-told}
@@ -20,7 +19,7 @@ write-memory e = cc
 
 -- nothing was read or written
 told-none : (p : Prescribed) (remaining contents : Option (List ℕ)) → LeavesWhereTold OutOfMemory p remaining remaining contents contents
-told-none p remaining contents = λ tape text remaining-is contents-is. record { front = []; back = p.text tape; parts = refl; contents-is = contents-is ∙ ap (λ (l : List ℕ). Some l) (sym (append-nil text)) }
+told-none p remaining contents = λ tape text remaining-is contents-is. ([], contents-is ∙ ap (λ (l : List ℕ). Some l) (sym (append-nil text)), record { back = p.text tape; text-is = refl })
 
 pub leaves-none : {S K : Type 0} (read_gives : S → List ℕ → Result ℕ Failed → S → Type 0) (write_gives : K → List ℕ → Result ℕ Failed → K → Type 0) (remaining : S → Option (List ℕ)) (contents : K → Option (List ℕ)) (p : Prescribed) (tape : S) (out : K) → RunLeaves read_gives write_gives remaining contents OutOfMemory p tape tape out out
 leaves-none read_gives write_gives remaining contents p tape out = record {
@@ -29,7 +28,7 @@ leaves-none read_gives write_gives remaining contents p tape out = record {
     read = refl;
     written = [];
     writes = moves-none write_gives out;
-    leaves = λ later follows. record { front = []; back = p.text later; parts = refl; contents-is = refl };
+    leaves = λ later follows. record { back = p.text later; text-is = refl };
     wants = λ e. refl;
   };
   where_told = told-none p (remaining tape) (contents out);
@@ -56,25 +55,30 @@ wrote-none write_gives contents p out = record {
   by_log = record {
     written = [];
     writes = moves-none write_gives out;
-    leaves = λ tape. record { front = []; back = p.text tape; parts = refl; contents-is = refl };
+    leaves = λ tape. record { back = p.text tape; text-is = refl };
     wants = λ e. refl;
   };
   where_told = λ remaining. told-none p remaining (contents out);
 }
 
 -- the text is written
-wrote-all : {K : Type 0} (write_gives : K → List ℕ → Result ℕ Failed → K → Type 0) (contents : K → Option (List ℕ)) (status : Status) (p : Prescribed) (text : List ℕ) (out_old out : K) → (status ≡ OutOfMemory → ⊥) → ((tape : List ℕ) → LeavesTold status p tape [] (Some tape) (Some text)) → Moves write_gives text out_old out
+wrote-all : {K : Type 0} (write_gives : K → List ℕ → Result ℕ Failed → K → Type 0) (contents : K → Option (List ℕ)) (status : Status) (p : Prescribed) (text : List ℕ) (out_old out : K) → (status ≡ OutOfMemory → ⊥) → ((tape : List ℕ) → LeavesTold status p tape (Some tape) text) → Moves write_gives text out_old out
     → Appends (contents out_old) (contents out) text → RunWrites write_gives contents status p out_old out
 wrote-all write_gives contents status p text out_old out remembers leaves m a = record {
   by_log = record { written = text; writes = m; leaves = leaves; wants = λ e. absurd (remembers e) };
   where_told = λ remaining. leaves-told status p remaining remaining (contents out_old) (contents out) [] text (Consumes-nil remaining) a (λ later told. leaves later);
 }
 
-pub wrote-text : {K : Type 0} (write_gives : K → List ℕ → Result ℕ Failed → K → Type 0) (contents : K → Option (List ℕ)) (text : List ℕ) (out_old out : K) → Moves write_gives text out_old out → Appends (contents out_old) (contents out) text → RunWrites write_gives contents Done (printed text) out_old out
-wrote-text write_gives contents text out_old out m a = wrote-all write_gives contents Done (printed text) text out_old out (λ e. cc) (λ tape. (refl, record { contents-is = refl; status-is = refl })) m a
+pub wrote-text : {K : Type 0} (write_gives : K → List ℕ → Result ℕ Failed → K → Type 0) (contents : K → Option (List ℕ)) (status : Status) (text : List ℕ) (out_old out : K) → (status ≡ Done) ⊎ (status ≡ Usage) → Moves write_gives text out_old out → Appends (contents out_old) (contents out) text
+    → RunWrites write_gives contents status (untaped status text) out_old out
+wrote-text {K = K} write_gives contents status text out_old out is m a = go is
+  where
+    wrote : (s : Status) → (s ≡ OutOfMemory → ⊥) → ((tape : List ℕ) → LeavesTold s (untaped s text) tape (Some tape) text) → s ≡ status → RunWrites write_gives contents status (untaped status text) out_old out
+    wrote s remembers leaves same = subst (λ (x : Status). RunWrites write_gives contents x (untaped x text) out_old out) same (wrote-all write_gives contents s (untaped s text) text out_old out remembers leaves m a)
 
-pub wrote-usage : {K : Type 0} (write_gives : K → List ℕ → Result ℕ Failed → K → Type 0) (contents : K → Option (List ℕ)) (out_old out : K) → Moves write_gives usage_line out_old out → Appends (contents out_old) (contents out) usage_line → RunWrites write_gives contents Usage usage out_old out
-wrote-usage write_gives contents out_old out m a = wrote-all write_gives contents Usage usage usage_line out_old out (λ e. cc) (λ tape. (refl, record { contents-is = refl; status-is = refl })) m a
+    go : (status ≡ Done) ⊎ (status ≡ Usage) → RunWrites write_gives contents status (untaped status text) out_old out
+    go (inl done) = wrote Done (λ e. cc) (λ tape. (refl, record { text-is = refl; status-is = refl })) (sym done)
+    go (inr usage) = wrote Usage (λ e. cc) (λ tape. (refl, record { text-is = refl; status-is = refl })) (sym usage)
 
 -- a front of it is written
 pub wrote-front : {K : Type 0} (write_gives : K → List ℕ → Result ℕ Failed → K → Type 0) (contents : K → Option (List ℕ)) (status : Status) (text : List ℕ) (out_old out : K) → MovesFront write_gives text out_old out → AppendsFront (contents out_old) (contents out) text → RunWrites write_gives contents WriteFault (untaped status text) out_old out
@@ -82,9 +86,9 @@ wrote-front write_gives contents status text out_old out m f = record {
   by_log = record {
     written = m.front;
     writes = m.moves;
-    leaves = λ tape. record { front = m.front; back = m.back; parts = m.parts; contents-is = refl };
+    leaves = λ tape. record { back = m.back; text-is = m.parts };
     wants = λ e. write-memory e;
   };
   where_told = λ remaining. leaves-told WriteFault (untaped status text) remaining remaining (contents out_old) (contents out) [] f.front (Consumes-nil remaining) f.appends
-      (λ later told. record { front = f.front; back = f.back; parts = f.parts; contents-is = refl });
+      (λ later told. record { back = f.back; text-is = f.parts });
 }

@@ -1,6 +1,6 @@
 -- The command `model`: the steps that a tape says are done with a gateway and a modelled device, which begins as it was
 -- plugged in.
-use Rattle.std.specs.Prelude.{ℕ, Bool, true, false, List, [], ◌∷◌, Option, Some, None}
+use Rattle.std.specs.Prelude.{ℕ, List, [], ◌∷◌, Option, Some, None, is_some, option_map, option_and_then}
 use Rattle.packet_show.specs.declared.tape.TapeKind.TheVariants.{Model}
 use Rattle.packet_show.specs.declared.tape.TapeLine.{TapeLine}
 use Rattle.packet_show.specs.declared.tape.TapeLine.TheVariants as line
@@ -28,28 +28,18 @@ step_said (line.Offer ep) = Some (Offer ep)
 step_said line.Unplug = Some Unplug
 step_said said = None
 
--- the line says something
-abbrev pub is_said : Option TapeLine → Bool
-is_said None = false
-is_said (Some line.Skip) = false
-is_said said = true
-
 -- a line that says nothing adds nothing
 abbrev pub on_step : {S : Type 0} → Meaning S → S → List Step → Option Step → List ℕ × List Step
 on_step m s steps None = ([], steps)
 on_step m s steps (Some x) = (told_text (told_by m s (course m s steps) x), x ∷ steps)
-
-abbrev pub on_line : {S : Type 0} → Meaning S → S → List Step → Option TapeLine → Option (List ℕ × List Step)
-on_line m s steps None = None
-on_line m s steps (Some x) = Some (on_step m s steps (step_said x))
 
 -- it keeps the steps, the latest first
 abbrev pub model : {S : Type 0} → Meaning S → S → TapeCommand (List Step)
 model m s = record {
   opening = told_text (told_first m s);
   start = [];
-  line = λ steps content. on_line m s steps (tape_line Model content);
-  says = λ content. is_said (tape_line Model content);
+  line = λ steps content. option_map (λ said. on_step m s steps (step_said said)) (tape_line Model content);
+  says = λ content. is_some (option_and_then step_said (tape_line Model content));
   closing = λ steps. counts_line (counts_of first_id (history first_id (course m s steps).events));
   refused = λ steps. has_refusal (history first_id (course m s steps).events);
 }

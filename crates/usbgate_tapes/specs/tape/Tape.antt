@@ -1,5 +1,5 @@
 -- A replay tape: the lines of a text, and the event that each says.
-use Rattle.std.specs.Prelude.{ℕ, ◌==◌, Bool, true, false, not, if◌then◌else◌, List, [], ◌∷◌, Option, Some, None, is_some}
+use Rattle.std.specs.Prelude.{ℕ, ◌==◌, Bool, true, false, not, if◌then◌else◌, List, [], ◌∷◌, Option, Some, None}
 use Rattle.std.specs.Io.BufRead.{strip_last}
 use Rattle.packet_show.specs.Line.{LF}
 use Rattle.packet_show.specs.declared.tape.TapeLine.{TapeLine}
@@ -31,11 +31,6 @@ event_said line.ClientEnd = Some ClientEnd
 event_said (line.Host piece) = Some (HostPiece piece)
 event_said line.HostEnd = Some HostEnd
 event_said said = None
-
--- an event stands on the line
-abbrev pub is_event : Option TapeLine → Bool
-is_event None = false
-is_event (Some line) = is_some (event_said line)
 
 -- nothing of the host comes after its end; after a client's comes the next client
 abbrev pub host_ended : List Event → Bool

@@ -2,12 +2,9 @@
 use Rattle.std.specs.Prelude.{ℕ, ◌+◌, Bool, true, false, nat_lt, if◌then◌else◌, List, [], ◌∷◌, ◌++◌, length, option_map, Option, Some, None}
 use Rattle.usbgate_tapes.specs.declared.status.Status.{Status}
 use Rattle.usbgate_tapes.specs.declared.status.Status.TheVariants.{Done, Refused, BadTape}
+use Rattle.usbgate_tapes.specs.declared.tape.lines.TheConstants.{TAPE_LIMIT}
 use Rattle.usbgate_tapes.specs.tape.Tape.{lines_of, content}
 use Rattle.usbgate_tapes.specs.Text.{bad_line}
-
--- how many bytes a tape may have
-abbrev pub tape_limit : ℕ
-tape_limit = 67108864
 
 -- a command, which keeps an S of the lines so far
 pub record TapeCommand (S : Type 0) : Type 0 where
@@ -39,7 +36,7 @@ one_further p line x = (x.0, record { lines = p.lines + 1; bytes = p.bytes + len
 -- past the limit of the tape; its LF is one of its bytes
 abbrev pub next_line : {S : Type 0} → TapeCommand S → Progress S → List ℕ → Option (List ℕ × Progress S)
 next_line command p line =
-    if nat_lt tape_limit (p.bytes + length line) then None else option_map (one_further p line) (command.line p.kept (content line))
+    if nat_lt TAPE_LIMIT (p.bytes + length line) then None else option_map (one_further p line) (command.line p.kept (content line))
 
 -- the text of the lines up to the first bad one, and what has been read before that
 pub record Reading (S : Type 0) : Type 0 where
@@ -66,11 +63,9 @@ last_text command x = if x.bad then bad_line (x.after.lines + 1) else command.cl
 abbrev pub tape_text : {S : Type 0} → TapeCommand S → List ℕ → List ℕ
 tape_text command tape = let x = read_tape command tape in command.opening ++ x.text ++ last_text command x
 
-abbrev pub status_of : {S : Type 0} → TapeCommand S → Reading S → Status
-status_of command x = if x.bad then BadTape (x.after.lines + 1) else if command.refused x.after.kept then Refused else Done
-
 abbrev pub tape_status : {S : Type 0} → TapeCommand S → List ℕ → Status
-tape_status command tape = status_of command (read_tape command tape)
+tape_status command tape =
+    let x = read_tape command tape in if x.bad then BadTape (x.after.lines + 1) else if command.refused x.after.kept then Refused else Done
 
 -- the text of whole lines, the first of a tape, without the last text; none where one of them is bad
 abbrev pub front_text : {S : Type 0} → TapeCommand S → List ℕ → Option (List ℕ)

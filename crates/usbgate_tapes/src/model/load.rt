@@ -1,11 +1,10 @@
 //! The command `load`: what a modelled loop makes of the tape that a number stands for.
 
-ghost use Rattle.std.specs.Prelude.{◌≡◌, ◌≤◌, [], ℕ, IfOk, OnOk};
+ghost use Rattle.std.specs.Prelude.{◌≡◌, ◌≢◌, ◌≤◌, [], ℕ, IfOk, OnOk};
 ghost use Rattle.direct_run.specs.Stands.{Stands};
 ghost use Rattle.made_tape.specs.Rounds.{made_lines};
 ghost use Rattle.usbgate_tapes.specs.model.Made.{loaded};
 ghost use Rattle.usbgate_tapes.specs.Prescribed.{printed};
-ghost use Rattle.usbgate_tapes.specs.Run.{IsOfNoTape};
 ghost use Rattle.usbgate_tapes.specs.Logs.{RunWrites};
 ghost use Rattle.usbgate_tapes.specs.model.Simulated.{MadeSimulates};
 ghost use Rattle.usbgate_tapes.specs.Causes.{HasCauses};
@@ -28,11 +27,11 @@ pub fn load<K: Sink>(alloc: Global, count: u16, out: &mut K) -> Status
     requires { count ≤ 1000 }
     ensures leaves { RunWrites K.write_gives K.contents result (printed (loaded count)) out.old out.new }
     ensures causes { (faults : ℕ) → HasCauses result faults faults (K.faults out.old) (K.faults out.new) }
-    ensures ends { IsOfNoTape result }
+    ensures command { result ≢ Status.Usage }
     ensures simulates { result ≡ Status.Done → MadeSimulates count }
 {
     match counted(alloc, count) {
-        Ok(text) => print(text.as_slice(), out),
+        Ok(text) => print(text.as_slice(), Status::Done, out),
         Err(_) => Status::OutOfMemory,
     }
 }

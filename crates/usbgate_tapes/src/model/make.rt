@@ -1,9 +1,8 @@
 //! The command `make`: the tape that a number stands for.
 
-ghost use Rattle.std.specs.Prelude.{ℕ};
+ghost use Rattle.std.specs.Prelude.{◌≢◌, ℕ};
 ghost use Rattle.usbgate_tapes.specs.model.Made.{made};
 ghost use Rattle.usbgate_tapes.specs.Prescribed.{printed};
-ghost use Rattle.usbgate_tapes.specs.Run.{IsOfNoTape};
 ghost use Rattle.usbgate_tapes.specs.Logs.{RunWrites};
 ghost use Rattle.usbgate_tapes.specs.Causes.{HasCauses};
 
@@ -17,10 +16,10 @@ use std::alloc::Global;
 pub fn make<K: Sink>(alloc: Global, count: u16, out: &mut K) -> Status
     ensures leaves { RunWrites K.write_gives K.contents result (printed (made count)) out.old out.new }
     ensures causes { (faults : ℕ) → HasCauses result faults faults (K.faults out.old) (K.faults out.new) }
-    ensures ends { IsOfNoTape result }
+    ensures command { result ≢ Status.Usage }
 {
     match made_text(alloc, count) {
-        Ok(text) => print(text.as_slice(), out),
+        Ok(text) => print(text.as_slice(), Status::Done, out),
         Err(_) => Status::OutOfMemory,
     }
 }

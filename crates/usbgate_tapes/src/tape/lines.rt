@@ -2,7 +2,7 @@
 
 ghost use Rattle.std.specs.Prelude.{◌≡◌, ◌≢◌, ◌++◌, ◌+◌, ◌<◌, ◌≤◌, ◌↔◌, length, IfOk, OnOk, IsTrue, None, true};
 ghost use Rattle.usbgate_tapes.specs.tape.Tape.{content as content_of};
-ghost use Rattle.usbgate_tapes.specs.tape.TapeCommand.{Progress, begin, next_line, tape_limit};
+ghost use Rattle.usbgate_tapes.specs.tape.TapeCommand.{Progress, begin, next_line};
 ghost use Rattle.usbgate_tapes.specs.inner.tape.TapeReader.{HasRead, GoesOn};
 ghost use Rattle.packet_show.specs.Tape.{want};
 
@@ -12,7 +12,7 @@ use std::alloc::Global;
 use usb_base::{Bytes, Memory};
 
 /// How many bytes a tape may have.
-const TAPE_LIMIT: u64 = 67_108_864;
+pub const TAPE_LIMIT: u64 = 67_108_864;
 
 /// A command, and what has been read of its tape.
 #[derive(Drop)]
@@ -68,7 +68,7 @@ impl<C: TapeCommand> TapeLines<C> {
     /// Whether the tape may still have a line that begins with these two parts.
     pub fn has_room(&self, pending: &[u8], part: &[u8]) -> bool
         ensures room { IsTrue result ↔ (length (pending.now ++ part.now) ≤ self.now.room) }
-        ensures limit { (task : C.Task) (s : Progress C.Kept) → HasRead (C.Keeps task) self.now s → IsTrue result ↔ (s.bytes + length (pending.now ++ part.now) ≤ tape_limit) }
+        ensures limit { (task : C.Task) (s : Progress C.Kept) → HasRead (C.Keeps task) self.now s → IsTrue result ↔ (s.bytes + length (pending.now ++ part.now) ≤ TAPE_LIMIT) }
     {
         (pending.len() + part.len()) as u64 <= self.room
     }

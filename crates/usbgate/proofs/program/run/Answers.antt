@@ -10,7 +10,7 @@ use Rattle.usbgate_commands.specs.Recording.{records}
 use Rattle.usbgate_commands.proofs.Served.{links-stand, link-fault-of, link-stands}
 use Rattle.usbgate_tapes.proofs.lemmas.model.Simulated.{unsimulated}
 use Rattle.usbgate_tapes.proofs.lemmas.Unread.{leaves-none}
-use Rattle.usbgate.proofs.Asked.{leaves-asked, writes-asked, serves-asked, lends-asked}
+use Rattle.usbgate.proofs.Asked.{reads-tape, leaves-asked, writes-asked, serves-asked, lends-asked}
 use Rattle.usbgate.proofs.Simulated.{simulates-device, simulates-count}
 use Rattle.usbgate_commands.proofs.Logs.{run-unserved, run-unlent}
 use Rattle.usbgate.proofs.program.run.Goals as goal
@@ -46,7 +46,7 @@ pub returns-in-Load-clause-leaves : goal.returns-in-Load-clause-leaves
 returns-in-Load-clause-leaves g c = λ p is. writes-asked _ _ (printed (loaded c.in-Load.count)) p (sym c.in-Load.is ∙ c.in-Ok.ensures.value) refl is c.load.ensures.leaves
 
 pub returns-in-Unknown-clause-leaves : goal.returns-in-Unknown-clause-leaves
-returns-in-Unknown-clause-leaves g c = λ p is. writes-asked _ _ usage p (sym c.in-Unknown.is ∙ c.in-Ok.ensures.value) refl is c.print_usage.ensures.leaves
+returns-in-Unknown-clause-leaves g c = λ p is. writes-asked _ _ usage p (sym c.in-Unknown.is ∙ c.in-Ok.ensures.value) refl is c.print.ensures.leaves
 
 pub returns-in-Model-clause-simulates : goal.returns-in-Model-clause-simulates
 returns-in-Model-clause-simulates g c = λ device is.
@@ -79,7 +79,7 @@ returns-in-Host-clause-links_stand g c = λ side other.
     links-stand lent.end (g.D.Doors.link c.args.doors.now) (g.D.Doors.link c.host.new.doors) (g.D.Doors.door c.args.doors.now) (g.D.Doors.door c.host.new.doors) (g.K.Sink.faults c.args.out.now) (g.K.Sink.faults c.host.new.out) side lent.cause (λ e. other (lent.status-is ∙ e))
 
 pub returns-in-Unknown-clause-writes_stand : goal.returns-in-Unknown-clause-writes_stand
-returns-in-Unknown-clause-writes_stand g c = (c.print_usage.ensures.causes 0).writes_stand
+returns-in-Unknown-clause-writes_stand g c = (c.print.ensures.causes 0).writes_stand
 
 pub returns-in-Make-clause-writes_stand : goal.returns-in-Make-clause-writes_stand
 returns-in-Make-clause-writes_stand g c = (c.make.ensures.causes 0).writes_stand
@@ -89,3 +89,12 @@ returns-in-Load-clause-writes_stand g c = (c.load.ensures.causes 0).writes_stand
 
 pub returns-in-Load-clause-load_simulates : goal.returns-in-Load-clause-load_simulates
 returns-in-Load-clause-load_simulates g c = λ count is done. simulates-count c.in-Load.count count (sym c.in-Load.is ∙ c.in-Ok.ensures.value ∙ is) (c.load.ensures.simulates done)
+
+pub returns-in-Replay-clause-unread : goal.returns-in-Replay-clause-unread
+returns-in-Replay-clause-unread g c = λ untaped. reads-tape _ _ (over_tape (over_events (replay c.in-Replay.first_id))) (sym c.in-Replay.is ∙ c.in-Ok.ensures.value) refl refl untaped
+
+pub returns-in-Model-clause-unread : goal.returns-in-Model-clause-unread
+returns-in-Model-clause-unread g c = λ untaped. reads-tape _ _ (over_tape (model_of c.in-Model.device)) (sym c.in-Model.is ∙ c.in-Ok.ensures.value) refl refl untaped
+
+pub returns-in-Show-clause-unread : goal.returns-in-Show-clause-unread
+returns-in-Show-clause-unread g c = λ untaped. reads-tape _ _ (over_tape (over_events (show c.in-Show.side))) (sym c.in-Show.is ∙ c.in-Ok.ensures.value) refl refl untaped

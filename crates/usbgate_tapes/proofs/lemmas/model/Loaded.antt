@@ -13,8 +13,9 @@ use Rattle.made_tape.specs.Lines.{words_of, line_of, tape_text}
 use Rattle.made_tape.specs.Again.{IsReadAgain, AreReadAgain, TapeAgain}
 use Rattle.usbgate_tapes.specs.tape.Tape.{lines_of, content}
 use Rattle.usbgate_tapes.specs.Run.{HasNoLF}
-use Rattle.usbgate_tapes.specs.model.Model.{on_line as on_said, on_step, step_said, model}
-use Rattle.usbgate_tapes.specs.tape.TapeCommand.{tape_limit, Progress, begin, one_further, next_line, Reading, on_line, read_lines, read_tape, last_text}
+use Rattle.usbgate_tapes.specs.model.Model.{on_step, step_said, model}
+use Rattle.usbgate_tapes.specs.declared.tape.lines.TheConstants.{TAPE_LIMIT}
+use Rattle.usbgate_tapes.specs.tape.TapeCommand.{Progress, begin, one_further, next_line, Reading, on_line, read_lines, read_tape, last_text}
 use Rattle.usbgate_tapes.specs.Text.{bad_line}
 use Rattle.usbgate_tapes.specs.inner.model.Loaded.{with_step, steps_after}
 use Rattle.usbgate_tapes.proofs.lemmas.tape.Lines.{lines_of-line}
@@ -47,10 +48,13 @@ first-line said later again = ap lines_of (append_assoc (words_of said) (10 ∷ 
 -- ---- of a device
 
 module _ {S : Type 0} (m : Meaning S) (s : S) where
+  abbrev on_said : List Step → Option TapeLine → Option (List ℕ × List Step)
+  on_said steps said = option_map (λ (x : TapeLine). on_step m s steps (step_said x)) said
+
   -- a line that is read again adds what it says
-  said-line : (steps : List Step) (said : TapeLine) → IsReadAgain said → on_said m s steps (tape_line Model (content (line_of said))) ≡ Some (on_step m s steps (step_said said))
+  said-line : (steps : List Step) (said : TapeLine) → IsReadAgain said → on_said steps (tape_line Model (content (line_of said))) ≡ Some (on_step m s steps (step_said said))
   said-line steps said again =
-      ap (λ (text : List ℕ). on_said m s steps (tape_line Model text)) (content-line (words_of said)) ∙ ap (on_said m s steps) again.says
+      ap (λ (text : List ℕ). on_said steps (tape_line Model text)) (content-line (words_of said)) ∙ ap (on_said steps) again.says
 
   kept-step : (steps : List Step) (x : Option Step) → (on_step m s steps x).1 ≡ with_step x steps
   kept-step steps None = refl
@@ -60,10 +64,10 @@ module _ {S : Type 0} (m : Meaning S) (s : S) where
   abbrev further : Progress (List Step) → TapeLine → Progress (List Step)
   further p said = (one_further p (line_of said) (on_step m s p.kept (step_said said))).1
 
-  good-line : (p : Progress (List Step)) (said : TapeLine) → IsReadAgain said → p.bytes + length (line_of said) ≤ tape_limit
+  good-line : (p : Progress (List Step)) (said : TapeLine) → IsReadAgain said → p.bytes + length (line_of said) ≤ TAPE_LIMIT
       → next_line (model m s) p (line_of said) ≡ Some (one_further p (line_of said) (on_step m s p.kept (step_said said)))
   good-line p said again within =
-      ap (λ (t : Bool). cond t None (option_map (one_further p (line_of said)) (on_said m s p.kept (tape_line Model (content (line_of said)))))) (le-ltb tape_limit (p.bytes + length (line_of said)) within)
+      ap (λ (t : Bool). cond t None (option_map (one_further p (line_of said)) (on_said p.kept (tape_line Model (content (line_of said)))))) (le-ltb TAPE_LIMIT (p.bytes + length (line_of said)) within)
       ∙ ap (option_map (one_further p (line_of said))) (said-line p.kept said again)
 
   -- no line is bad, and these steps are kept
@@ -71,7 +75,7 @@ module _ {S : Type 0} (m : Meaning S) (s : S) where
     good : x.bad ≡ false
     kept : x.after.kept ≡ steps
 
-  lines-read : (lines : List TapeLine) (p : Progress (List Step)) → AreReadAgain lines → p.bytes + length (tape_text lines) ≤ tape_limit
+  lines-read : (lines : List TapeLine) (p : Progress (List Step)) → AreReadAgain lines → p.bytes + length (tape_text lines) ≤ TAPE_LIMIT
       → IsRead (read_lines (model m s) p (lines_of (tape_text lines))) (steps_after lines p.kept)
   lines-read [] p again within = record { good = refl; kept = refl }
   lines-read (said ∷ lines) p again within =

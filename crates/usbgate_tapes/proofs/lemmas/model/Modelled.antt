@@ -1,5 +1,5 @@
 -- What a step adds to the text of a modelled run, and to what it keeps.
-use Rattle.std.proofs.Common.{◌≡◌, ◌↔◌, ℕ, Bool, true, false, ◌||◌, not, IsTrue, List, [], ◌∷◌, ◌++◌, take, Option, Some, None, refl, sym, ap, ◌∙◌, subst}
+use Rattle.std.proofs.Common.{◌≡◌, ◌↔◌, ℕ, Bool, true, false, ◌||◌, not, IsTrue, List, [], ◌∷◌, ◌++◌, take, option_map, Option, Some, None, refl, sym, ap, ◌∙◌, subst}
 use Rattle.std.specs.List.{flat_map, list_any}
 use Rattle.std.proofs.Math.Bool.{or-false}
 use Rattle.usb_base.specs.declared.refusal.Refusal.{Refusal}
@@ -21,7 +21,7 @@ use Rattle.direct_run.specs.Steps.{Step, Client, ClientEnd, ToHost, ToGate, Perf
 use Rattle.direct_run.specs.Trace.{given_of, told_by}
 use Rattle.direct_run.specs.World.{Course, first_id, course, after_step, wire_to_gate}
 use Rattle.usbgate_tapes.specs.declared.model.ModelRun.{ModelRun}
-use Rattle.usbgate_tapes.specs.model.Model.{on_line, on_step, step_said, model}
+use Rattle.usbgate_tapes.specs.model.Model.{on_step, step_said, model}
 use Rattle.usbgate_tapes.specs.Replay.{has_refusal}
 use Rattle.usbgate_tapes.specs.Text.{told_text}
 use Rattle.usbgate_tapes.specs.inner.model.Model.{HasDone, TakesSaid, has_some}
@@ -69,7 +69,7 @@ pub line-told : {S : Type 0} (m : Meaning S) (s : S) (old new : ModelRun S) (ste
     tape_line Model content ≡ Some said → (Stands m s old.system steps → TakesSaid m s done steps (step_said said) outcome) → outcome ≡ Some told → new.system ≡ done → text_new ≡ text_old ++ told_text told → new.refused ≡ (old.refused || has_some told.refusals) →
     HasDone m s old steps → TakesLine (HasDone m s) ((model m s).line steps content) new text_old text_new
 line-told {S = S} m s old new steps content said done outcome told text_old text_new is takes outcome-is system-is text-is refused h =
-    subst (λ (x : Option TapeLine). TakesLine (HasDone m s) (on_line m s steps x) new text_old text_new) (sym is) (go (step_said said) taken)
+    subst (λ (x : Option TapeLine). TakesLine (HasDone m s) (option_map (λ (y : TapeLine). on_step m s steps (step_said y)) x) new text_old text_new) (sym is) (go (step_said said) taken)
   where
     taken : TakesSaid m s new.system steps (step_said said) (Some told)
     taken = subst (λ (k : SystemKept S). TakesSaid m s k steps (step_said said) (Some told)) (sym system-is)

@@ -6,10 +6,11 @@ use Rattle.std.proofs.lemmas.Option.{none-some, same_Some}
 use Rattle.std.proofs.Math.Seq.{take-add}
 use Rattle.usbgate_tapes.specs.declared.tape.reader.TapeReader.{TapeReader}
 use Rattle.usbgate_tapes.specs.declared.status.Status.{Status}
-use Rattle.usbgate_tapes.specs.declared.status.Status.TheVariants.{Done, Refused}
+use Rattle.usbgate_tapes.specs.declared.status.Status.TheVariants.{Done, Refused, BadTape}
 use Rattle.usbgate_tapes.specs.tape.Tape.{lines_of, content}
 use Rattle.usbgate_tapes.specs.Text.{bad_line}
-use Rattle.usbgate_tapes.specs.tape.TapeCommand.{TapeCommand, tape_limit, Progress, begin, one_further, next_line, Reading, on_line, read_lines, read_tape, last_text, tape_text, status_of, tape_status}
+use Rattle.usbgate_tapes.specs.declared.tape.lines.TheConstants.{TAPE_LIMIT}
+use Rattle.usbgate_tapes.specs.tape.TapeCommand.{TapeCommand, Progress, begin, one_further, next_line, Reading, on_line, read_lines, read_tape, last_text, tape_text, tape_status}
 use Rattle.usbgate_tapes.specs.Run.{EndsALine, HasNoLF}
 use Rattle.usbgate_tapes.specs.inner.tape.TapeReader.{IsKept, GoesOn, end_text, with_text, Stage, Spoilt, Took, Finished, Closes, Stepped, AllRead, TookLast, Spoils, TookLine, Kept}
 use Rattle.usbgate_tapes.proofs.lemmas.tape.Lines.{HasNoLF-append, EndsALine-append, EndsALine-line, lines_of-line, lines_of-last, first-part, line_end-some, line_end-none}
@@ -26,6 +27,10 @@ whole_line line front later e p =
 
 with_text-twice : {S : Type 0} (s t : List ℕ) (x : Reading S) → with_text s (with_text t x) ≡ with_text (s ++ t) x
 with_text-twice s t x = ap (λ (l : List ℕ). record x { text = l }) (sym (append_assoc s t x.text))
+
+-- how a reading ends
+abbrev status_of : {S : Type 0} → TapeCommand S → Reading S → Status
+status_of command x = cond x.bad (BadTape (x.after.lines + 1)) (cond (command.refused x.after.kept) Refused Done)
 
 abbrev bad_play : {S : Type 0} → Progress S → Reading S
 bad_play s = record { text = []; after = s; bad = true }
@@ -93,7 +98,7 @@ module _ {C S : Type 0} (command : TapeCommand S) (Keeps : C → S → Type 0) w
   line-bytes false s line x e = further-bytes s line (command.line s.kept (content line)) x e
 
   replay_line-bytes : (s : Progress S) (line : List ℕ) (x : List ℕ × Progress S) → next_line command s line ≡ Some x → x.1.bytes ≡ s.bytes + length line
-  replay_line-bytes s line x e = line-bytes (nat_lt tape_limit (s.bytes + length line)) s line x e
+  replay_line-bytes s line x e = line-bytes (nat_lt TAPE_LIMIT (s.bytes + length line)) s line x e
 
   stage-good : {old : TapeReader C} {read written : List ℕ} (new : TapeReader C) (piece front : List ℕ) (s : Stage command Keeps old read written) (o : Option (List ℕ × Progress S)) → old.pending ++ piece ≡ front ++ 10 ∷ []
       → HasNoLF front → next_line command s.at (old.pending ++ piece) ≡ o → GoesOn Keeps o new.lines old.text new.text → new.pending ≡ [] → Stage command Keeps new (read ++ piece) written
@@ -128,14 +133,14 @@ module _ {C S : Type 0} (command : TapeCommand S) (Keeps : C → S → Type 0) w
 
   -- ---- a part of a line
 
-  past_limit : (s : Progress S) (line more : List ℕ) → tape_limit < s.bytes + length line → next_line command s (line ++ more) ≡ None
+  past_limit : (s : Progress S) (line more : List ℕ) → TAPE_LIMIT < s.bytes + length line → next_line command s (line ++ more) ≡ None
   past_limit s line more past =
-      let over : nat_lt tape_limit (s.bytes + length (line ++ more)) ≡ true = lt-ltb tape_limit (s.bytes + length (line ++ more)) (omega (arith, length-append line more)) in
+      let over : nat_lt TAPE_LIMIT (s.bytes + length (line ++ more)) ≡ true = lt-ltb TAPE_LIMIT (s.bytes + length (line ++ more)) (omega (arith, length-append line more)) in
       ap (λ (t : Bool). cond t None (option_map (one_further s (line ++ more)) (command.line s.kept (content (line ++ more))))) over
 
   kept-spoilt : {old : TapeReader C} {read written : List ℕ} (new : TapeReader C) (status : Status) (piece : List ℕ) (s : Stage command Keeps old read written) (part : List ℕ) → old.pending ++ piece ≡ part → HasNoLF part
-      → tape_limit < s.at.bytes + length part → Spoils status s.at old.text new.text → Spoilt command Keeps status new (read ++ piece) written
-  kept-spoilt {old = old} new status piece s [] is none past h = let room_of : s.at.bytes + old.lines.room ≡ tape_limit = s.has_read.bytes in absurd (omega arith)
+      → TAPE_LIMIT < s.at.bytes + length part → Spoils status s.at old.text new.text → Spoilt command Keeps status new (read ++ piece) written
+  kept-spoilt {old = old} new status piece s [] is none past h = let room_of : s.at.bytes + old.lines.room ≡ TAPE_LIMIT = s.has_read.bytes in absurd (omega arith)
   kept-spoilt new status piece s (b ∷ bs) is none past h =
       spoilt-by new status piece s (λ later. (b ∷ bs) ++ (first-part b bs later none).more) (λ later. (first-part b bs later none).others)
       (λ later. ap (λ (l : List ℕ). lines_of (l ++ later)) is ∙ (first-part b bs later none).is) (λ later. past_limit s.at (b ∷ bs) (first-part b bs later none).more past) h
@@ -266,8 +271,8 @@ module _ {C S : Type 0} (command : TapeCommand S) (Keeps : C → S → Type 0) w
 
   -- ---- what may still come
 
-  pub room-is : {p : TapeReader C} {read written : List ℕ} → Stage command Keeps p read written → room_of p + length read ≡ tape_limit
-  room-is {p = p} s = let used : s.at.bytes + p.lines.room ≡ tape_limit = s.has_read.bytes in omega (arith, s.bytes-is, s.within, ap (λ (l : List ℕ). length l) s.read-is, length-append s.whole p.pending)
+  pub room-is : {p : TapeReader C} {read written : List ℕ} → Stage command Keeps p read written → room_of p + length read ≡ TAPE_LIMIT
+  room-is {p = p} s = let used : s.at.bytes + p.lines.room ≡ TAPE_LIMIT = s.has_read.bytes in omega (arith, s.bytes-is, s.within, ap (λ (l : List ℕ). length l) s.read-is, length-append s.whole p.pending)
 
   -- a piece takes of it
   pub room-falls : {p q : TapeReader C} {read written told : List ℕ} (piece : List ℕ) → Stage command Keeps p read written → Stage command Keeps q (read ++ piece) told → (piece ≡ [] → ⊥) → room_of q < room_of p

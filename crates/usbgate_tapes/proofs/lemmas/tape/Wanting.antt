@@ -7,7 +7,8 @@ use Rattle.std.proofs.Math.Seq.{take-add}
 use Rattle.usbgate_tapes.specs.declared.tape.reader.TapeReader.{TapeReader}
 use Rattle.usbgate_tapes.specs.Prescribed.{over_tape}
 use Rattle.usbgate_tapes.specs.tape.Tape.{lines_of, content}
-use Rattle.usbgate_tapes.specs.tape.TapeCommand.{TapeCommand, tape_limit, Progress, begin, next_line, Reading, on_line, read_lines, read_tape, front_text}
+use Rattle.usbgate_tapes.specs.declared.tape.lines.TheConstants.{TAPE_LIMIT}
+use Rattle.usbgate_tapes.specs.tape.TapeCommand.{TapeCommand, Progress, begin, next_line, Reading, on_line, read_lines, read_tape, front_text}
 use Rattle.usbgate_tapes.specs.Run.{EndsALine, HasNoLF}
 use Rattle.usbgate_tapes.specs.Wants.{IsJoined, LineWants, PieceWants, ReadWants}
 use Rattle.usbgate_tapes.specs.inner.tape.TapeReader.{with_text, Stage, AllRead, EndWants}
@@ -101,7 +102,7 @@ module _ {C S : Type 0} (command : TapeCommand S) (Keeps : C → S → Type 0) w
         part_of_line = s.part_of_line;
         good = whole-good s;
         some = omega (arith, ap (λ (l : List ℕ). length l) at.2, length-append front (10 ∷ []));
-        within = subst (λ (n : ℕ). n + length (old.pending ++ take (len + 1) (drop from piece)) ≤ tape_limit) s.bytes-is w.within;
+        within = subst (λ (n : ℕ). n + length (old.pending ++ take (len + 1) (drop from piece)) ≤ TAPE_LIMIT) s.bytes-is w.within;
         wants = inr (subst EndsALine (sym at.2) (EndsALine-line front), line-wants s (take (len + 1) (drop from piece)) front at.2 at.1 w.wants);
       }
 

@@ -8,7 +8,8 @@ use Rattle.usbgate_tapes.specs.declared.status.Status.{Status}
 use Rattle.usbgate_tapes.specs.declared.status.Status.TheVariants.{Done, Usage, Refused, ReadFault, WriteFault, LinkFault, OutOfMemory, BadTape, Idle, Spent}
 use Rattle.usbgate_tapes.specs.tape.Tape.{lines_of, content}
 use Rattle.usbgate_tapes.specs.Text.{bad_line}
-use Rattle.usbgate_tapes.specs.tape.TapeCommand.{TapeCommand, tape_limit, Progress, begin, next_line, Reading, read_lines, read_tape, tape_text, tape_status}
+use Rattle.usbgate_tapes.specs.declared.tape.lines.TheConstants.{TAPE_LIMIT}
+use Rattle.usbgate_tapes.specs.tape.TapeCommand.{TapeCommand, Progress, begin, next_line, Reading, read_lines, read_tape, tape_text, tape_status}
 use Rattle.usbgate_tapes.specs.Prescribed.{over_tape}
 use Rattle.usbgate_tapes.specs.Run.{EndsALine, HasNoLF, ComesToEnd}
 use Rattle.usbgate_tapes.specs.Logs.{HoldsOfRead, RunLeaves}
@@ -24,7 +25,7 @@ IsKept {C = C} Keeps kept = (c : C) × Keeps c kept
 pub record HasRead {C S : Type 0} (Keeps : C → S → Type 0) (l : TapeLines C) (s : Progress S) : Type 0 where
   pub keeps : Keeps l.command s.kept
   pub lines : l.lines ≡ s.lines
-  pub bytes : s.bytes + l.room ≡ tape_limit
+  pub bytes : s.bytes + l.room ≡ TAPE_LIMIT
   pub fewer : s.lines ≤ s.bytes
 
 -- of what a command makes of a line, the text is put behind the text
@@ -39,7 +40,7 @@ GoesOn Keeps (Some x) new text_old text_new = (text_new ≡ text_old ++ x.0) × 
 
 -- memory was wanting for the line after s: to join its parts, or it is good, and says something; it doesn't pass the limit
 pub record EndWants {S : Type 0} (command : TapeCommand S) (s : Progress S) (pending last : List ℕ) : Type 0 where
-  pub within : s.bytes + length (pending ++ last) ≤ tape_limit
+  pub within : s.bytes + length (pending ++ last) ≤ TAPE_LIMIT
   pub wants : IsJoined pending last ⊎ ((command.says (content (pending ++ last)) ≡ true) × (next_line command s (pending ++ last) ≢ None))
 
 -- ---- a tape
@@ -70,7 +71,7 @@ pub record Stage {C S : Type 0} (command : TapeCommand S) (Keeps : C → S → T
   pub whole_lines : EndsALine whole
   pub part_of_line : HasNoLF p.pending
   pub bytes-is : at.bytes ≡ length whole
-  pub within : at.bytes + length p.pending ≤ tape_limit
+  pub within : at.bytes + length p.pending ≤ TAPE_LIMIT
   pub text-is : written ++ p.text ≡ command.opening ++ text
   pub reads : (later : List ℕ) → read_lines command (begin command) (lines_of (whole ++ later)) ≡ with_text text (read_lines command at (lines_of later))
   pub has_read : HasRead Keeps p.lines at
@@ -129,8 +130,8 @@ TookLine command Keeps (Some status) s line old new = (next_line command s line 
 
 -- a part of a line is kept, unless the line passes the limit
 abbrev pub Kept : {C S : Type 0} → Option Status → Progress S → List ℕ → TapeReader C → TapeReader C → Type 0
-Kept None s part old new = (new ≡ record old { pending = part }) × (s.bytes + length part ≤ tape_limit)
-Kept (Some status) s part old new = (tape_limit < s.bytes + length part) × Spoils status s old.text new.text
+Kept None s part old new = (new ≡ record old { pending = part }) × (s.bytes + length part ≤ TAPE_LIMIT)
+Kept (Some status) s part old new = (TAPE_LIMIT < s.bytes + length part) × Spoils status s old.text new.text
 
 -- ---- a whole run
 
