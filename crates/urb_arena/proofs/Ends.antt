@@ -1,7 +1,7 @@
 -- A table is emptied, lane by lane, and its block goes back.
 use Rattle.std.proofs.Common.{◌≡◌, ℕ, zero, suc, ◌+◌, ◌<◌, ◌≤◌, ◌⊎◌, inl, inr, List, [], ◌∷◌, length, map, replicate, get_or, Option, Some, None, refl, ap, sym, ◌∙◌, arith}
 use Rattle.std.proofs.lemmas.Bool.{eq-eqb, cases_eq}
-use Rattle.urb_arena.specs.Inner.Turns.{ring_of, row, total, In}
+use Rattle.urb_arena.specs.Inner.Turns.{ring_of, row, In}
 use Rattle.urb_arena.specs.Lanes.{find, without, first_key, count, or_else, find_in}
 use Rattle.urb_arena.specs.Inner.Tables.{pairs, IsTable, lanes_of}
 use Rattle.urb_arena.specs.declared.table.Table.{Table}
