@@ -1,7 +1,7 @@
 //! Hosts that lend their devices live as the rows say.
 
-use crate::host_rows::*;
-use crate::laid_out::{bytes, is_row, none_is_wrong};
+use crate::tests::host_rows::*;
+use crate::tests::laid_out::{GoesByRows, bytes, goes_by};
 use model_device::{Gadget, Keyboard, Loopback, Tone};
 use redir_host::{HostCore, HostNote, Offered, Performed};
 use std::alloc::Global;
@@ -132,33 +132,15 @@ fn made<G: Gadget>(alloc: Global, gadget: G) -> Result<HostCore<G>, Memory> {
     HostCore::make(alloc, gadget, &mut out)
 }
 
-/// Whether a call sends and tells what its row says.
-fn goes<G: Gadget>(alloc: Global, core: &mut HostCore<G>, row: &str) -> Result<bool, Memory> {
-    let (call, rest) = row.split_once('|').unwrap_or((row, ""));
-    let (sent, told) = rest.split_once('|').unwrap_or((rest, ""));
-    let mut out = Bytes::new(alloc);
-    let came = called(alloc, core, call.trim(), &mut out)?;
-    Ok(is_told(came, told.trim()) && is_laid_out(alloc, &out, sent.trim())?)
-}
-
-/// The first row that the host doesn't go by.
-fn wrong_row<G: Gadget>(
-    alloc: Global,
-    core: &mut HostCore<G>,
-    rows: &'static str,
-) -> Result<&'static str, Memory> {
-    for line in rows.lines() {
-        let row = line.trim();
-        if is_row(row) && !goes(alloc, core, row)? {
-            return Ok(row);
-        }
+impl<G: Gadget> GoesByRows for HostCore<G> {
+    /// Whether a call sends and tells what its row says.
+    fn goes(&mut self, alloc: Global, row: &str) -> Result<bool, Fail> {
+        let (call, rest) = row.split_once('|').unwrap_or((row, ""));
+        let (sent, told) = rest.split_once('|').unwrap_or((rest, ""));
+        let mut out = Bytes::new(alloc);
+        let came = called(alloc, self, call.trim(), &mut out)?;
+        Ok(is_told(came, told.trim()) && is_laid_out(alloc, &out, sent.trim())?)
     }
-    Ok("")
-}
-
-/// The first row that a host of this device doesn't live by.
-fn lives<G: Gadget>(alloc: Global, gadget: G, rows: &'static str) -> Result<&'static str, Memory> {
-    wrong_row(alloc, &mut made(alloc, gadget)?, rows)
 }
 
 #[test]
@@ -187,22 +169,20 @@ const OF_A_LOOP: [&str; 12] = [
 #[test]
 fn a_loop_is_lent(rt: HostRuntime) -> Result<(), Fail> {
     for rows in OF_A_LOOP {
-        none_is_wrong(&rt, lives(rt.alloc(), Loopback::make(rt.alloc())?, rows)?);
+        let host = made(rt.alloc(), Loopback::make(rt.alloc())?)?;
+        goes_by(&rt, rt.alloc(), host, rows)?;
     }
     Ok(())
 }
 
 #[test]
 fn a_guest_streams_the_keyboard(rt: HostRuntime) -> Result<(), Fail> {
-    none_is_wrong(
-        &rt,
-        lives(rt.alloc(), Keyboard::make(rt.alloc())?, STREAMS)?,
-    );
-    Ok(())
+    let host = made(rt.alloc(), Keyboard::make(rt.alloc())?)?;
+    goes_by(&rt, rt.alloc(), host, STREAMS)
 }
 
 #[test]
 fn a_change_ends_the_streams_that_it_touches(rt: HostRuntime) -> Result<(), Fail> {
-    none_is_wrong(&rt, lives(rt.alloc(), Tone::make(rt.alloc())?, CHANGES)?);
-    Ok(())
+    let host = made(rt.alloc(), Tone::make(rt.alloc())?)?;
+    goes_by(&rt, rt.alloc(), host, CHANGES)
 }

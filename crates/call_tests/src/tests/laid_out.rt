@@ -50,13 +50,41 @@ const PACKETS: &str = "
 ";
 
 /// Whether a line is a row, and not empty or a comment.
-pub fn is_row(line: &str) -> bool {
+fn is_row(line: &str) -> bool {
     !line.is_empty() && !line.starts_with('#')
 }
 
-/// No row is wrong. One that is is told.
-pub fn none_is_wrong(rt: &impl Abort, row: &str) {
-    assert_eq!(rt; row, "");
+/// What is done, row by row, and says what came of it.
+pub trait GoesByRows: Drop {
+    /// Whether it goes as this row says.
+    fn goes(&mut self, alloc: Global, row: &str) -> Result<bool, Fail>;
+}
+
+/// The first row that it doesn't go by.
+fn wrong_row<S: GoesByRows>(
+    alloc: Global,
+    subject: &mut S,
+    rows: &'static str,
+) -> Result<&'static str, Fail> {
+    for line in rows.lines() {
+        let row = line.trim();
+        if is_row(row) && !subject.goes(alloc, row)? {
+            return Ok(row);
+        }
+    }
+    Ok("")
+}
+
+/// It goes by all rows. The first that it doesn't go by is told.
+pub fn goes_by<R: Abort, S: GoesByRows>(
+    rt: &R,
+    alloc: Global,
+    subject: S,
+    rows: &'static str,
+) -> Result<(), Fail> {
+    let mut subject = subject;
+    assert_eq!(rt; wrong_row(alloc, &mut subject, rows)?, "");
+    Ok(())
 }
 
 /// The bytes of what has this name. Other words are bytes themselves.

@@ -1,6 +1,6 @@
 //! Requests on endpoint 0, laid out from the standard (USB 2.0, 9.4).
 
-use crate::laid_out::{bytes, is_row, none_is_wrong, setup};
+use crate::tests::laid_out::{GoesByRows, bytes, goes_by, setup};
 use chapter9::{DescriptorSet, DevState, Parts, standard, walk};
 use std::alloc::Global;
 use std::test::Fail;
@@ -121,34 +121,35 @@ fn is_told(alloc: Global, outcome: &Outcome, after: &str, given: &str) -> Result
     Ok(is_so(outcome, UsbStatus::Success, bytes(alloc, given)?.as_slice()))
 }
 
-// Whether a request gives what its row says, and leaves the state that it says.
-fn goes(alloc: Global, set: &DescriptorSet, parts: &Parts, row: &str) -> Result<bool, Fail> {
-    let (before, rest) = row.split_once(' ').unwrap_or((row, ""));
-    let (asked, rest) = rest.split_once(' ').unwrap_or((rest, ""));
-    let (after, given) = rest.split_once(' ').unwrap_or((rest, ""));
-    let mut state = state_of(before);
-    let outcome = answer(alloc, set, parts, &mut state, setup(alloc, asked)?)?;
-    let left = if after == "refused" { before } else { after };
-    Ok(state == state_of(left) && is_told(alloc, &outcome, after, given)?)
+// A device that answers by its descriptors.
+#[derive(Drop)]
+struct Described {
+    set: DescriptorSet,
+    parts: Parts,
 }
 
-// The first row that a request doesn't go by.
-fn wrong_row(alloc: Global, set: &DescriptorSet, parts: &Parts) -> Result<&'static str, Fail> {
-    for line in ROWS.lines() {
-        let row = line.trim();
-        if is_row(row) && !goes(alloc, set, parts, row)? {
-            return Ok(row);
-        }
+impl GoesByRows for Described {
+    // Whether a request gives what its row says, and leaves the state that it says.
+    fn goes(&mut self, alloc: Global, row: &str) -> Result<bool, Fail> {
+        let (before, rest) = row.split_once(' ').unwrap_or((row, ""));
+        let (asked, rest) = rest.split_once(' ').unwrap_or((rest, ""));
+        let (after, given) = rest.split_once(' ').unwrap_or((rest, ""));
+        let mut state = state_of(before);
+        let outcome = answer(
+            alloc,
+            &self.set,
+            &self.parts,
+            &mut state,
+            setup(alloc, asked)?,
+        )?;
+        let left = if after == "refused" { before } else { after };
+        Ok(state == state_of(left) && is_told(alloc, &outcome, after, given)?)
     }
-    Ok("")
-}
-
-fn wrong_row_of(alloc: Global, set: &DescriptorSet) -> Result<&'static str, Fail> {
-    wrong_row(alloc, set, &walk(alloc, set.config.as_slice())?)
 }
 
 #[test]
 fn what_requests_give_and_change_and_what_is_refused(rt: HostRuntime) -> Result<(), Fail> {
-    none_is_wrong(&rt, wrong_row_of(rt.alloc(), &descriptors(rt.alloc())?)?);
-    Ok(())
+    let set = descriptors(rt.alloc())?;
+    let parts = walk(rt.alloc(), set.config.as_slice())?;
+    goes_by(&rt, rt.alloc(), Described { set, parts }, ROWS)
 }

@@ -4,7 +4,7 @@ ghost use Rattle.std.specs.Prelude.{◌≡◌, ◌<◌, ◌^◌, length, IfOk};
 ghost use Rattle.usb_base.specs.Endpoint.{IsEndpoint};
 ghost use Rattle.model_device.specs.Transfer.{IsTransfer};
 
-use crate::laid_out::{bytes, is_row, none_is_wrong, setup};
+use crate::tests::laid_out::{GoesByRows, bytes, goes_by, setup};
 use model_device::{Gadget, Keyboard, Loopback, Tone};
 use std::alloc::Global;
 use std::test::Fail;
@@ -182,48 +182,33 @@ fn is_so(alloc: Global, outcome: &Option<Outcome>, came: &str) -> Result<bool, M
     )
 }
 
-fn goes<G: Gadget>(alloc: Global, gadget: &mut G, row: &str) -> Result<bool, Fail> {
-    let (act, came) = row.split_once(" | ").unwrap_or((row, ""));
-    Ok(is_so(alloc, &done(alloc, gadget, act)?, came)?)
+/// A device, as a client has it.
+#[derive(Drop)]
+struct Attached<G: Gadget> {
+    gadget: G,
 }
 
-/// The first row that the device doesn't do.
-fn wrong_row<G: Gadget>(
-    alloc: Global,
-    gadget: &mut G,
-    life: &'static str,
-) -> Result<&'static str, Fail> {
-    for line in life.lines() {
-        let row = line.trim();
-        if is_row(row) && !goes(alloc, gadget, row)? {
-            return Ok(row);
-        }
+impl<G: Gadget> GoesByRows for Attached<G> {
+    fn goes(&mut self, alloc: Global, row: &str) -> Result<bool, Fail> {
+        let (act, came) = row.split_once(" | ").unwrap_or((row, ""));
+        Ok(is_so(alloc, &done(alloc, &mut self.gadget, act)?, came)?)
     }
-    Ok("")
-}
-
-fn lives<G: Gadget>(alloc: Global, gadget: G, life: &'static str) -> Result<&'static str, Fail> {
-    let mut gadget = gadget;
-    wrong_row(alloc, &mut gadget, life)
 }
 
 #[test]
 fn a_keyboard_presses_the_keys_in_turn(rt: HostRuntime) -> Result<(), Fail> {
-    none_is_wrong(
-        &rt,
-        lives(rt.alloc(), Keyboard::make(rt.alloc())?, KEYBOARD)?,
-    );
-    Ok(())
+    let gadget = Keyboard::make(rt.alloc())?;
+    goes_by(&rt, rt.alloc(), Attached { gadget }, KEYBOARD)
 }
 
 #[test]
 fn a_tone_sounds_in_its_second_setting(rt: HostRuntime) -> Result<(), Fail> {
-    none_is_wrong(&rt, lives(rt.alloc(), Tone::make(rt.alloc())?, TONE)?);
-    Ok(())
+    let gadget = Tone::make(rt.alloc())?;
+    goes_by(&rt, rt.alloc(), Attached { gadget }, TONE)
 }
 
 #[test]
 fn a_loop_gives_back_what_came(rt: HostRuntime) -> Result<(), Fail> {
-    none_is_wrong(&rt, lives(rt.alloc(), Loopback::make(rt.alloc())?, LOOP)?);
-    Ok(())
+    let gadget = Loopback::make(rt.alloc())?;
+    goes_by(&rt, rt.alloc(), Attached { gadget }, LOOP)
 }

@@ -1,5 +1,5 @@
 use Rattle.std.proofs.Common.{◌≡◌, []}
-use Rattle.call_tests.proofs.requests.three_requests.Given as goal
+use Rattle.call_tests.proofs.tests.requests.three_requests.Given as goal
 
 abbrev pub invariant-loop-number : goal.invariant-loop-number
 invariant-loop-number l = l.lives.abandoned ≡ []

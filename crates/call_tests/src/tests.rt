@@ -1,0 +1,14 @@
+//! The tests, by subject.
+
+mod descriptors;
+mod gadgets;
+mod host_rows;
+mod hosts;
+mod inbox;
+mod laid_out;
+mod lanes;
+mod outside;
+mod requests;
+mod scripts;
+mod setups;
+mod sockets;
