@@ -5,9 +5,9 @@ use Rattle.gate_sockets.specs.declared.step.Step.{Step}
 use Rattle.gate_sockets.specs.declared.step.Step.TheVariants.{Moved, Blocked, Cut, Broken}
 use Rattle.gate_sockets.specs.Ahead.{ReadsAhead}
 use Rattle.gate_sockets.specs.Calls.{Call, Calls, came, came_by, went, went_by, tries, tries_by, broken, broken_by}
-use Rattle.gate_sockets.specs.State.{State, untold, broke}
+use Rattle.gate_sockets.specs.State.{State, untold, broke, faulted}
 use Rattle.gate_sockets.specs.Step.{step_for, moved_of, IsStepWithin}
-use Rattle.gate_sockets.specs.Writing.{Called, Waited, Sent, Sends, WroteOnce, Takes}
+use Rattle.gate_sockets.specs.Writing.{most_tries, Called, Waited, Sent, Sends, WroteOnce, GivesUp, Takes}
 
 calls-join : {S : Type 0} (r w : S → List ℕ → Result ℕ Error → S → Type 0) (later earlier : List Call) (a b c : Option S) → Calls r w earlier a b → Calls r w later b c → Calls r w (later ++ earlier) a c
 calls-join r w [] earlier a b c x y = subst (λ s. Calls r w earlier a s) (sym y) x
@@ -46,20 +46,20 @@ called-join r w later earlier a b c x y =
 went-none : (later earlier : List Call) → went earlier [] ≡ [] → went (later ++ earlier) [] ≡ went later []
 went-none later earlier none = went-join later earlier [] ∙ ap (λ bytes. went later bytes) none
 
-pub waited-join : {S : Type 0} (r w : S → List ℕ → Result ℕ Error → S → Type 0) (n m : ℕ) (a b c : State S) → Waited r w n a b → Waited r w m b c → Waited r w (m + n) a c
-waited-join r w n m a b c x y = record {
+pub waited-join : {S : Type 0} {r w : S → List ℕ → Result ℕ Error → S → Type 0} {n m : ℕ} {a b c : State S} → Waited r w n a b → Waited r w m b c → Waited r w (m + n) a c
+waited-join {m = m} x y = record {
   calls = y.calls ++ x.calls;
-  called = called-join r w y.calls x.calls a b c x.called y.called;
+  called = called-join _ _ y.calls x.calls _ _ _ x.called y.called;
   none = went-none y.calls x.calls x.none ∙ y.none;
   count = tries-join y.calls x.calls ∙ ap (λ k. k + tries x.calls 0) y.count ∙ ap (λ k. m + k) x.count;
 }
 
-pub sends-join : {S : Type 0} (r w : S → List ℕ → Result ℕ Error → S → Type 0) (n k : ℕ) (piece : List ℕ) (a b c : State S) → Waited r w n a b → Sends r w k piece b c → Sends r w k piece a c
-sends-join r w n k piece a b c x y = record {
+pub sends-join : {S : Type 0} {r w : S → List ℕ → Result ℕ Error → S → Type 0} {n k : ℕ} {piece : List ℕ} {a b c : State S} → Waited r w n a b → Sends r w k piece b c → Sends r w k piece a c
+sends-join {k = k} {piece = piece} {c = c} x y = record {
   some = y.some;
   within = y.within;
   calls = y.calls ++ x.calls;
-  called = called-join r w y.calls x.calls a b c x.called y.called;
+  called = called-join _ _ y.calls x.calls _ _ _ x.called y.called;
   sent = subst (λ bytes. Sent k piece bytes c.broken) (sym (went-none y.calls x.calls x.none)) y.sent;
 }
 
@@ -93,18 +93,23 @@ calls-up r w (call ∷ calls) a b x =
     ap (λ s. is_some s) did.1 ∙ sym (ap (λ s. is_some s) did.0) ∙ calls-up r w calls a x.0 x.1.0
 
 -- calls tell nothing of what is to come
-pub called-untold : {S : Type 0} (r w : S → List ℕ → Result ℕ Error → S → Type 0) (calls : List Call) (a b : State S) → Called r w calls a b → untold b ≡ untold a
-called-untold r w calls a b x =
-    ap (λ s. untold s) x.rest ∙ ap (λ up. record (untold a) { up = up }) (calls-up r w calls a.stream b.stream x.chain)
+pub called-untold : {S : Type 0} {r w : S → List ℕ → Result ℕ Error → S → Type 0} {calls : List Call} {a b : State S} → Called r w calls a b → untold b ≡ untold a
+called-untold {a = a} x =
+    ap (λ s. untold s) x.rest ∙ ap (λ up. record (untold a) { up = up }) (calls-up _ _ _ _ _ x.chain)
 
-pub waited-untold : {S : Type 0} (r w : S → List ℕ → Result ℕ Error → S → Type 0) (n : ℕ) (a b : State S) → Waited r w n a b → untold b ≡ untold a
-waited-untold r w n a b x = called-untold r w x.calls a b x.called
+pub waited-untold : {S : Type 0} {r w : S → List ℕ → Result ℕ Error → S → Type 0} {n : ℕ} {a b : State S} → Waited r w n a b → untold b ≡ untold a
+waited-untold x = called-untold x.called
 
 -- one try more, and what is read on behind it
-pub tried-again : {S : Type 0} (r w : S → List ℕ → Result ℕ Error → S → Type 0) (n : ℕ) (a b c d : State S) → Waited r w n a b → Waited r w 1 b c → Waited r w 0 c d → Waited r w (n + 1) a d
-tried-again r w n a b c d x y z =
+pub tried-again : {S : Type 0} {r w : S → List ℕ → Result ℕ Error → S → Type 0} {n : ℕ} {a b c d : State S} → Waited r w n a b → Waited r w 1 b c → Waited r w 0 c d → Waited r w (n + 1) a d
+tried-again {r = r} {w = w} {n = n} {a = a} {d = d} x y z =
     let count : 0 + (1 + n) ≡ n + 1 = omega arith in
-    subst (λ k. Waited r w k a d) count (waited-join r w (1 + n) 0 a c d (waited-join r w n 1 a b c x y) z)
+    subst (λ k. Waited r w k a d) count (waited-join {n = 1 + n} {m = 0} (waited-join x y) z)
+
+-- a write was tried so often, and once more, and then given up
+pub given-up : {S : Type 0} {r w : S → List ℕ → Result ℕ Error → S → Type 0} {n : ℕ} {a b over new : State S} → Waited r w n a b → Waited r w 1 b over → 1 + n ≡ most_tries → over.broken ≡ false → new ≡ faulted over → GivesUp r w a new
+given-up {r = r} {w = w} {a = a} {over = over} x y all whole rest =
+    record { over = over; waited = subst (λ k. Waited r w k a over) all (waited-join x y); whole = whole; rest = rest }
 
 -- ---- one call
 

@@ -1,5 +1,5 @@
 -- Both sides' connections.
-use Rattle.std.proofs.Common.{◌≡◌, ℕ, List, Result, subst}
+use Rattle.std.proofs.Common.{◌≡◌, ℕ, List, Result, sym, subst}
 use Rattle.std.specs.declared.io.Error.{Error}
 use Rattle.usb_base.specs.declared.side.Side.{Side}
 use Rattle.usb_base.specs.declared.side.Side.TheVariants.{Client, Host}
@@ -13,5 +13,9 @@ read-both r w a b client host Client = client
 read-both r w a b client host Host = host
 
 -- where the side stood between, it is read on further
-pub read-further : {S : Type 0} (r w : S → List ℕ → Result ℕ Error → S → Type 0) (a b c d : State S) → Waited r w 0 a b → c ≡ b → Waited r w 0 c d → Waited r w 0 a d
-read-further r w a b c d x same z = waited-join r w 0 0 a b d x (subst (λ s. Waited r w 0 s d) same z)
+pub read-further : {S : Type 0} {r w : S → List ℕ → Result ℕ Error → S → Type 0} {a b c d : State S} → Waited r w 0 a b → c ≡ b → Waited r w 0 c d → Waited r w 0 a d
+read-further {r = r} {w = w} {d = d} x same z = waited-join {n = 0} {m = 0} x (subst (λ s. Waited r w 0 s d) same z)
+
+-- and where it stands behind
+pub read-same : {S : Type 0} {r w : S → List ℕ → Result ℕ Error → S → Type 0} {a b c : State S} → Waited r w 0 a b → c ≡ b → Waited r w 0 a c
+read-same {r = r} {w = w} {a = a} x same = subst (λ s. Waited r w 0 a s) (sym same) x
