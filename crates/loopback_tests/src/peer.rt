@@ -123,8 +123,14 @@ impl Peer {
         let Some(link) = self.link.as_ref() else {
             return Came::Wrong;
         };
-        match link.peek(&mut next) {
-            Ok(1) => {
+        let looked = link.peek(&mut next);
+        self.go_behind(looked, 1)
+    }
+
+    /// Closes its link where so many bytes are there: one, or none at the end.
+    fn go_behind(&mut self, looked: io::Result<usize>, count: usize) -> Came {
+        match looked {
+            Ok(there) if there == count => {
                 self.go();
                 Came::Done
             }
@@ -142,14 +148,8 @@ impl Peer {
 
     fn end(&mut self) -> Came {
         let mut next = [0; 1];
-        match self.read(&mut next) {
-            Ok(0) => {
-                self.go();
-                Came::Done
-            }
-            Err(error) if error.kind() == ErrorKind::WouldBlock => Came::NotYet,
-            _ => Came::Wrong,
-        }
+        let read = self.read(&mut next);
+        self.go_behind(read, 0)
     }
 }
 

@@ -41,8 +41,7 @@ pub fn run<S: Source, K: Sink, D: Doors, T: MakeTape>(
     doors: &mut D,
     recording: &mut T,
 ) -> Status
-    requires client_down { (D.link doors.old Client).up ≡ false }
-    requires host_down { (D.link doors.old Host).up ≡ false }
+    requires down { ((D.link doors.old Client).up ≡ false) × ((D.link doors.old Host).up ≡ false) }
     ensures leaves { (p : Prescribed) → prescribed (command_of (texts words.now)) ≡ Some p
         → RunLeaves S.read_gives K.write_gives S.remaining K.contents result p tape.old tape.new out.old out.new }
     ensures simulates { (device : ADevice) → command_of (texts words.now) ≡ Command.Model device → RunSimulates S.read_gives S.remaining result device tape.old tape.new }

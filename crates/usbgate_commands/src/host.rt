@@ -28,8 +28,7 @@ pub fn host<D: Doors, K: Sink>(
     doors: &mut D,
     out: &mut K,
 ) -> Status
-    requires client_down { (D.link doors.old Client).up ≡ false }
-    requires host_down { (D.link doors.old Host).up ≡ false }
+    requires down { ((D.link doors.old Client).up ≡ false) × ((D.link doors.old Host).up ≡ false) }
     requires idle { 1 ≤ lending.now.idle }
     ensures lends { RunLends D.call_gives D.link D.door (Told K.write_gives out.old out.new) result lending.now doors.old doors.new
         (K.faults out.old) (K.faults out.new) (K.contents out.old) (K.contents out.new) }
@@ -62,8 +61,7 @@ fn lend<G: Gadget, D: Doors, K: Sink>(
     doors: &mut D,
     out: &mut K,
 ) -> Status
-    requires client_down { (D.link doors.old Client).up ≡ false }
-    requires host_down { (D.link doors.old Host).up ≡ false }
+    requires down { ((D.link doors.old Client).up ≡ false) × ((D.link doors.old Host).up ≡ false) }
     requires idle { 1 ≤ lending.now.idle }
     ensures log { HasLog D.call_gives (LentStops G.meaning gadget) (Told K.write_gives out.old out.new) (terms_lent lending.now) (lent_sends G.meaning gadget) result doors.old doors.new }
     ensures ends { EndsOf (LentStops G.meaning gadget) (record { served = lent_sends G.meaning gadget; idle = lending.now.idle }) AtDoor result (outside (D.link doors.old) (D.door doors.old)) (outside (D.link doors.new) (D.door doors.new))

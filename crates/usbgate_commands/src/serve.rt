@@ -32,8 +32,7 @@ pub fn serve<D: Doors, K: Sink, T: MakeTape>(
     out: &mut K,
     recording: &mut T,
 ) -> Status
-    requires client_down { (D.link doors.old Client).up ≡ false }
-    requires host_down { (D.link doors.old Host).up ≡ false }
+    requires down { ((D.link doors.old Client).up ≡ false) × ((D.link doors.old Host).up ≡ false) }
     requires idle { 1 ≤ serving.now.idle }
     requires first_id { (1 ≤ serving.now.first_id) × (serving.now.first_id < 2 ^ 32) }
     ensures serves { RunServes D.call_gives D.link D.door (Told K.write_gives out.old out.new) result serving.now doors.old doors.new
@@ -88,8 +87,7 @@ fn between<D: Doors, K: Sink, T: Tape>(
     out: &mut K,
     tape: &mut T,
 ) -> Status
-    requires client_down { (D.link doors.old Client).up ≡ false }
-    requires host_down { (D.link doors.old Host).up ≡ false }
+    requires down { ((D.link doors.old Client).up ≡ false) × ((D.link doors.old Host).up ≡ false) }
     requires idle { 1 ≤ serving.now.idle }
     requires first_id { (1 ≤ serving.now.first_id) × (serving.now.first_id < 2 ^ 32) }
     requires made { T.made tape.old ≡ is_some serving.now.recording }

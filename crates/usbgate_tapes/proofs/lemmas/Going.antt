@@ -6,7 +6,7 @@ use Rattle.std.proofs.KnownBytes.{Appends-nil, Appends-trans, Consumes-nil, Cons
 use Rattle.gate_outside.specs.Faults.{Rose}
 use Rattle.gate_outside.specs.declared.fault.Failed.{Failed}
 use Rattle.gate_outside.specs.Front.{AppendsFront}
-use Rattle.gate_outside.specs.Moved.{Move, Moved, moved, Moves, MovesFront}
+use Rattle.gate_outside.specs.Moved.{Move, Moved, moved, MayFollow, Moves, MovesFront}
 use Rattle.usbgate_tapes.specs.declared.tape.reader.TapeReader.{TapeReader}
 use Rattle.usbgate_tapes.specs.declared.status.Status.{Status}
 use Rattle.usbgate_tapes.specs.declared.status.Status.TheVariants.{Done, Usage, Refused, ReadFault, WriteFault, LinkFault, OutOfMemory, BadTape, Idle, Spent}
@@ -16,7 +16,8 @@ use Rattle.usbgate_tapes.specs.tape.TapeCommand.{TapeCommand, begin, Reading, re
 use Rattle.usbgate_tapes.specs.Prescribed.{Prescribed, over_tape}
 use Rattle.usbgate_tapes.specs.Causes.{HasCauses, OpensNoLink}
 use Rattle.usbgate_tapes.specs.Run.{ReadInPart, WrittenInPart, WrittenWhole, LeavesTold, ComesToEnd}
-use Rattle.usbgate_tapes.specs.Wants.{ReadWants}
+use Rattle.usbgate_tapes.specs.Logs.{LeavesByLog}
+use Rattle.usbgate_tapes.specs.Wants.{ReadWants, RunsOut}
 use Rattle.usbgate_tapes.specs.inner.tape.TapeReader.{IsKept, Stage, Closes, Runs, end_text}
 use Rattle.usbgate_tapes.proofs.lemmas.tape.Stages.{text_begins}
 use Rattle.gate_outside.proofs.Moving.{moves-none, moves-append}
@@ -249,19 +250,25 @@ module _ {C T S K : Type 0} {command : TapeCommand T} {Keeps : C → T → Type 
   part-alone : {tape_old tape : S} {out_old out : K} {p : TapeReader C} (g : Goes command Keeps read_gives write_gives remaining contents tape_old tape out_old out p) → p.text ≡ [] → (later : List ℕ) → ReadInPart (over_tape command) ((moved g.reads ++ []) ++ later) (Some later) g.written
   part-alone g none later = subst (λ (l : List ℕ). ReadInPart (over_tape command) (l ++ later) (Some later) g.written) (sym (append-nil (moved g.reads))) (read-part g none later)
 
+  -- one read more was made, behind which nothing is written
+  one-read : {status : Status} {tape_old tape new : S} {out_old out : K} {p : TapeReader C} (buf : List ℕ) (answer : Result ℕ Failed) (g : Goes command Keeps read_gives write_gives remaining contents tape_old tape out_old out p) → read_gives tape buf answer new
+      → ((later : List ℕ) → MayFollow (record { bytes = buf; answer = answer } ∷ g.reads) later → LeavesTold status (over_tape command) (moved (record { bytes = buf; answer = answer } ∷ g.reads) ++ later) (Some later) g.written)
+      → (status ≡ OutOfMemory → RunsOut (over_tape command) (record { bytes = buf; answer = answer } ∷ g.reads) g.written) → LeavesByLog read_gives write_gives status (over_tape command) tape_old new out_old out
+  one-read {tape = tape} buf answer g gives leaves wants = record {
+    reads = record { bytes = buf; answer = answer } ∷ g.reads;
+    read = (tape, (g.read, gives));
+    written = g.written;
+    writes = g.writes;
+    leaves = leaves;
+    wants = wants;
+  }
+
   -- the read fails
   pub runs-read : {tape_old tape new : S} {out_old out : K} {p : TapeReader C} (buf : List ℕ) (failed : Failed) → Goes command Keeps read_gives write_gives remaining contents tape_old tape out_old out p → p.text ≡ [] → KeepsBytes (remaining tape) (remaining new) → read_gives tape buf (Err failed) new
       → Runs command Keeps read_gives write_gives remaining contents ReadFault tape_old new out_old out
   runs-read {tape_old = tape_old} {tape = tape} {new = new} {out_old = out_old} {out = out} buf failed g none kept gives = record {
     leaves = record {
-      by_log = record {
-        reads = record { bytes = buf; answer = Err failed } ∷ g.reads;
-        read = (tape, (g.read, gives));
-        written = g.written;
-        writes = g.writes;
-        leaves = λ later follows. part-alone g none later;
-        wants = λ e. read-memory e;
-      };
+      by_log = one-read buf (Err failed) g gives (λ later follows. part-alone g none later) (λ e. read-memory e);
       where_told = leaves-told ReadFault (over_tape command) (remaining tape_old) (remaining new) (contents out_old) (contents out) (moved g.reads) g.written
           (Consumes-kept (remaining tape_old) (remaining tape) (remaining new) (moved g.reads) g.consumed kept) g.wrote (λ later told. read-part g none later);
     };
@@ -281,14 +288,8 @@ module _ {C T S K : Type 0} {command : TapeCommand T} {Keeps : C → T → Type 
       → ReadWants (over_tape command) (moved g.reads) (take n buf) → Runs command Keeps read_gives write_gives remaining contents OutOfMemory tape_old new out_old out
   runs-memory {tape_old = tape_old} {tape = tape} {new = new} {out_old = out_old} {out = out} n buf g none read gives wants = record {
     leaves = record {
-      by_log = record {
-        reads = record { bytes = buf; answer = Ok n } ∷ g.reads;
-        read = (tape, (g.read, gives));
-        written = g.written;
-        writes = g.writes;
-        leaves = λ later follows. memory-part g (take n buf) later;
-        wants = λ e. (subst (λ (l : List ℕ). ReadInPart (over_tape command) l (Some []) g.written) (append-nil (moved g.reads)) (read-part g none []), wants);
-      };
+      by_log = one-read buf (Ok n) g gives (λ later follows. memory-part g (take n buf) later)
+          (λ e. (subst (λ (l : List ℕ). ReadInPart (over_tape command) l (Some []) g.written) (append-nil (moved g.reads)) (read-part g none []), wants));
       where_told = leaves-told OutOfMemory (over_tape command) (remaining tape_old) (remaining new) (contents out_old) (contents out) (moved g.reads ++ take n buf) g.written
           (Consumes-trans (remaining tape_old) (remaining tape) (remaining new) (moved g.reads) (take n buf) g.consumed read) g.wrote (λ later told. memory-part g (take n buf) later);
     };

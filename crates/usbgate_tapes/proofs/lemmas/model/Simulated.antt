@@ -23,6 +23,12 @@ use Rattle.usbgate_tapes.specs.inner.tape.TapeReader.{ReadsTo}
 use Rattle.usbgate_tapes.proofs.lemmas.Going.{comes-too}
 use Rattle.usbgate_tapes.proofs.lemmas.model.Loaded.{kept-made}
 
+-- of a device as it was made, which is the one that is named
+pub simulated-as : {S T : Type 0} (read_gives : T → List ℕ → Result ℕ Failed → T → Type 0) (remaining : T → Option (List ℕ)) (status : Status) (m : Meaning S) (old new : T) {device named : Device} {s t : S} → device ≡ named → s ≡ t
+    → (AreSimulated read_gives remaining status m t old new → RunSimulates read_gives remaining status named old new) → AreSimulated read_gives remaining status m s old new → RunSimulates read_gives remaining status device old new
+simulated-as read_gives remaining status m old new is made as_named h =
+    subst (λ d. RunSimulates read_gives remaining status d old new) (sym is) (as_named (subst (λ s. AreSimulated read_gives remaining status m s old new) made h))
+
 -- the law of systems
 abbrev pub SystemsAreDirect : {S : Type 0} → Meaning S → Type 0
 SystemsAreDirect {S = S} m = (first : S) (kept : SystemKept S) (steps : List Step) → Stands m first kept steps → Simulates m first steps
