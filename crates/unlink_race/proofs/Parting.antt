@@ -1,6 +1,6 @@
 -- Keys in the order of their numbers: where a search parts them, what it finds there, and what a change makes of them.
-use Rattle.std.proofs.Common.{◌≡◌, ◌==◌, ◌&&◌, ℕ, ◌+◌, ◌-◌, ◌<◌, ◌≤◌, Bool, true, false, cond, ltb, List, [], ◌∷◌, ◌++◌, length, take, drop, get_or, Option, Some, None, IsSome, option_map, refl, ap, sym, ◌∙◌, arith}
-use Rattle.std.specs.List.{find, insert, position, position_or_len, remove, slice_get}
+use Rattle.std.proofs.Common.{◌≡◌, ◌==◌, ◌&&◌, ℕ, ◌+◌, ◌<◌, ◌≤◌, Bool, true, false, cond, ltb, List, [], ◌∷◌, ◌++◌, length, drop, get_or, Option, Some, None, IsSome, option_map, refl, ap, sym, ◌∙◌, arith}
+use Rattle.std.specs.List.{find, insert, list_any, position, position_or_len, remove, slice_get}
 use Rattle.std.specs.List.Sorted.{IsNonDecreasingBy, IsPartitionPoint}
 use Rattle.std.proofs.lemmas.Bool.{ne_eqb, ltb-true, ltb-false}
 use Rattle.std.proofs.lemmas.List.{length-drop}
@@ -14,7 +14,7 @@ use Rattle.unlink_race.specs.Inner.Indexed.{number_by, any_by, found_by, is_pair
 use Rattle.unlink_race.specs.Inner.Listed.{Distinct}
 use Rattle.unlink_race.proofs.Firsts.{remove_first, position_found, is_some-position}
 use Rattle.unlink_race.proofs.Indexes.{Pairs, leads, pair_there, ordering_pushed, ordering_removed, column_pushed, column_removed, column_has}
-use Rattle.unlink_race.proofs.Ordered.{number_of, inserted, find_here, find_past, place_behind, any_behind, rises_without, from_place}
+use Rattle.unlink_race.proofs.Ordered.{number_of, inserted, find_here, find_past, place_behind, any_behind, rises_without}
 use Rattle.unlink_race.proofs.Zipped.{key_of}
 
 abbrev key_in : ℕ × ℕ → ℕ
@@ -71,19 +71,19 @@ module _ {by : By} {requests : List (ℕ × Live)} {ps : Pairs} (o : IsOrderOf b
       let less = before k d below in
       ap (λ b. b && ((get_or ps k d).1 == key)) (ne_eqb (get_or ps k d).0 (number_by by x) (λ same. omega (arith, less, same)))
 
-  key_there : IsSome (position (is_pair (number_by by x) key) (drop first ps))
+  pub key_there : IsSome (position (is_pair (number_by by x) key) (drop first ps))
   key_there =
       is_some-position (is_pair (number_by by x) key) (drop first ps) ∙ any_behind (is_pair (number_by by x) key) ps first within not_before
       ∙ pair_there o.ordering (number_by by x) key (column_has (any_by by) (number_by by) requests i (key, x) at found)
 
   module _ (j : ℕ) (is : position (is_pair (number_by by x) key) (drop first ps) ≡ Some j) where
-    place_in : first + j < length ps
+    pub place_in : first + j < length ps
     place_in =
         let behind = position_found (is_pair (number_by by x) key) (drop first ps) j is in
         let short = length-drop first ps in
         omega (arith, behind.1, short)
 
-    order_left : Distinct key_of requests → IsOrderOf by (remove requests i) (remove ps (first + j))
+    pub order_left : Distinct key_of requests → IsOrderOf by (remove requests i) (remove ps (first + j))
     order_left apart =
         let behind = position_found (is_pair (number_by by x) key) (drop first ps) j is in
         let place : first + j ≡ position_or_len (is_pair (number_by by x) key) ps = ap (λ m. first + m) behind.0 ∙ sym (place_behind (is_pair (number_by by x) key) ps first within not_before) in
@@ -92,26 +92,3 @@ module _ {by : By} {requests : List (ℕ × Live)} {ps : Pairs} (o : IsOrderOf b
           rises = rises_without number_of ps (first + j) place_in o.rises;
           ordering = rw (column_removed (any_by by) (number_by by) requests i (key, x) at apart, found, left) (ordering_removed o.ordering (number_by by x) key (column_has (any_by by) (number_by by) requests i (key, x) at found));
         }
-
--- it is looked for from the place on where a search of its number stops
-module _ {by : By} {requests : List (ℕ × Live)} {ps : Pairs} (o : IsOrderOf by requests ps) (i key : ℕ) (x : Live) (at : slice_get requests i ≡ Some (key, x)) (found : any_by by x ≡ true)
-    (n first : ℕ) (number : n ≡ number_by by x) (searched looked : Pairs) (same : searched ≡ ps) (again : looked ≡ ps) (bound : first ≤ length searched) (parted : IsNonDecreasingBy number_of searched → Parted searched first n)
-    (behind : Option ℕ) (is : behind ≡ position (is_pair n key) (take (length looked - first) (drop first looked))) where
-  its_place : behind ≡ position (is_pair (number_by by x) key) (drop first ps)
-  its_place = is ∙ ap (position (is_pair n key)) (from_place looked first ∙ ap (drop first) again) ∙ ap (λ m. position (is_pair m key) (drop first ps)) number
-
-  within_all : first ≤ length ps
-  within_all = rw same at bound
-
-  lesser : Before ps first (number_by by x)
-  lesser = let at_once = rw (same, number) at parted in (at_once o.rises).0
-
-  pub taken_there : IsSome behind
-  taken_there = rw its_place (key_there o i key x at found first within_all lesser)
-
-  module _ (j : ℕ) (told : behind ≡ Some j) where
-    pub taken_inside : first + j < length ps
-    taken_inside = place_in o i key x at found first within_all lesser j (sym its_place ∙ told)
-
-    pub order_taken : Distinct key_of requests → IsOrderOf by (remove requests i) (remove ps (first + j))
-    order_taken = order_left o i key x at found first within_all lesser j (sym its_place ∙ told)

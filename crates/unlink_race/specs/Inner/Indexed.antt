@@ -1,5 +1,5 @@
 -- How the requests are found by a number.
-use Rattle.std.specs.Prelude.{◌≡◌, ◌==◌, ◌&&◌, ◌<◌, ◌≤◌, ℕ, Bool, true, List, [], ◌∷◌, length, filter, get_or, if◌then◌else◌}
+use Rattle.std.specs.Prelude.{◌≡◌, ◌==◌, ◌&&◌, ◌<◌, ◌≤◌, ℕ, Bool, true, ⊤, List, [], ◌∷◌, length, map, filter, get_or, Option, Some, option_map, if◌then◌else◌}
 use Rattle.std.specs.List.{count_by, zip}
 use Rattle.std.specs.List.Sorted.{IsNonDecreasingBy}
 use Rattle.unlink_race.specs.declared.live.Live.{Live}

@@ -1,4 +1,4 @@
-use Rattle.std.proofs.Common.{◌+◌, length, set, ap, ◌∙◌, length-set}
+use Rattle.std.proofs.Common.{◌+◌, length, set, ap, sym, ◌∙◌, length-set}
 use Rattle.std.specs.List.{copy_within}
 use Rattle.unlink_race.proofs.Moves.{refilled, opened}
 use Rattle.unlink_race.proofs.queue.put_at.Goals as goal
