@@ -3,7 +3,7 @@ use Rattle.std.proofs.Common.{◌≡◌, ◌≢◌, ◌==◌, ◌&&◌, ℕ, zer
 use Rattle.std.specs.List.{find, list_any, remove, slice_get, zip}
 use Rattle.std.proofs.lemmas.Bool.{eq-eqb, ne_eqb, cases_eq, cases_Bool, false≢true}
 use lib.ListN.{length-set}
-use Rattle.std.proofs.lemmas.List.{length-append}
+use Rattle.std.proofs.lemmas.List.{length-append, length-map}
 use Rattle.std.proofs.lemmas.List.Edits.{length-remove}
 use Rattle.std.proofs.lemmas.List.Sums.{count_by-le-length}
 use Rattle.std.proofs.lemmas.List.Elements.{filter-append}
@@ -205,19 +205,22 @@ module _ (any : Live → Bool) (number : Live → ℕ) where
 pub zip_short : (keys : List ℕ) (lives : List Live) → length keys ≡ length lives → length (zip keys lives) ≤ length lives
 zip_short keys lives long = let e = length-zip keys lives in omega (arith, e, long)
 
-module _ {by : By} {requests : List (ℕ × Live)} {ps : Pairs} (o : IsOrderOf by requests ps) where
-  pub order_short : length ps ≤ length requests
-  order_short = let b = o.ordering in let c = b.size in let d = column_short (any_by by) (number_by by) requests in omega (arith, c, d)
+module _ {by : By} {requests : List (ℕ × Live)} {keys : List ℕ} (o : IsOrderOf by requests keys) where
+  long_order : length keys ≡ length o.pairs
+  long_order = ap length o.keys_are ∙ length-map o.pairs (λ (p : ℕ × ℕ). p.1)
+
+  pub order_short : length keys ≤ length requests
+  order_short = let a = long_order in let b = o.ordering in let c = b.size in let d = column_short (any_by by) (number_by by) requests in omega (arith, a, c, d)
 
   -- by each name of the column
-  pub same_column : (others : List (ℕ × Live)) → column (any_by by) (number_by by) others ≡ column (any_by by) (number_by by) requests → IsOrderOf by others ps
-  same_column others same = record { rises = o.rises; ordering = rw same o.ordering }
+  pub same_column : (others : List (ℕ × Live)) → column (any_by by) (number_by by) others ≡ column (any_by by) (number_by by) requests → IsOrderOf by others keys
+  same_column others same = record { pairs = o.pairs; keys_are = o.keys_are; rises = o.rises; ordering = rw same o.ordering }
 
-  pub leads : (n : ℕ) → option_map (λ (p : ℕ × ℕ). p.1) (find (λ (p : ℕ × ℕ). p.0 == n) ps) ≡ option_map (λ (r : ℕ × Live). r.0) (find (λ (r : ℕ × Live). found_by by n r.1) requests)
+  pub leads : (n : ℕ) → option_map (λ (p : ℕ × ℕ). p.1) (find (λ (p : ℕ × ℕ). p.0 == n) o.pairs) ≡ option_map (λ (r : ℕ × Live). r.0) (find (λ (r : ℕ × Live). found_by by n r.1) requests)
   leads n = ap (option_map (λ (p : ℕ × ℕ). p.1)) (same_first o.ordering n) ∙ column_found (any_by by) (number_by by) n requests
 
-pub order_of : {by : By} {requests others : List (ℕ × Live)} {ps : Pairs} → others ≡ requests → IsOrderOf by requests ps → IsOrderOf by others ps
-order_of {by = by} {ps = ps} same o = let P : List (ℕ × Live) → Type 0 = λ rs. IsOrderOf by rs ps in subst P (sym same) o
+pub order_of : {by : By} {requests others : List (ℕ × Live)} {keys : List ℕ} → others ≡ requests → IsOrderOf by requests keys → IsOrderOf by others keys
+order_of {by = by} {keys = keys} same o = let P : List (ℕ × Live) → Type 0 = λ rs. IsOrderOf by rs keys in subst P (sym same) o
 
 module _ {keys : List ℕ} {lives : List Live} {index : Index} (s : IsIndexed keys lives index) where
   pub index_changed : (i : ℕ) (x y : Live) → slice_get lives i ≡ Some x → y.kind ≡ x.kind → y.seqnum ≡ x.seqnum → y.id ≡ x.id → IsIndexed keys (set lives i y) index

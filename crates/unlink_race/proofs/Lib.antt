@@ -14,7 +14,7 @@ pub mod Moves
 pub mod Ordered
 pub mod Passing
 pub mod Placing
-pub mod Parting
+pub mod Reading
 pub mod Rising
 pub mod Rows
 pub mod Tables

@@ -10,7 +10,7 @@ use Rattle.urb_arena.specs.Seen.{Seen, seen}
 use Rattle.urb_arena.specs.Lanes.{without, replaced, count}
 use Rattle.unlink_race.specs.declared.live.Live.{Live}
 use Rattle.unlink_race.specs.declared.index.Index.{Index}
-use Rattle.unlink_race.specs.Inner.Indexed.{IsIndexed}
+use Rattle.unlink_race.specs.Inner.Indexed.{Stand, IsIndexed}
 use Rattle.unlink_race.specs.Inner.Lane.{lane_of}
 use Rattle.unlink_race.specs.Inner.Placed.{keys_of, ArePlaced}
 use Rattle.unlink_race.specs.Inner.Sound.{entry_of, in_order, lives_of, numbers_of, Rises, IsSound}
@@ -18,6 +18,7 @@ use Rattle.unlink_race.proofs.Columns.{map-remove, map-set, map_unchanged}
 use Rattle.unlink_race.proofs.Ids.{no_live}
 use Rattle.unlink_race.proofs.Lanes.{found_pushed, others_pushed, count_pushed, others_removed, found_replaced, others_replaced, count_replaced}
 use Rattle.unlink_race.proofs.Placing.{placed_pushed, placed_removed, keys_replaced}
+use Rattle.unlink_race.proofs.Reading.{stand_all}
 use Rattle.unlink_race.proofs.Rows.{SameBut, length-listed, took_at, put_last, changed_at}
 use Rattle.unlink_race.proofs.Zipped.{itself, zip_pushed, zip_removed, zip_at, kept_zipped, placed_written}
 
@@ -52,6 +53,9 @@ module _ {arena : Seen (ℕ × Live)} {keys : List ℕ} (s : IsSound arena keys)
 
   placed : ArePlaced 0 (keys_of arena) (zip keys xs)
   placed = by_keys refl (ap (zip keys) (sym v)) s.placed
+
+  pub standing : Stand arena.lanes (zip keys xs)
+  standing = let P : List Live → Type 0 = λ ys. Stand arena.lanes (zip keys ys) in subst P v (stand_all arena.lanes keys s.kept)
 
   -- the key at a place leads to the request there
   pub read_at : (i k : ℕ) (entry : ℕ × Live) → i < length xs → k ≡ get_or keys i k → entry_of arena k ≡ Some entry → slice_get xs i ≡ Some entry.1

@@ -1,21 +1,21 @@
-//! Keys in the order of a number that their requests have, each behind that number: a search for a number doesn't walk,
-//! and reads no request. Most requests come with a number above all others, and end first of all: a search looks at
-//! both ends before it halves what is between.
+//! Keys in the order of a number that their requests have: a search for a number doesn't walk. Most requests come with
+//! a number above all others, and end first of all: a search looks at both ends before it halves what is between.
 
-ghost use Rattle.std.specs.Prelude.{◌≡◌, ◌<◌, ◌≤◌, ◌+◌, ◌++◌, ℕ, true, List, [], ◌∷◌, length, remove, slice_get, Some, option_map};
+ghost use Rattle.std.specs.Prelude.{◌≡◌, ◌==◌, ◌<◌, ◌≤◌, ◌+◌, ◌++◌, ℕ, true, List, [], ◌∷◌, length, map, remove, slice_get, Some, option_map};
 ghost use Rattle.std.specs.List.{find, position};
 ghost use Rattle.std.specs.List.Sorted.{IsNonDecreasingBy};
+ghost use Rattle.std.specs.Option.{option_cmp};
+ghost use Rattle.std.specs.Ordering.{nat_cmp};
+ghost use Rattle.urb_arena.specs.Lanes.{find_in};
 ghost use Rattle.unlink_race.specs.declared.live.Live.{Live};
 ghost use Rattle.unlink_race.specs.Inner.Listed.{Distinct};
-ghost use Rattle.unlink_race.specs.Inner.Indexed.{number_by, any_by, found_by, is_pair, Before, Behind, IsOrderOf};
+ghost use Rattle.unlink_race.specs.Inner.Indexed.{number_by, any_by, found_by, number_at, Before, Behind, Reads, Stand, IsOrderOf};
 
+use crate::keys::Keys;
 use crate::live::Live;
-use crate::queue::Queue;
-use urb_arena::Key;
+use std::cmp::Ordering;
+use urb_arena::{Arena, Key};
 use usbip_urb::MAX_LIVE;
-
-/// A number, and the key of the request that has it.
-pub type Numbered = (u64, Key);
 
 /// What requests are found by.
 #[derive(Clone, Copy)]
@@ -37,69 +37,77 @@ impl By {
     }
 }
 
-// Where the first of this number stands, or would: those before it have lesser numbers, and those from it on don't.
-fn place_before(keys: &[Numbered], number: u64) -> usize
-    ensures bound { result ≤ length keys.now }
-    ensures parted { IsNonDecreasingBy (λ (p : ℕ × ℕ). p.0) keys.now → Before keys.now result number × Behind keys.now result number }
+fn number_of(arena: &Arena<(u64, Live)>, key: Key, by: By) -> Option<u64>
+    ensures { result ≡ number_at by arena.now.lanes key }
 {
-    if keys.is_empty() {
+    Some(by.of(&arena.get(key)?.1))
+}
+
+// How the number of a key's request compares to this one.
+fn compared(arena: &Arena<(u64, Live)>, key: Key, by: By, number: u64) -> Ordering
+    ensures { result ≡ option_cmp nat_cmp (number_at by arena.now.lanes key) (Some number) }
+{
+    number_of(arena, key, by).cmp(&Some(number))
+}
+
+// Where the first of this number stands, or would: those before it have lesser numbers, and those from it on don't.
+fn place_before(arena: &Arena<(u64, Live)>, keys: &[Key], by: By, number: u64) -> usize
+    ensures bound { result ≤ length keys.now }
+    ensures parted { (pairs : List (ℕ × ℕ)) → keys.now ≡ map (λ p. p.1) pairs → Reads by arena.now.lanes pairs → IsNonDecreasingBy (λ p. p.0) pairs → Before pairs result number × Behind pairs result number }
+{
+    if keys.is_empty() || !compared(arena, keys[0], by, number).is_lt() {
         return 0;
     }
-    if number <= keys[0].0 {
-        return 0;
-    }
-    if keys[keys.len() - 1].0 < number {
+    if compared(arena, keys[keys.len() - 1], by, number).is_lt() {
         return keys.len();
     }
-    keys.partition_point(|key| key.0 < number)
+    keys.partition_point(|key| compared(arena, *key, by, number).is_lt())
 }
 
 // Where one more of this number comes: those before it have no greater numbers, and those from it on have.
-fn place_behind(keys: &[Numbered], number: u64) -> usize
+fn place_behind(arena: &Arena<(u64, Live)>, keys: &[Key], by: By, number: u64) -> usize
     ensures bound { result ≤ length keys.now }
-    ensures parted { IsNonDecreasingBy (λ (p : ℕ × ℕ). p.0) keys.now → Before keys.now result (number + 1) × Behind keys.now result (number + 1) }
+    ensures parted { (pairs : List (ℕ × ℕ)) → keys.now ≡ map (λ p. p.1) pairs → Reads by arena.now.lanes pairs → IsNonDecreasingBy (λ p. p.0) pairs → Before pairs result (number + 1) × Behind pairs result (number + 1) }
 {
-    if keys.is_empty() {
-        return 0;
-    }
-    if keys[keys.len() - 1].0 <= number {
+    if keys.is_empty() || compared(arena, keys[keys.len() - 1], by, number).is_le() {
         return keys.len();
     }
-    keys.partition_point(|key| key.0 <= number)
+    keys.partition_point(|key| compared(arena, *key, by, number).is_le())
 }
 
-fn place_of(keys: &[Numbered], number: u64, key: Key) -> Option<usize>
-    ensures { result ≡ position (is_pair number key) keys.now }
+fn place_of(keys: &[Key], key: Key) -> Option<usize>
+    ensures { result ≡ position (λ k. k == key) keys.now }
 {
-    keys.iter()
-        .position(|held| held.0 == number && held.1 == key)
+    keys.iter().position(|held| *held == key)
 }
 
 /// The key of the first request of this number.
-pub fn first(keys: &[Numbered], number: u64) -> Option<Key>
-    ensures { (by : By) (requests : List (ℕ × Live)) → IsOrderOf by requests keys.now → result ≡ option_map (λ (r : ℕ × Live). r.0) (find (λ (r : ℕ × Live). found_by by number r.1) requests) }
+pub fn first(arena: &Arena<(u64, Live)>, keys: &[Key], by: By, number: u64) -> Option<Key>
+    ensures { (requests : List (ℕ × Live)) → Stand arena.now.lanes requests → IsOrderOf by requests keys.now → result ≡ option_map (λ (r : ℕ × Live). r.0) (find (λ (r : ℕ × Live). found_by by number r.1) requests) }
 {
-    let key = *keys.get(place_before(keys, number))?;
-    if key.0 == number { Some(key.1) } else { None }
+    let key = *keys.get(place_before(arena, keys, by, number))?;
+    if compared(arena, key, by, number).is_eq() {
+        Some(key)
+    } else {
+        None
+    }
 }
 
 /// Puts the key of a request behind those that have its number.
-pub fn put(keys: &mut Queue<Numbered>, by: By, key: Key, live: &Live)
+pub fn put(arena: &Arena<(u64, Live)>, keys: &mut Keys, by: By, key: Key, live: &Live)
     requires { length keys.old < MAX_LIVE }
-    ensures { (requests : List (ℕ × Live)) → IsOrderOf by requests keys.old → any_by by live.now ≡ true → IsOrderOf by (requests ++ (key, live.now) ∷ []) keys.new }
+    ensures { (requests : List (ℕ × Live)) → Stand arena.now.lanes requests → IsOrderOf by requests keys.old → any_by by live.now ≡ true → IsOrderOf by (requests ++ (key, live.now) ∷ []) keys.new }
 {
-    let number = by.of(live);
-    let place = place_behind(keys, number);
-    keys.insert(place, (number, key));
+    let place = place_behind(arena, keys, by, by.of(live));
+    keys.insert(place, key);
 }
 
 /// Takes the key of a request out.
-pub fn take(keys: &mut Queue<Numbered>, by: By, key: Key, live: &Live)
-    requires { (requests : List (ℕ × Live)) × (place : ℕ) × IsOrderOf by requests keys.old × (any_by by live.now ≡ true) × (slice_get requests place ≡ Some (key, live.now)) }
-    ensures { (requests : List (ℕ × Live)) (place : ℕ) → IsOrderOf by requests keys.old → any_by by live.now ≡ true → slice_get requests place ≡ Some (key, live.now) → Distinct (λ (r : ℕ × Live). r.0) requests → IsOrderOf by (remove requests place) keys.new }
+pub fn take(arena: &Arena<(u64, Live)>, keys: &mut Keys, by: By, key: Key, live: &Live)
+    requires { (requests : List (ℕ × Live)) × (place : ℕ) × Stand arena.now.lanes requests × IsOrderOf by requests keys.old × (any_by by live.now ≡ true) × (slice_get requests place ≡ Some (key, live.now)) }
+    ensures { (requests : List (ℕ × Live)) (place : ℕ) → Stand arena.now.lanes requests → IsOrderOf by requests keys.old → any_by by live.now ≡ true → slice_get requests place ≡ Some (key, live.now) → Distinct (λ (r : ℕ × Live). r.0) requests → IsOrderOf by (remove requests place) keys.new }
 {
-    let number = by.of(live);
-    let first = place_before(keys, number);
-    let behind = place_of(&keys[first..], number, key);
+    let first = place_before(arena, keys, by, by.of(live));
+    let behind = place_of(&keys[first..], key);
     keys.remove(first + behind.unwrap());
 }

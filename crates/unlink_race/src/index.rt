@@ -5,40 +5,40 @@ ghost use Rattle.std.specs.List.{find, list_any, zip};
 ghost use Rattle.unlink_race.specs.declared.live.Live.{Live};
 ghost use Rattle.unlink_race.specs.Searches.{changes};
 ghost use Rattle.unlink_race.specs.Inner.Listed.{Distinct};
-ghost use Rattle.unlink_race.specs.Inner.Indexed.{IsIndexed, IsOrderOf, found_by};
+ghost use Rattle.unlink_race.specs.Inner.Indexed.{Stand, IsIndexed, IsOrderOf, found_by};
 
-use crate::by_number::{By, Numbered, first, put, take};
+use crate::by_number::{By, first, put, take};
+use crate::keys::Keys;
 use crate::live::Live;
-use crate::queue::Queue;
-use urb_arena::Key;
+use urb_arena::{Arena, Key};
 use usbip_urb::MAX_LIVE;
 
 /// The keys of the requests in a table in the order of their numbers, and those of wire and route requests in that of
-/// their ids, each behind that number; and how many requests change the device's interfaces. It holds no request, and of
-/// one that has ended nothing.
+/// their ids; and how many requests change the device's interfaces. It holds no request, and of one that has ended
+/// nothing. What it needs of a request it reads in the arena.
 #[derive(Drop)]
 pub struct Index {
-    numbers: Queue<Numbered>,
+    numbers: Keys,
     // of the wire and route requests
-    held: Queue<Numbered>,
+    held: Keys,
     changes: usize,
 }
 
-fn put_id(held: &mut Queue<Numbered>, key: Key, live: &Live)
+fn put_id(arena: &Arena<(u64, Live)>, held: &mut Keys, key: Key, live: &Live)
     requires { length held.old < MAX_LIVE }
-    ensures { (requests : List (ℕ × Live)) → IsOrderOf By.Id requests held.old → IsOrderOf By.Id (requests ++ (key, live.now) ∷ []) held.new }
+    ensures { (requests : List (ℕ × Live)) → Stand arena.now.lanes requests → IsOrderOf By.Id requests held.old → IsOrderOf By.Id (requests ++ (key, live.now) ∷ []) held.new }
 {
     if !live.kind.is_stream() {
-        put(held, By::Id, key, live);
+        put(arena, held, By::Id, key, live);
     }
 }
 
-fn take_id(held: &mut Queue<Numbered>, key: Key, live: &Live)
-    requires { (requests : List (ℕ × Live)) × (place : ℕ) × IsOrderOf By.Id requests held.old × (slice_get requests place ≡ Some (key, live.now)) }
-    ensures { (requests : List (ℕ × Live)) (place : ℕ) → IsOrderOf By.Id requests held.old → slice_get requests place ≡ Some (key, live.now) → Distinct (λ (r : ℕ × Live). r.0) requests → IsOrderOf By.Id (remove requests place) held.new }
+fn take_id(arena: &Arena<(u64, Live)>, held: &mut Keys, key: Key, live: &Live)
+    requires { (requests : List (ℕ × Live)) × (place : ℕ) × Stand arena.now.lanes requests × IsOrderOf By.Id requests held.old × (slice_get requests place ≡ Some (key, live.now)) }
+    ensures { (requests : List (ℕ × Live)) (place : ℕ) → Stand arena.now.lanes requests → IsOrderOf By.Id requests held.old → slice_get requests place ≡ Some (key, live.now) → Distinct (λ (r : ℕ × Live). r.0) requests → IsOrderOf By.Id (remove requests place) held.new }
 {
     if !live.kind.is_stream() {
-        take(held, By::Id, key, live);
+        take(arena, held, By::Id, key, live);
     }
 }
 
@@ -54,19 +54,19 @@ impl Index {
         ensures { IsIndexed [] [] result }
     {
         Index {
-            numbers: Queue::new(),
-            held: Queue::new(),
+            numbers: Keys::new(),
+            held: Keys::new(),
             changes: 0,
         }
     }
 
     /// The key of the first request that this number finds.
-    pub fn first(&self, by: By, number: u64) -> Option<Key>
-        ensures { (keys : List ℕ) (lives : List Live) → IsIndexed keys lives self.now → result ≡ option_map (λ (r : ℕ × Live). r.0) (find (λ (r : ℕ × Live). found_by by number r.1) (zip keys lives)) }
+    pub fn first(&self, arena: &Arena<(u64, Live)>, by: By, number: u64) -> Option<Key>
+        ensures { (keys : List ℕ) (lives : List Live) → IsIndexed keys lives self.now → Stand arena.now.lanes (zip keys lives) → result ≡ option_map (λ (r : ℕ × Live). r.0) (find (λ (r : ℕ × Live). found_by by number r.1) (zip keys lives)) }
     {
         match by {
-            By::Number => first(&self.numbers, number),
-            By::Id => first(&self.held, number),
+            By::Number => first(arena, &self.numbers, By::Number, number),
+            By::Id => first(arena, &self.held, By::Id, number),
         }
     }
 
@@ -78,22 +78,22 @@ impl Index {
     }
 
     /// One more request comes to the others, under this key.
-    pub fn note(&mut self, key: Key, live: &Live)
+    pub fn note(&mut self, arena: &Arena<(u64, Live)>, key: Key, live: &Live)
         requires { (keys : List ℕ) × (lives : List Live) × (length lives < MAX_LIVE) × IsIndexed keys lives self.old }
-        ensures { (keys : List ℕ) (lives : List Live) → IsIndexed keys lives self.old → IsIndexed (keys ++ key ∷ []) (lives ++ live.now ∷ []) self.new }
+        ensures { (keys : List ℕ) (lives : List Live) → IsIndexed keys lives self.old → Stand arena.now.lanes (zip keys lives) → IsIndexed (keys ++ key ∷ []) (lives ++ live.now ∷ []) self.new }
     {
-        put(&mut self.numbers, By::Number, key, live);
-        put_id(&mut self.held, key, live);
+        put(arena, &mut self.numbers, By::Number, key, live);
+        put_id(arena, &mut self.held, key, live);
         self.changes += change_of(live);
     }
 
     /// The request of this key ends.
-    pub fn forget(&mut self, key: Key, live: &Live)
-        requires { (keys : List ℕ) × (lives : List Live) × (place : ℕ) × (slice_get keys place ≡ Some key) × (slice_get lives place ≡ Some live.now) × IsIndexed keys lives self.old }
-        ensures { (keys : List ℕ) (lives : List Live) (place : ℕ) → slice_get keys place ≡ Some key → slice_get lives place ≡ Some live.now → Distinct (λ k. k) keys → IsIndexed keys lives self.old → IsIndexed (remove keys place) (remove lives place) self.new }
+    pub fn forget(&mut self, arena: &Arena<(u64, Live)>, key: Key, live: &Live)
+        requires { (keys : List ℕ) × (lives : List Live) × (place : ℕ) × (slice_get keys place ≡ Some key) × (slice_get lives place ≡ Some live.now) × Stand arena.now.lanes (zip keys lives) × IsIndexed keys lives self.old }
+        ensures { (keys : List ℕ) (lives : List Live) (place : ℕ) → slice_get keys place ≡ Some key → slice_get lives place ≡ Some live.now → Distinct (λ k. k) keys → Stand arena.now.lanes (zip keys lives) → IsIndexed keys lives self.old → IsIndexed (remove keys place) (remove lives place) self.new }
     {
-        take(&mut self.numbers, By::Number, key, live);
-        take_id(&mut self.held, key, live);
+        take(arena, &mut self.numbers, By::Number, key, live);
+        take_id(arena, &mut self.held, key, live);
         self.changes -= change_of(live);
     }
 }

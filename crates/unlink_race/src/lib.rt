@@ -5,10 +5,10 @@
 mod by_number;
 mod ending;
 mod index;
+mod keys;
 mod live;
 mod lives;
 mod numbered;
-mod queue;
 mod search;
 mod table;
 mod unlink;

@@ -16,9 +16,9 @@ ghost use Rattle.unlink_race.specs.Searches.{has_number, has_id, waits_for, touc
 
 use crate::by_number::By;
 use crate::index::Index;
+use crate::keys::Keys;
 use crate::live::{Live, StreamEnd};
 use crate::numbered::{mark, renumber};
-use crate::queue::Queue;
 use crate::search::{earliest_in_lane, earliest_of_all, first_of_all, nth_in_lane, number_of};
 use control_route::Route;
 use std::marker::Model;
@@ -38,7 +38,7 @@ pub struct Table {
     // above all numbers
     next: u64,
     // in order of acceptance
-    keys: Queue<Key>,
+    keys: Keys,
     index: Index,
 }
 
@@ -116,7 +116,7 @@ impl Table {
         Table {
             arena,
             next: 0,
-            keys: Queue::new(),
+            keys: Keys::new(),
             index: Index::new(),
         }
     }
@@ -133,21 +133,23 @@ impl Table {
     pub fn has_number(&self, seqnum: u32) -> bool
         ensures { result ≡ list_any (has_number seqnum) self.now }
     {
-        self.index.first(By::Number, u64::from(seqnum)).is_some()
+        self.index
+            .first(&self.arena, By::Number, u64::from(seqnum))
+            .is_some()
     }
 
     /// Whether a request flies with this id.
     pub fn has_id(&self, id: u64) -> bool
         ensures { result ≡ list_any (has_id id) self.now }
     {
-        self.index.first(By::Id, id).is_some()
+        self.index.first(&self.arena, By::Id, id).is_some()
     }
 
     // The first request that this number finds.
     fn found(&self, by: By, number: u64) -> Option<&Live>
         ensures { option_copied result ≡ find (found_by by number) self.now }
     {
-        let key = self.index.first(by, number)?;
+        let key = self.index.first(&self.arena, by, number)?;
         let entry = self.arena.get(key).unwrap();
         Some(&entry.1)
     }
@@ -156,7 +158,7 @@ impl Table {
     fn place_found(&self, by: By, number: u64) -> Option<usize>
         ensures { result ≡ position (found_by by number) self.now }
     {
-        let key = self.index.first(by, number)?;
+        let key = self.index.first(&self.arena, by, number)?;
         let entry = self.arena.get(key).unwrap();
         place_numbered(&self.arena, &self.keys, entry.0)
     }
@@ -248,7 +250,7 @@ impl Table {
     {
         let key = self.keys.remove(place);
         let entry = self.arena.get(key).unwrap();
-        self.index.forget(key, &entry.1);
+        self.index.forget(&self.arena, key, &entry.1);
         self.arena.remove(key).unwrap().1
     }
 
@@ -262,7 +264,7 @@ impl Table {
         let pushed = self.arena.push_back(live.kind.lane(), (number, live));
         let key = pushed.ok().unwrap();
         let entry = self.arena.get(key).unwrap();
-        self.index.note(key, &entry.1);
+        self.index.note(&self.arena, key, &entry.1);
         self.keys.push(key);
     }
 

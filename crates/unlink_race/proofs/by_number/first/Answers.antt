@@ -1,19 +1,18 @@
-use Rattle.std.proofs.Common.{true, false, length, sym, ◌∙◌}
-use Rattle.std.proofs.lemmas.Bool.{eq-eqb, ne_eqb, ltb-true, ltb-false}
-use Rattle.unlink_race.proofs.Parting.{first_key, no_key}
+use Rattle.std.proofs.Common.{true, false, length, ap, sym, ◌∙◌}
+use Rattle.std.specs.Ordering.{is_eq}
+use Rattle.std.proofs.lemmas.Bool.{ltb-true, ltb-false}
+use Rattle.unlink_race.proofs.Reading.{first_key, no_key}
 use Rattle.unlink_race.proofs.by_number.first.Goals as goal
 
 pub returns-in_err-key : goal.returns-in_err-key
-returns-in_err-key c = λ by requests o. c.from_residual.ensures ∙ no_key o c.place_before.result c.args.number (c.place_before.ensures.parted o.rises) (ltb-false c.place_before.result (length c.args.keys.now) (sym c.in_err-key.ensures.lookup.0))
+returns-in_err-key c = λ requests stand o. c.from_residual.ensures ∙ no_key o c.args.arena.now.lanes stand c.place_before.result c.args.number c.place_before.ensures.parted (ltb-false c.place_before.result (length c.args.keys.now) (sym c.in_err-key.ensures.lookup.0))
 
-pub returns-then-key-number : goal.returns-then-key-number
-returns-then-key-number c =
-    λ by requests o.
-    let key = c.in_ok-key.field-0.now in
-    first_key o c.place_before.result c.args.number (c.place_before.ensures.parted o.rises) key true (ltb-true c.place_before.result (length c.args.keys.now) (sym c.in_ok-key.ensures.lookup.0)) c.in_ok-key.ensures.lookup.1 (eq-eqb key.0 c.args.number c.if-key-number.true)
+pub returns-then-is_eq : goal.returns-then-is_eq
+returns-then-is_eq c =
+    λ requests stand o.
+    first_key o c.args.arena.now.lanes stand c.place_before.result c.args.number c.place_before.ensures.parted c.in_ok-key.field-0.now true (ltb-true c.place_before.result (length c.args.keys.now) (sym c.in_ok-key.ensures.lookup.0)) c.in_ok-key.ensures.lookup.1 (ap is_eq (sym c.compared.ensures) ∙ sym c.is_eq.ensures ∙ c.if-is_eq.true)
 
-pub returns-else-key-number : goal.returns-else-key-number
-returns-else-key-number c =
-    λ by requests o.
-    let key = c.in_ok-key.field-0.now in
-    first_key o c.place_before.result c.args.number (c.place_before.ensures.parted o.rises) key false (ltb-true c.place_before.result (length c.args.keys.now) (sym c.in_ok-key.ensures.lookup.0)) c.in_ok-key.ensures.lookup.1 (ne_eqb key.0 c.args.number c.if-key-number.false)
+pub returns-else-is_eq : goal.returns-else-is_eq
+returns-else-is_eq c =
+    λ requests stand o.
+    first_key o c.args.arena.now.lanes stand c.place_before.result c.args.number c.place_before.ensures.parted c.in_ok-key.field-0.now false (ltb-true c.place_before.result (length c.args.keys.now) (sym c.in_ok-key.ensures.lookup.0)) c.in_ok-key.ensures.lookup.1 (ap is_eq (sym c.compared.ensures) ∙ sym c.is_eq.ensures ∙ c.if-is_eq.false)

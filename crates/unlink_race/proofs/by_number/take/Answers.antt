@@ -1,18 +1,21 @@
-use Rattle.std.proofs.Common.{lit<}
-use Rattle.unlink_race.proofs.Parting.{taken_there, taken_inside, order_taken}
+use Rattle.std.proofs.Common.{◌==◌, drop, length, ap, sym, ◌∙◌, arith}
+use Rattle.std.specs.List.{position}
+use Rattle.unlink_race.proofs.Ordered.{from_place}
+use Rattle.unlink_race.proofs.Reading.{key_there, place_in, order_left}
 use Rattle.unlink_race.proofs.by_number.take.Goals as goal
 
 pub unwrap-requires : goal.unwrap-requires
 unwrap-requires c =
-    let r = c.requires in
-    taken_there r.2 r.1 c.args.key c.args.live.now r.4 r.3 c.of-number.result c.place_before-first.result c.of-number.ensures c.deref.result.now c.deref-2.result.now c.deref.ensures c.deref-2.ensures c.place_before-first.ensures.bound c.place_before-first.ensures.parted c.place_of-behind.result c.place_of-behind.ensures
+    let from = from_place c.deref-2.result.now c.place_before-first.result ∙ ap (λ ks. drop c.place_before-first.result ks) c.deref-2.ensures in
+    rw (c.place_of-behind.ensures, from) (key_there c.requires.3 c.args.arena.now.lanes c.requires.2 c.requires.1 c.args.key c.args.live.now c.requires.5 c.requires.4 c.place_before-first.result c.of.result c.of.ensures (omega (arith, c.place_before-first.ensures.bound, ap length c.deref.ensures)) (λ pairs keys. c.place_before-first.ensures.parted pairs (c.deref.ensures ∙ keys)))
 
 pub remove-requires : goal.remove-requires
 remove-requires c =
-    let r = c.requires in
-    (lit< tt, taken_inside r.2 r.1 c.args.key c.args.live.now r.4 r.3 c.of-number.result c.place_before-first.result c.of-number.ensures c.deref.result.now c.deref-2.result.now c.deref.ensures c.deref-2.ensures c.place_before-first.ensures.bound c.place_before-first.ensures.parted c.place_of-behind.result c.place_of-behind.ensures c.unwrap.result c.unwrap.ensures)
+    let from = from_place c.deref-2.result.now c.place_before-first.result ∙ ap (λ ks. drop c.place_before-first.result ks) c.deref-2.ensures in
+    place_in c.requires.3 c.args.arena.now.lanes c.requires.2 c.requires.1 c.args.key c.args.live.now c.requires.5 c.requires.4 c.place_before-first.result c.of.result c.of.ensures (omega (arith, c.place_before-first.ensures.bound, ap length c.deref.ensures)) (λ pairs keys. c.place_before-first.ensures.parted pairs (c.deref.ensures ∙ keys)) c.unwrap.result (sym (ap (position (λ k. k == c.args.key)) from) ∙ sym c.place_of-behind.ensures ∙ c.unwrap.ensures)
 
 pub returns : goal.returns
 returns c =
-    λ requests place order found at apart.
-    rw c.remove.ensures.rest (order_taken order place c.args.key c.args.live.now at found c.of-number.result c.place_before-first.result c.of-number.ensures c.deref.result.now c.deref-2.result.now c.deref.ensures c.deref-2.ensures c.place_before-first.ensures.bound c.place_before-first.ensures.parted c.place_of-behind.result c.place_of-behind.ensures c.unwrap.result c.unwrap.ensures apart)
+    λ requests place stand order found at apart.
+    let from = from_place c.deref-2.result.now c.place_before-first.result ∙ ap (λ ks. drop c.place_before-first.result ks) c.deref-2.ensures in
+    rw c.remove.ensures.rest (order_left order c.args.arena.now.lanes stand place c.args.key c.args.live.now at found c.place_before-first.result c.of.result c.of.ensures (omega (arith, c.place_before-first.ensures.bound, ap length c.deref.ensures)) (λ pairs keys. c.place_before-first.ensures.parted pairs (c.deref.ensures ∙ keys)) c.unwrap.result (sym (ap (position (λ k. k == c.args.key)) from) ∙ sym c.place_of-behind.ensures ∙ c.unwrap.ensures) apart)

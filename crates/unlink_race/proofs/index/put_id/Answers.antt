@@ -8,6 +8,6 @@ use Rattle.unlink_race.proofs.index.put_id.Goals as goal
 
 pub returns-else-not-is_stream : goal.returns-else-not-is_stream
 returns-else-not-is_stream c =
-    λ requests o.
+    λ requests stand o.
     let away : goes_by_id c.args.live.now ≡ false = ap not (sym c.is_stream.ensures ∙ c.if-not-is_stream.false) in
     same_column o _ (column_pushed (any_by Id) (number_by Id) requests (c.args.key, c.args.live.now) ∙ ap (λ b. column (any_by Id) (number_by Id) requests ++ cond b ((c.args.live.now.id, c.args.key) ∷ []) []) away ∙ append-nil (column (any_by Id) (number_by Id) requests))

@@ -9,6 +9,6 @@ use Rattle.unlink_race.proofs.index.take_id.Goals as goal
 
 pub returns-else-not-is_stream : goal.returns-else-not-is_stream
 returns-else-not-is_stream c =
-    λ requests place o at apart.
+    λ requests place stand o at apart.
     let away : goes_by_id c.args.live.now ≡ false = ap not (sym c.is_stream.ensures ∙ c.if-not-is_stream.false) in
     same_column o (remove requests place) (column_removed (any_by Id) (number_by Id) requests place (c.args.key, c.args.live.now) at apart ∙ ap (λ b. cond b (without_first (is_pair c.args.live.now.id c.args.key) (column (any_by Id) (number_by Id) requests)) (column (any_by Id) (number_by Id) requests)) away)

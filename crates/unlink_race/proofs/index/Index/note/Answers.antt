@@ -14,6 +14,6 @@ overflow_add-self c = let few = changes_few c.requires.3 in grind (arith, few, c
 
 pub returns : goal.returns
 returns c =
-    λ keys lives indexed.
+    λ keys lives indexed stand.
     let more = ap (λ k. c.args.self.now.changes + k) c.change_of.ensures in
-    index_pushed indexed _ c.args.key c.args.live.now (c.put.ensures (zip keys lives) indexed.numbers refl) (c.put_id.ensures (zip keys lives) indexed.held) more
+    index_pushed indexed _ c.args.key c.args.live.now (c.put.ensures (zip keys lives) stand indexed.numbers refl) (c.put_id.ensures (zip keys lives) stand indexed.held) more

@@ -1,9 +1,12 @@
-use Rattle.std.proofs.Common.{◌≡◌, ◌++◌, ◌∷◌, [], ℕ, Some, ap, sym, ◌∙◌, arith}
+use Rattle.std.proofs.Common.{◌≡◌, ◌++◌, ◌∷◌, [], ℕ, Some, refl, ap, sym, ◌∙◌, arith}
+use Rattle.std.specs.List.{zip}
 use Rattle.std.specs.Option.{option_copied}
 use Rattle.unlink_race.specs.declared.live.Live.{Live}
 use Rattle.unlink_race.proofs.Dealing.{sound_dealt, dealt_by, rises_by}
 use Rattle.unlink_race.proofs.Rising.{rises_pushed}
-use Rattle.unlink_race.proofs.Tables.{pushed, pushed_there, long, indexed, indexed_by, rising}
+use Rattle.unlink_race.proofs.Tables.{pushed, pushed_there, standing, long, indexed, indexed_by, rising}
+use Rattle.unlink_race.proofs.Reading.{stand_front}
+use Rattle.unlink_race.proofs.Zipped.{zip_pushed}
 use Rattle.unlink_race.proofs.Told.{no_error, told_ok, lent}
 use Rattle.unlink_race.proofs.table.Table.push.Goals as goal
 
@@ -40,10 +43,13 @@ invariant_of-self c =
     let view = dealt.lives ∙ c.self.view_is in
     let there = pushed_there sound view _ _ _ _ c.args.live c.lane.ensures.bound told.1 told.2 in
     let whole = pushed sound view _ _ _ _ c.args.live c.lane.ensures.bound told.1 told.2 _ c.requires c.lane.ensures.value c.push.ensures in
+    let early = pushed sound view _ _ _ _ c.args.live c.lane.ensures.bound told.1 told.2 _ c.requires c.lane.ensures.value refl in
+    let all_stand = standing early.0 early.1 in
+    let stand = stand_front c.push_back-pushed.new.self.lanes (zip c.self.inside.keys c.args.self.now) (c.unwrap-key.result, c.args.live) (rw (← zip_pushed c.self.inside.keys c.args.self.now c.unwrap-key.result c.args.live (sym (long c.self.invariant.0 c.self.view_is))) all_stand) in
     let same : Some c.unwrap-entry.result.now ≡ Some (c.next_number-number.result, c.args.live) = sym (ap option_copied c.unwrap-entry.ensures) ∙ c.get.ensures ∙ there in
     let one : c.unwrap-entry.result.now ≡ (c.next_number-number.result, c.args.live) = cc in (
       whole.0,
-      indexed_by c.push.ensures (ap (λ (e : ℕ × Live). c.args.self.now ++ e.1 ∷ []) one ∙ sym whole.1) (c.note.ensures c.self.inside.keys c.args.self.now (indexed c.self.view_is c.self.invariant.1)),
+      indexed_by c.push.ensures (ap (λ (e : ℕ × Live). c.args.self.now ++ e.1 ∷ []) one ∙ sym whole.1) (c.note.ensures c.self.inside.keys c.args.self.now (indexed c.self.view_is c.self.invariant.1) stand),
       rising _ whole.2 (rises_pushed 0 _ _ (rises_by c.next_number-number.new.arena c.next_number-number.result c.deref.ensures number.rises)),
     )
 
