@@ -42,7 +42,7 @@ sound way s = redir_sound s.first s.caps way
 
 -- some packet can always come next
 some-fits : (way : Way) (first : Bool) (caps : Caps) → (x : Header × RedirPacket) × ((redir_packets first caps way).Fits x)
-some-fits way true caps = ((_, Plain host_hello), packet_written way caps 0 host_hello (record { version = refl; words = (lit< tt, tt) }) (record { agreed = refl; id_fits = lit< tt; writable = omega arith }) (elim way as (λ (w : Way). goes w (plain_row (wire.kind_of host_hello)) ≡ true) [ ToGuest ↦ refl | ToHost ↦ refl ]))
+some-fits way true caps = ((_, Plain host_hello), packet_written way caps 0 host_hello (refl, (lit< tt, tt)) (record { agreed = refl; id_fits = lit< tt; writable = omega arith }) (elim way as (λ (w : Way). goes w (plain_row (wire.kind_of host_hello)) ≡ true) [ ToGuest ↦ refl | ToHost ↦ refl ]))
 some-fits ToGuest false caps = ((_, Plain plain.Disconnect), packet_written ToGuest caps 0 plain.Disconnect tt (record { agreed = refl; id_fits = no_id (is_wide false caps); writable = tt }) refl)
 some-fits ToHost false caps = ((_, Plain plain.Cancel), packet_written ToHost caps 0 plain.Cancel tt (record { agreed = refl; id_fits = no_id (is_wide false caps); writable = tt }) refl)
 
@@ -111,10 +111,10 @@ later-bytes caps way (p ∷ ps) h = λ i.
 -- ---- the hellos, which agree on what both have
 
 pub host-greets : (stream_format ToGuest start).Fits (headed no_caps (0, Plain host_hello))
-host-greets = packet_written ToGuest no_caps 0 host_hello (record { version = refl; words = (lit< tt, tt) }) (record { agreed = refl; id_fits = lit< tt; writable = omega arith }) refl
+host-greets = packet_written ToGuest no_caps 0 host_hello (refl, (lit< tt, tt)) (record { agreed = refl; id_fits = lit< tt; writable = omega arith }) refl
 
 pub gate-greets : (stream_format ToHost start).Fits (headed no_caps (0, gateway_hello))
-gate-greets = packet_written ToHost no_caps 0 (plain.Hello _) (record { version = refl; words = (lit< tt, tt) }) (record { agreed = refl; id_fits = lit< tt; writable = omega arith }) refl
+gate-greets = packet_written ToHost no_caps 0 (plain.Hello _) (refl, (lit< tt, tt)) (record { agreed = refl; id_fits = lit< tt; writable = omega arith }) refl
 
 -- all packets of a wire, each with its header
 abbrev pub on_wire : RedirPacket → List (ℕ × RedirPacket) → List (Header × RedirPacket)
