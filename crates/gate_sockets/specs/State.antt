@@ -12,7 +12,7 @@ pub record State (S : Type 0) : Type 0 where
   pub ahead : List ℕ
   -- whether the link has broken, so that what is written to it is lost
   pub broken : Bool
-  -- how many polls from now on may pass the link over, since a read of it had to wait
+  -- how many polls from now on may pass the link over, since a read of it had to wait or took all that was there
   pub rests : ℕ
   -- how often a call failed
   pub faults : ℕ

@@ -35,7 +35,7 @@ pub trait Connection: Drop {
         ensures gives { write_gives self.old piece.now result self.new };
 
     /// Makes that bytes go at once, and that the connection of this side can be waited for.
-    fn set_up(&mut self, side: Side, ready: &Ready) -> io::Result<()>
+    fn set_up(&mut self, side: Side, ready: &mut Ready) -> io::Result<()>
         ensures gives { set_up_gives self.old (is_ok result) self.new };
 
     /// The other end, where the system tells it.
@@ -57,7 +57,7 @@ impl Connection for TcpStream {
         self.write(piece)
     }
 
-    fn set_up(&mut self, side: Side, ready: &Ready) -> io::Result<()> {
+    fn set_up(&mut self, side: Side, ready: &mut Ready) -> io::Result<()> {
         self.set_nodelay(true)?;
         ready.add(side, self)
     }

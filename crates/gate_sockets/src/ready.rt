@@ -28,6 +28,27 @@ fn token(side: Side) -> Token {
     }
 }
 
+/// What the system has told of a side.
+#[derive(Clone, Copy)]
+struct Told {
+    /// There is something to read, since the side was read.
+    news: bool,
+    /// The end comes behind what there is to read, of which nothing is told again.
+    closed: bool,
+}
+
+impl Told {
+    const NOTHING: Told = Told {
+        news: false,
+        closed: false,
+    };
+
+    fn tell(&mut self, closed: bool) {
+        self.news = true;
+        self.closed |= closed;
+    }
+}
+
 /// The sockets that are waited for: to read in one set, and to write in the other. Both are edge-triggered, so
 /// a caller looks at its socket before it waits.
 #[derive(Drop)]
@@ -35,9 +56,8 @@ pub struct Ready {
     reading: Poll,
     writing: Poll,
     events: Events<Global>,
-    // Whether the system has told of something to read since the side was read.
-    client_told: bool,
-    host_told: bool,
+    client: Told,
+    host: Told,
     // How many looks in a row have found nothing.
     quiet: u32,
     // How long a look waits that finds nothing, where that is asked.
@@ -50,8 +70,8 @@ impl Ready {
             reading: Poll::new(net)?,
             writing: Poll::new(net)?,
             events: Events::with_capacity(alloc, 4)?,
-            client_told: false,
-            host_told: false,
+            client: Told::NOTHING,
+            host: Told::NOTHING,
             quiet: 0,
             pace: None,
         })
@@ -62,7 +82,8 @@ impl Ready {
         reading.register(door, DOOR, Interest::READABLE)
     }
 
-    pub(crate) fn add(&self, side: Side, stream: &mut TcpStream) -> io::Result<()> {
+    pub(crate) fn add(&mut self, side: Side, stream: &mut TcpStream) -> io::Result<()> {
+        *self.told(side) = Told::NOTHING;
         let reading = self.reading.registry();
         reading.register(stream, token(side), Interest::READABLE)?;
         let writing = self.writing.registry();
@@ -81,17 +102,22 @@ impl Ready {
 
     /// The side is read now, so that what was told of it is done with.
     pub(crate) fn reads(&mut self, side: Side) {
-        match side {
-            Side::Client => self.client_told = false,
-            Side::Host => self.host_told = false,
-        }
+        self.told(side).news = false;
     }
 
-    /// Whether the system has told of something to read from the side since it was read.
+    /// Whether the system has told of something to read from the side since it was read, or of its end.
     pub(crate) fn is_told(&self, side: Side) -> bool {
+        let told = match side {
+            Side::Client => self.client,
+            Side::Host => self.host,
+        };
+        told.news || told.closed
+    }
+
+    fn told(&mut self, side: Side) -> &mut Told {
         match side {
-            Side::Client => self.client_told,
-            Side::Host => self.host_told,
+            Side::Client => &mut self.client,
+            Side::Host => &mut self.host,
         }
     }
 
@@ -104,21 +130,24 @@ impl Ready {
     /// whether to look again. Where the system can't wait, both sides are to be read.
     pub(crate) fn found_nothing(&mut self, network: &impl Network) -> bool {
         self.quiet = self.quiet.saturating_add(1);
+        if self.quiet < QUIET_LOOKS {
+            return false;
+        }
         let most = match &mut self.pace {
             Some(pace) => pace.left(network),
-            None if self.quiet < QUIET_LOOKS => return false,
             None => Duration::from_millis(READ_WAIT_MILLIS),
         };
         if self.reading.poll(&mut self.events, Some(most)).is_err() {
-            self.client_told = true;
-            self.host_told = true;
+            self.client.tell(false);
+            self.host.tell(false);
         }
         for event in self.events.iter() {
+            let closed = event.is_read_closed();
             if event.token() == token(Side::Client) {
-                self.client_told = true;
+                self.client.tell(closed);
             }
             if event.token() == token(Side::Host) {
-                self.host_told = true;
+                self.host.tell(closed);
             }
         }
         true

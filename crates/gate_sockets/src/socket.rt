@@ -23,7 +23,8 @@ const CHUNK: usize = 16_384;
 
 const CHUNKS: u32 = 256;
 
-/// How many polls pass over a link whose read had to wait, where the system tells of nothing before.
+/// How many polls pass over a link of which a read has taken all that was there, or had to wait, where the system tells
+/// of nothing before.
 const RESTS: u32 = 8;
 
 /// A connection while there is one, and its counts.
@@ -163,17 +164,17 @@ impl<S: Connection> Socket<S> {
             Step::Blocked => ready.drained(),
             _ => ready.moved(),
         }
-        self.hear(step)
+        self.hear(step, limit)
     }
 
-    /// Whether the poll passes the link over, after a moment. Where a read had to wait the next polls do so, until the
-    /// system tells of something; but not for long, since nobody waits for what it tells while the other side never
-    /// rests. A link that has broken is read to its end.
+    /// Whether the poll passes the link over, after a moment. Where a read had to wait, or took all that was there, the next
+    /// polls do so, until the system tells of something; but not for long, since nobody waits for what it tells while the
+    /// other side never rests. A link that has broken is read to its end.
     fn passes_over<N: Network>(&mut self, ready: &mut Ready, network: &N) -> bool
         ensures over { IsTrue result → PassesOver self.old self.new }
         ensures reads { result ≡ false → self.new ≡ record self.old { rests = self.new.rests } }
     {
-        if self.broken || self.rests == 0 {
+        if self.broken || self.rests == 0 || ready.is_told(self.side) {
             return false;
         }
         ready.found_nothing(network);
@@ -181,12 +182,17 @@ impl<S: Connection> Socket<S> {
         self.rests > 0 && !ready.is_told(self.side)
     }
 
-    /// What a read means.
-    fn hear(&mut self, step: Step) -> Polled
-        ensures hears { Hears step result self.old self.new }
+    /// What a read means that had so much room. It took all that was there, where it didn't fill that.
+    fn hear(&mut self, step: Step, room: usize) -> Polled
+        ensures hears { Hears step room result self.old self.new }
     {
         match step {
-            Step::Moved(count) if count > 0 => Polled::Took(count),
+            Step::Moved(count) if count > 0 => {
+                if count < room {
+                    self.rests = RESTS;
+                }
+                Polled::Took(count)
+            }
             Step::Blocked if !self.broken => {
                 self.rests = RESTS;
                 self.rest();

@@ -89,7 +89,7 @@ impl<'rt, N: Network + Eprint> TcpDoors<'rt, N> {
         ensures { DialledBy N.dial_gives N.Stream.set_up_gives addr.now (is_ok result) self.old self.new }
     {
         let mut stream = self.rt.dial_at(addr)?;
-        stream.set_up(Side::Host, &self.ready)?;
+        stream.set_up(Side::Host, &mut self.ready)?;
         self.host.open(stream);
         self.dialled = true;
         Ok(())
@@ -113,7 +113,7 @@ impl<'rt, N: Network + Eprint> TcpDoors<'rt, N> {
             unreachable!()
         };
         let mut stream = self.rt.accept_at(door)?;
-        stream.set_up(Side::Client, &self.ready)?;
+        stream.set_up(Side::Client, &mut self.ready)?;
         self.client.open(stream);
         Ok(())
     }
