@@ -3,6 +3,7 @@
 use Rattle.std.specs.Prelude.{ℕ, Bool, true, false, if◌then◌else◌, List, [], ◌∷◌, ◌++◌, None}
 use Rattle.std.specs.List.{flat_map, list_any}
 use Rattle.usb_base.specs.declared.side.Side.TheVariants.{Client}
+use Rattle.usb_base.specs.Endpoint.{in_endpoints, out_endpoints}
 use Rattle.usb_base.specs.declared.refusal.Refusal.{Refusal}
 use Rattle.model_device.specs.Meaning.{Meaning}
 use Rattle.redir_host.specs.declared.note.HostNote.{HostNote}
@@ -15,21 +16,14 @@ use Rattle.bridge_run.specs.Recorded.{has_any}
 
 -- ---- what is done with the device in a round
 
--- an act of each address in turn, the latest first
+-- an act of each endpoint in turn, the latest first
 abbrev pub each : (ℕ → Act) → List ℕ → List Act → List Act
 each act [] acts = acts
 each act (ep ∷ eps) acts = each act eps (act ep ∷ acts)
 
--- the OUT endpoints and 0, and the IN endpoints other than 0
-abbrev pub out_addresses : List ℕ
-out_addresses = 0 ∷ 1 ∷ 2 ∷ 3 ∷ 4 ∷ 5 ∷ 6 ∷ 7 ∷ 8 ∷ 9 ∷ 10 ∷ 11 ∷ 12 ∷ 13 ∷ 14 ∷ 15 ∷ []
-
-abbrev pub in_addresses : List ℕ
-in_addresses = 129 ∷ 130 ∷ 131 ∷ 132 ∷ 133 ∷ 134 ∷ 135 ∷ 136 ∷ 137 ∷ 138 ∷ 139 ∷ 140 ∷ 141 ∷ 142 ∷ 143 ∷ []
-
 -- each endpoint's first request is performed, and then each IN endpoint may send a packet of its stream
 unfoldable pub used : List Act → List Act
-used acts = each Offer in_addresses (each Perform in_addresses (each Perform out_addresses acts))
+used acts = each Offer in_endpoints (each Perform in_endpoints (each Perform out_endpoints acts))
 
 -- ---- what an event is to the device's host
 

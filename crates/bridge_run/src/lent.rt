@@ -2,9 +2,7 @@
 
 ghost use Rattle.std.specs.Prelude.{◌≡◌, ◌∷◌, ◌++◌, ◌||◌, [], true, if◌then◌else◌, List as ListOf, OnOk, OnErr, IfOk};
 ghost use Rattle.std.specs.List.{flat_map, list_any};
-ghost use Rattle.usb_base.specs.Endpoint.{IsEndpoint};
 ghost use Rattle.redir_host.specs.step.Acts.{Act};
-ghost use Rattle.redir_host.specs.state.Sound.{Each};
 ghost use Rattle.redir_host.specs.step.Stands.{DoesAct, Stands, Stops};
 ghost use Rattle.usb_base.specs.declared.side.Side.TheVariants.{Client};
 ghost use Rattle.bridge_run.specs.Events.{SidePiece, event_of, is_quiet};
@@ -20,16 +18,6 @@ use redir_host::{HostCore, HostNote, HostNotes};
 use std::alloc::Global;
 use std::mem;
 use usb_base::{Bytes, EpAddr, List, Memory, Refusal, Side};
-
-/// The addresses of the OUT endpoints, and of endpoint 0.
-const OUT_ADDRESSES: [u8; 16] = [
-    0x00, 0x01, 0x02, 0x03, 0x04, 0x05, 0x06, 0x07, 0x08, 0x09, 0x0A, 0x0B, 0x0C, 0x0D, 0x0E, 0x0F,
-];
-
-/// The addresses of the IN endpoints other than 0.
-const IN_ADDRESSES: [u8; 15] = [
-    0x81, 0x82, 0x83, 0x84, 0x85, 0x86, 0x87, 0x88, 0x89, 0x8A, 0x8B, 0x8C, 0x8D, 0x8E, 0x8F,
-];
 
 /// What is done with an endpoint: its first request is performed, or its stream is offered a packet.
 #[derive(Clone, Copy)]
@@ -152,29 +140,25 @@ fn use_device<G: Gadget>(core: &mut HostCore<G>, out: &mut Bytes) -> Result<(), 
     ensures stops { OnErr result ((first : G) (past : ListOf Act) → Stands G.meaning first core.old past
         → StopsIn G.meaning first past (used past) out.old out.new) }
 {
-    use_each(core, Use::Perform, &OUT_ADDRESSES, out)?;
-    use_each(core, Use::Perform, &IN_ADDRESSES, out)?;
-    use_each(core, Use::Offer, &IN_ADDRESSES, out)
+    use_each(core, Use::Perform, &EpAddr::all_out(), out)?;
+    use_each(core, Use::Perform, &EpAddr::all_in(), out)?;
+    use_each(core, Use::Offer, &EpAddr::all_in(), out)
 }
 
 /// Uses each of these endpoints.
 fn use_each<G: Gadget>(
     core: &mut HostCore<G>,
     how: Use,
-    addresses: &[u8],
+    eps: &[EpAddr],
     out: &mut Bytes,
 ) -> Result<(), Memory>
-    requires { Each IsEndpoint addresses.now }
     ensures acts { OnOk result ((first : G) (past : ListOf Act) → Stands G.meaning first core.old past
-        → Acts G.meaning first core.new past (each (act_of how) addresses.now past) out.old out.new) }
+        → Acts G.meaning first core.new past (each (act_of how) eps.now past) out.old out.new) }
     ensures stops { OnErr result ((first : G) (past : ListOf Act) → Stands G.meaning first core.old past
-        → StopsIn G.meaning first past (each (act_of how) addresses.now past) out.old out.new) }
+        → StopsIn G.meaning first past (each (act_of how) eps.now past) out.old out.new) }
 {
-    for address in addresses {
-        match EpAddr::new(*address) {
-            Some(ep) => use_endpoint(core, how, ep, out)?,
-            None => unreachable!(),
-        }
+    for ep in eps {
+        use_endpoint(core, how, *ep, out)?;
     }
     Ok(())
 }

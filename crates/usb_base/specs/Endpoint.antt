@@ -1,5 +1,5 @@
 -- Endpoints: which bytes are addresses, their places in a table, and the table (USB 2.0, 9.6.6).
-use Rattle.std.specs.Prelude.{ℕ, ◌-◌, ◌%◌, ◌<◌, ◌==◌, nat_lt, not, Bool, if◌then◌else◌, replicate, get_or}
+use Rattle.std.specs.Prelude.{ℕ, ◌-◌, ◌%◌, ◌<◌, ◌==◌, nat_lt, not, Bool, if◌then◌else◌, List, [], ◌∷◌, replicate, get_or}
 use Rattle.usb_base.specs.declared.endpoint.EpKind.{EpKind}
 use Rattle.usb_base.specs.declared.endpoint.EpKind.TheVariants.{Control, Iso, Bulk, Interrupt, Invalid}
 use Rattle.usb_base.specs.declared.endpoint.EpRow.{EpRow}
@@ -16,6 +16,13 @@ is_in_endpoint byte = not (nat_lt byte 128)
 -- n for OUT endpoint n, and 16 + n for IN endpoint n, whose byte is 128 + n
 abbrev pub endpoint_index : ℕ → ℕ
 endpoint_index byte = if nat_lt byte 128 then byte else byte - 112
+
+-- all endpoints in order: those to the device with endpoint 0, and those from it but for 0
+abbrev pub out_endpoints : List ℕ
+out_endpoints = 0 ∷ 1 ∷ 2 ∷ 3 ∷ 4 ∷ 5 ∷ 6 ∷ 7 ∷ 8 ∷ 9 ∷ 10 ∷ 11 ∷ 12 ∷ 13 ∷ 14 ∷ 15 ∷ []
+
+abbrev pub in_endpoints : List ℕ
+in_endpoints = 129 ∷ 130 ∷ 131 ∷ 132 ∷ 133 ∷ 134 ∷ 135 ∷ 136 ∷ 137 ∷ 138 ∷ 139 ∷ 140 ∷ 141 ∷ 142 ∷ 143 ∷ []
 
 -- the byte that a usbredir ep_info has
 abbrev pub kind_of_byte : ℕ → EpKind

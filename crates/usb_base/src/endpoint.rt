@@ -1,7 +1,7 @@
 //! Endpoints: their addresses, their kinds, and the table of a device's 32 (USB 2.0, 9.6.6).
 
 ghost use Rattle.std.specs.Prelude.{◌≡◌, ◌<◌, ◌↔◌, IsSome, IfSome};
-ghost use Rattle.usb_base.specs.Endpoint.{IsEndpoint, endpoint_index, is_in_endpoint, kind_of_byte, no_endpoints, row_of};
+ghost use Rattle.usb_base.specs.Endpoint.{IsEndpoint, endpoint_index, in_endpoints, is_in_endpoint, kind_of_byte, no_endpoints, out_endpoints, row_of};
 
 use std::marker::Model;
 
@@ -38,6 +38,53 @@ impl EpAddr {
         }
     }
 
+    /// All OUT endpoints in order, and endpoint 0 before them.
+    pub fn all_out() -> [EpAddr; 16]
+        ensures { result ≡ out_endpoints }
+    {
+        [
+            of(0x00),
+            of(0x01),
+            of(0x02),
+            of(0x03),
+            of(0x04),
+            of(0x05),
+            of(0x06),
+            of(0x07),
+            of(0x08),
+            of(0x09),
+            of(0x0A),
+            of(0x0B),
+            of(0x0C),
+            of(0x0D),
+            of(0x0E),
+            of(0x0F),
+        ]
+    }
+
+    /// All IN endpoints but 0, in order.
+    pub fn all_in() -> [EpAddr; 15]
+        ensures { result ≡ in_endpoints }
+    {
+        [
+            of(0x81),
+            of(0x82),
+            of(0x83),
+            of(0x84),
+            of(0x85),
+            of(0x86),
+            of(0x87),
+            of(0x88),
+            of(0x89),
+            of(0x8A),
+            of(0x8B),
+            of(0x8C),
+            of(0x8D),
+            of(0x8E),
+            of(0x8F),
+        ]
+    }
+
     /// Its byte, as descriptors and packets have it.
     pub fn byte(self) -> u8
         ensures value { result ≡ self }
@@ -64,6 +111,14 @@ impl EpAddr {
     {
         self.byte >= 0x80
     }
+}
+
+/// The address of a byte that is one.
+fn of(byte: u8) -> EpAddr
+    requires { IsEndpoint byte }
+    ensures { result ≡ byte }
+{
+    EpAddr { byte }
 }
 
 /// What an endpoint's transfers are (USB 2.0, 5.4).

@@ -19,7 +19,8 @@ use Rattle.bridge_run.specs.declared.sent.Sent.{Sent}
 use Rattle.bridge_run.specs.Events.{LinkEvent, SidePiece}
 use Rattle.bridge_run.specs.Prescribed.{gained}
 use Rattle.bridge_run.specs.Recorded.{has_any}
-use Rattle.bridge_run.specs.Lent.{each, used, out_addresses, in_addresses, refusal_in, acts_behind, acts_of, is_coming, has_come, lent_bytes, refused_by, lent_refusals, lent_sends}
+use Rattle.usb_base.specs.Endpoint.{in_endpoints, out_endpoints}
+use Rattle.bridge_run.specs.Lent.{each, used, refusal_in, acts_behind, acts_of, is_coming, has_come, lent_bytes, refused_by, lent_refusals, lent_sends}
 use Rattle.bridge_run.specs.LentStops.{ActsStop, LentStops}
 use Rattle.bridge_run.specs.Log.{IsFront}
 use Rattle.bridge_run.specs.RanOut.{RanOutWithin}
@@ -95,21 +96,21 @@ stop-endpoint how m s j past all left ep rest old out new is x z =
 
 -- ---- the whole device
 
-pub performed-more : (acts : List Act) → (more : List Act) × (used acts ≡ more ++ each (act_of Perform) out_addresses acts)
+pub performed-more : (acts : List Act) → (more : List Act) × (used acts ≡ more ++ each (act_of Perform) out_endpoints acts)
 unfolding used
 performed-more acts =
-    let one = each (act_of Perform) out_addresses acts in
-    let two = each (act_of Perform) in_addresses one in
-    more-on-more (used acts) two one [] (each-more (act_of Offer) in_addresses two) (each-more (act_of Perform) in_addresses one)
+    let one = each (act_of Perform) out_endpoints acts in
+    let two = each (act_of Perform) in_endpoints one in
+    more-on-more (used acts) two one [] (each-more (act_of Offer) in_endpoints two) (each-more (act_of Perform) in_endpoints one)
 
 pub used-more : (acts : List Act) → (more : List Act) × (used acts ≡ more ++ acts)
 used-more acts =
-    let one = each (act_of Perform) out_addresses acts in
-    more-on-more (used acts) one acts [] (performed-more acts) (each-more (act_of Perform) out_addresses acts)
+    let one = each (act_of Perform) out_endpoints acts in
+    more-on-more (used acts) one acts [] (performed-more acts) (each-more (act_of Perform) out_endpoints acts)
 
-pub offered-more : (acts : List Act) → (more : List Act) × (used acts ≡ more ++ each (act_of Perform) in_addresses (each (act_of Perform) out_addresses acts))
+pub offered-more : (acts : List Act) → (more : List Act) × (used acts ≡ more ++ each (act_of Perform) in_endpoints (each (act_of Perform) out_endpoints acts))
 unfolding used
-offered-more acts = each-more (act_of Offer) in_addresses (each (act_of Perform) in_addresses (each (act_of Perform) out_addresses acts))
+offered-more acts = each-more (act_of Offer) in_endpoints (each (act_of Perform) in_endpoints (each (act_of Perform) out_endpoints acts))
 
 -- ---- a piece
 
