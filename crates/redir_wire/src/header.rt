@@ -24,12 +24,6 @@ pub fn read_header(first: bool, caps: Caps, way: Way, bytes: &[u8]) -> HeaderRea
     ensures exact { Answers never result (reading (headers first caps way) bytes.now) }
     ensures stands { IfTold result (Stands (headers first caps way) bytes.now) }
 {
-    header_at_front(first, caps, way, bytes)
-}
-
-fn header_at_front(first: bool, caps: Caps, way: Way, bytes: &[u8]) -> HeaderRead
-    ensures { Answers never result (reading (headers first caps way) bytes.now) }
-{
     if bytes.len() < 4 {
         return Ok(Read::Short);
     }

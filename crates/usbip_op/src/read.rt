@@ -37,12 +37,6 @@ pub fn read_request(bytes: &[u8]) -> Result<OpRead, OpError>
     ensures stands { IfTold result (Stands requests bytes.now) }
     ensures exact { told result ≡ Some (reading requests bytes.now) }
 {
-    request_at_front(bytes)
-}
-
-fn request_at_front(bytes: &[u8]) -> Result<OpRead, OpError>
-    ensures { told result ≡ Some (reading requests bytes.now) }
-{
     if let Some((place, reason)) = wrong_head(bytes, OP_REQ_DEVLIST, OP_REQ_IMPORT) {
         return Err(OpError::Refused { place, reason });
     }

@@ -48,12 +48,6 @@ pub fn read_ret(alloc: Global, is_in: bool, bytes: &[u8]) -> Result<UrbRead, Urb
     ensures stands { IfTold result (Stands (answers is_in) bytes.now) }
     ensures exact { Answers takes_memory result (reading (answers is_in) bytes.now) }
 {
-    answer_at_front(alloc, is_in, bytes)
-}
-
-fn answer_at_front(alloc: Global, is_in: bool, bytes: &[u8]) -> Result<UrbRead, UrbError>
-    ensures { Answers takes_memory result (reading (answers is_in) bytes.now) }
-{
     if let Some((place, reason)) = wrong_answer(bytes) {
         return Err(UrbError::Refused { place, reason });
     }

@@ -1,11 +1,38 @@
-use Rattle.std.proofs.Common.{arith}
+use Rattle.std.proofs.Common.{arith, rules, ◌≡◌, subst, Bool, ℕ, List}
+use Rattle.usb_base.specs.Number.{AreBytes}
+use Rattle.usb_base.specs.declared.reason.Reason.{Reason}
+use Rattle.packet_stream.specs.Format.{Found, Stands, reading}
+use Rattle.packet_stream.proofs.Formats.{stands}
+use Rattle.redir_wire.specs.declared.packet.Caps.{Caps}
+use Rattle.redir_wire.specs.declared.packet.Header.{Header}
+use Rattle.redir_wire.specs.declared.packet.Way.{Way}
 use Rattle.redir_wire.specs.Header.{headers}
-use Rattle.redir_wire.specs.Reads.{never}
 use Rattle.redir_wire.proofs.Heads.{headers_sound}
-use Rattle.redir_wire.proofs.Told.{told_stands}
 use Rattle.redir_wire.proofs.header.read_header.Goals as goal
 
+stands-so : (first : Bool) (caps : Caps) (way : Way) {found : Found Header Reason} (b : List ℕ) → AreBytes b → reading (headers first caps way) b ≡ found → Stands (headers first caps way) b found
+stands-so first caps way b bytes e = subst (Stands (headers first caps way) b) e (stands (headers first caps way) (headers_sound first caps way) b bytes)
+
+pub returns-then-bytes-lt4-clause-exact : goal.returns-then-bytes-lt4-clause-exact
+returns-then-bytes-lt4-clause-exact c = search rules
+
+pub returns-then-bytes-lt4-clause-stands : goal.returns-then-bytes-lt4-clause-stands
+returns-then-bytes-lt4-clause-stands c = stands-so c.args.first c.args.caps c.args.way c.args.bytes.now (λ i. omega (arith, c.type_inv.bytes i)) (returns-then-bytes-lt4-clause-exact c)
+
+pub returns-then-bytes-lt8-clause-exact : goal.returns-then-bytes-lt8-clause-exact
+returns-then-bytes-lt8-clause-exact c = search rules
+
+pub returns-then-bytes-lt8-clause-stands : goal.returns-then-bytes-lt8-clause-stands
+returns-then-bytes-lt8-clause-stands c = stands-so c.args.first c.args.caps c.args.way c.args.bytes.now (λ i. omega (arith, c.type_inv.bytes i)) (returns-then-bytes-lt8-clause-exact c)
+
+pub returns-then-bytes-size-clause-exact : goal.returns-then-bytes-size-clause-exact
+returns-then-bytes-size-clause-exact c = search rules
+
+pub returns-then-bytes-size-clause-stands : goal.returns-then-bytes-size-clause-stands
+returns-then-bytes-size-clause-stands c = stands-so c.args.first c.args.caps c.args.way c.args.bytes.now (λ i. omega (arith, c.type_inv.bytes i)) (returns-then-bytes-size-clause-exact c)
+
+pub returns-clause-exact : goal.returns-clause-exact
+returns-clause-exact c = search rules
+
 pub returns-clause-stands : goal.returns-clause-stands
-returns-clause-stands c =
-    let a = c.args in
-    told_stands (headers a.first a.caps a.way) (headers_sound a.first a.caps a.way) never a.bytes.now (λ i. omega (arith, c.type_inv.bytes i)) c.header_at_front.result c.header_at_front.ensures
+returns-clause-stands c = stands-so c.args.first c.args.caps c.args.way c.args.bytes.now (λ i. omega (arith, c.type_inv.bytes i)) (returns-clause-exact c)
