@@ -10,6 +10,7 @@ use Rattle.gate_outside.specs.declared.turn.Polled.TheVariants.{Took, NotYet, En
 use Rattle.gate_outside.specs.Turns.{pending, answer, given, after}
 use Rattle.bridge_run.specs.Events.{LinkEvent, ClientComes, ClientQuiet, SidePiece, SideEnd}
 use Rattle.bridge_run.specs.Recorded.{lines_of, sends_any, is_last, is_full, written_if, waiting_if}
+use Rattle.bridge_run.specs.declared.serving.TheConstants.{ROOM}
 use Rattle.bridge_run.specs.declared.serve_end.ServeEnd.{ServeEnd}
 use Rattle.bridge_run.specs.declared.serve_end.ServeEnd.TheVariants as end
 use Rattle.bridge_run.specs.Prescribed.{Prescribed, gained, refuses, drops, first_of}
@@ -22,7 +23,7 @@ pub data Outcome : Type 0 where
 
 -- how many bytes a poll takes at most
 abbrev pub room : ℕ
-room = 65536
+room = ROOM
 
 -- ---- an event
 

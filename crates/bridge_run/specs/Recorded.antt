@@ -3,6 +3,7 @@ use Rattle.std.specs.Prelude.{ℕ, ◌==◌, ltb, ◌&&◌, ◌||◌, not, Bool,
 use Rattle.std.specs.List.{flat_map}
 use Rattle.usb_base.specs.declared.refusal.Refusal.{Refusal}
 use Rattle.session_tape.specs.Lines.{piece_line, end_line, refusal_comment}
+use Rattle.bridge_run.specs.declared.recording.TheConstants.{PIECE}
 use Rattle.bridge_run.specs.Events.{LinkEvent, SidePiece, SideEnd}
 
 -- a client that comes, or is quiet, has no line
@@ -30,7 +31,7 @@ is_last client_up host_up left = (not client_up && not host_up) || (left == 0)
 
 -- how many bytes wait at most
 abbrev pub piece : ℕ
-piece = 65536
+piece = PIECE
 
 abbrev pub is_full : List ℕ → Bool
 is_full lines = not (ltb (length lines) piece)

@@ -6,6 +6,7 @@ use Rattle.redir_wire.specs.declared.packet.Caps.{Caps}
 use Rattle.redir_wire.specs.declared.packet.Way.{Way}
 use Rattle.redir_wire.specs.declared.packet.Header.{Header}
 use Rattle.redir_wire.specs.declared.packet.RedirControl.{RedirControl}
+use Rattle.redir_wire.specs.declared.header.TheConstants.{MAX_LENGTH}
 use Rattle.redir_wire.specs.Table.{plain_row, goes}
 use Rattle.redir_wire.specs.Header.{is_wide, head_bytes, IdFits}
 use Rattle.redir_wire.specs.Spelling as wire
@@ -22,7 +23,7 @@ pub record CanWrite (id : ℕ) (way : Way) (caps : Caps) (d : RedirData) : Type 
   pub id_fits : IdFits (is_wide false caps) id
   pub length_fits : LengthFits caps d
   pub data_there : HasItsData way d
-  pub in_limit : size_of caps d ≤ 16777280
+  pub in_limit : size_of caps d ≤ MAX_LENGTH
 
 abbrev pub packet_bytes : ℕ → Caps → RedirData → List ℕ
 packet_bytes id caps d = head_bytes (is_wide false caps) (header_of id caps d) ++ fields caps d

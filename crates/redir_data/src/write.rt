@@ -3,6 +3,7 @@
 ghost use Rattle.std.specs.Prelude.{◌≡◌, ◌++◌, ◌≤◌, false, length, OnOk, OnErr};
 ghost use Rattle.packet_stream.specs.Writes.{AppendsSome};
 ghost use Rattle.redir_wire.specs.Header.{is_wide, head_bytes, IdFits};
+ghost use Rattle.redir_wire.specs.declared.header.TheConstants.{MAX_LENGTH};
 ghost use Rattle.redir_data.specs.Spelling.{size_of, header_of, fixed_fields};
 ghost use Rattle.redir_data.specs.Written.{CanWrite, packet_bytes};
 ghost use Rattle.redir_data.specs.declared.packet.RedirData.TheVariants.{Iso};
@@ -94,7 +95,7 @@ fn push_iso_out(
 
 fn push_data(packet: &RedirData, id: u64, caps: Caps, out: &mut Bytes) -> Result<(), Memory>
     requires id_fits { IdFits (is_wide false caps) id }
-    requires in_limit { size_of caps packet.now ≤ 16777280 }
+    requires in_limit { size_of caps packet.now ≤ MAX_LENGTH }
     ensures { AppendsSome result out.old out.new (packet_bytes id caps packet.now) }
 {
     push_head(packet, id, caps, out)?;
@@ -104,7 +105,7 @@ fn push_data(packet: &RedirData, id: u64, caps: Caps, out: &mut Bytes) -> Result
 
 fn push_moved(packet: RedirData, id: u64, caps: Caps, out: &mut Bytes) -> Result<(), Memory>
     requires id_fits { IdFits (is_wide false caps) id }
-    requires in_limit { size_of caps packet ≤ 16777280 }
+    requires in_limit { size_of caps packet ≤ MAX_LENGTH }
     ensures { AppendsSome result out.old out.new (packet_bytes id caps packet) }
 {
     push_head(&packet, id, caps, out)?;
@@ -115,7 +116,7 @@ fn push_moved(packet: RedirData, id: u64, caps: Caps, out: &mut Bytes) -> Result
 /// Appends what stands before the data: the header and the fixed fields.
 fn push_head(packet: &RedirData, id: u64, caps: Caps, out: &mut Bytes) -> Result<(), Memory>
     requires id_fits { IdFits (is_wide false caps) id }
-    requires in_limit { size_of caps packet.now ≤ 16777280 }
+    requires in_limit { size_of caps packet.now ≤ MAX_LENGTH }
     ensures { AppendsSome result out.old out.new (head_bytes (is_wide false caps) (header_of id caps packet.now) ++ fixed_fields caps packet.now) }
 {
     let row = packet.kind().row();

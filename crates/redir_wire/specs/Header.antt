@@ -9,6 +9,7 @@ use Rattle.packet_stream.specs.Format.{Check, check, wrong_at, Format}
 use Rattle.redir_wire.specs.declared.packet.Caps.{Caps}
 use Rattle.redir_wire.specs.declared.packet.Way.{Way}
 use Rattle.redir_wire.specs.declared.packet.Header.{Header}
+use Rattle.redir_wire.specs.declared.header.TheConstants.{MAX_LENGTH}
 use Rattle.redir_wire.specs.declared.kind.TypeRow.{TypeRow}
 use Rattle.redir_wire.specs.Capability.{has}
 use Rattle.redir_wire.specs.Table.{row_of, kind_numbered, is_left_out, goes, has_wanted, has_length}
@@ -55,7 +56,7 @@ head_checks first caps way =
     ∷ type_check UnknownType (λ number. is_left_out number || is_some (kind_numbered number))
     ∷ type_check NotAgreed (λ number. not (is_left_out number) && row_says (has_wanted caps) number)
     ∷ type_check WrongWay (row_says (goes way))
-    ∷ check 4 8 TooLong26 (λ b. nat_le (le_at w32 4 b) 16777280)
+    ∷ check 4 8 TooLong26 (λ b. nat_le (le_at w32 4 b) MAX_LENGTH)
     ∷ check 4 8 BadLength (λ b. is_its_length caps (le_at w32 0 b) (le_at w32 4 b))
     ∷ []
 

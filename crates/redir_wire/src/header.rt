@@ -17,6 +17,9 @@ use usb_base::{Reason, array_at, le_u32_at};
 /// The greatest length that a header may tell: a transfer of 16 MiB, and the fields of the longest data packet.
 pub const MAX_LENGTH: u32 = 16_777_280;
 
+/// The longest packet, in bytes, with its header.
+pub const LONGEST_PACKET: usize = 16_777_296;
+
 /// Reads the header at the front of what goes this way, where these capabilities are agreed. `first` says that the
 /// stream's hello hasn't come. A wrong header is refused as soon as the bytes of what is wrong are there:
 /// `HelloFirst`, `UnknownType`, `NotAgreed` and `WrongWay` at place 0, `TooLong26` and `BadLength` at place 4.

@@ -17,7 +17,7 @@ pub use capability::{
     ANNOUNCED, CONNECT_VERSION, DISCONNECT_ACK, MAX_PACKET_SIZE, WIDE_BULK_LENGTH, WIDE_IDS,
 };
 pub use field::{FieldWriter, Wire};
-pub use header::{MAX_LENGTH, header_size, read_header};
+pub use header::{LONGEST_PACKET, MAX_LENGTH, header_size, read_header};
 pub use kind::{DataKind, Kind, More, PlainKind, Tail, TypeRow, is_left_out};
 pub use laws::{headers_sound, plain_sound, read_again, read_by_parts};
 pub use next::next_control;

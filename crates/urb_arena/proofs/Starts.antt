@@ -8,6 +8,7 @@ use Rattle.urb_arena.specs.Inner.Turns.{Cells, links_or, link_at, ring_of, next_
 use Rattle.urb_arena.specs.Inner.Tables.{pairs, IsTable, lanes_of}
 use Rattle.urb_arena.proofs.Lanes.{listed_same}
 use Rattle.urb_arena.proofs.Moves.{row_is, Tied-row}
+use Rattle.urb_arena.specs.declared.arena.TheConstants.{MOST}
 
 range-length : (a n : ℕ) → length (range a n) ≡ n
 range-length a zero = refl
@@ -145,7 +146,7 @@ listed_replicate y (suc k) = ap (λ l. l ++ y ∷ []) (listed_replicate y k) ∙
     push zero = refl
     push (suc j) = ap (λ l. y ∷ l) (push j)
 
-pub IsTable-start : {X : Type 0} (t : Table X) → (t.base.ptr ≡ t.block.at) × (t.deed.at ≡ t.base.ptr) × (t.deed.len ≡ length t.block.links) × (t.deed.alloc ≡ t.alloc) → (t.lanes ≤ 65536) × (t.capacity ≤ 65536)
+pub IsTable-start : {X : Type 0} (t : Table X) → (t.base.ptr ≡ t.block.at) × (t.deed.at ≡ t.base.ptr) × (t.deed.len ≡ length t.block.links) × (t.deed.alloc ≡ t.alloc) → (t.lanes ≤ MOST) × (t.capacity ≤ MOST)
     → length t.block.links ≡ t.lanes + 1 + t.capacity → Started t.block.links t.lanes (t.lanes + 1 + t.capacity) (t.lanes + 1 + t.capacity) → t.block.values ≡ replicate (t.lanes + 1 + t.capacity) None → t.len ≡ 0
     → IsTable t × (lanes_of t ≡ replicate t.lanes [])
 unfolding lanes_of

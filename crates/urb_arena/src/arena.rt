@@ -5,6 +5,7 @@ ghost use Rattle.std.specs.Option.{option_copied_mut};
 ghost use Rattle.std.specs.Borrow.{sem};
 ghost use Rattle.urb_arena.specs.Lanes.{find_in, without, first_key, key_after_in, count, ByKey};
 ghost use Rattle.urb_arena.specs.Seen.{seen};
+ghost use Rattle.urb_arena.specs.declared.arena.TheConstants.{MOST};
 
 use crate::table::Table;
 use std::alloc::Global;
@@ -27,6 +28,9 @@ impl Model for Key {
 
     ghost inverse = { λ n. record { place = n } };
 }
+
+/// How many values an arena has room for at most, and how many lanes.
+pub const MOST: usize = 65_536;
 
 /// Values in lanes, each lane a list, in one block of memory. Contracts see each lane as its list of keys and values,
 /// from the front on, and beside them the capacity. A drop drops each value once.
@@ -54,7 +58,7 @@ impl<T> Arena<T> {
     /// An arena of so many lanes, all empty, with room for `capacity` values in all lanes together. It makes one request
     /// for memory, and no other call makes any.
     pub fn new(alloc: Global, capacity: usize, lanes: usize) -> Result<Arena<T>, Memory>
-        requires { (0 < capacity) × (capacity ≤ 65536) × (0 < lanes) × (lanes ≤ 65536) }
+        requires { (0 < capacity) × (capacity ≤ MOST) × (0 < lanes) × (lanes ≤ MOST) }
         ensures { IfOk result (λ a. a ≡ seen (replicate lanes []) capacity) }
     {
         let table = Table::new(alloc, capacity, lanes)?;

@@ -7,4 +7,4 @@ mod cells;
 mod rings;
 mod table;
 
-pub use arena::{Arena, Key};
+pub use arena::{Arena, Key, MOST};

@@ -4,6 +4,7 @@ ghost use Rattle.std.specs.Borrow.{sem};
 ghost use Rattle.urb_arena.specs.Inner.Turns.{ring_of, start};
 ghost use Rattle.urb_arena.specs.Lanes.{find_in, without, first_key, key_after_in, count, ByKey};
 ghost use Rattle.urb_arena.specs.Inner.Tables.{IsTable, lanes_of};
+ghost use Rattle.urb_arena.specs.declared.arena.TheConstants.{MOST};
 
 use crate::cells::{Base, Block, Cell, Deed, Links, allocate, deallocate};
 use std::alloc::{AllocError, Global};
@@ -43,7 +44,7 @@ fn first_links(at: usize, lanes: usize, total: usize) -> Links
 
 impl<T> Table<T> {
     pub(crate) fn new(alloc: Global, capacity: usize, lanes: usize) -> Result<Table<T>, AllocError>
-        requires { (capacity ≤ 65536) × (lanes ≤ 65536) }
+        requires { (capacity ≤ MOST) × (lanes ≤ MOST) }
         ensures { IfOk result (λ t. IsTable t × (t.capacity ≡ capacity) × (lanes_of t ≡ replicate lanes [])) }
     {
         let total = lanes + 1 + capacity;

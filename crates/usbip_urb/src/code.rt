@@ -31,6 +31,9 @@ pub const MAX_PACKETS: u32 = 1024;
 /// The longest isochronous packet, in bytes.
 pub const MAX_PACKET_LENGTH: u32 = 65_535;
 
+/// The longest packet, in bytes: a submit with its head, the longest body and the most descriptors.
+pub const LONGEST_PACKET: usize = 16_793_648;
+
 /// How many bytes a packet has up to its body.
 pub const HEAD_SIZE: usize = 48;
 /// How many bytes a descriptor has.

@@ -3,6 +3,7 @@ use Rattle.std.specs.Prelude.{◌≡◌, ℕ, ◌<◌, ◌≤◌, get_or, ◌⊎
 use Rattle.urb_arena.specs.Inner.Columns.{There}
 use Rattle.urb_arena.specs.Inner.Turns.{Cells, ring_of, row, listed, total, Tied}
 use Rattle.urb_arena.specs.declared.table.Table.{Table}
+use Rattle.urb_arena.specs.declared.arena.TheConstants.{MOST}
 
 module _ {X : Type 0} where
   abbrev pub consed : ℕ → Option X → List (ℕ × X) → List (ℕ × X)
@@ -26,7 +27,7 @@ module _ {X : Type 0} where
   -- what holds of the fields of each table
   pub record IsTable (t : Table X) : Type 0 where
     pub block : (t.base.ptr ≡ t.block.at) × (t.deed.at ≡ t.base.ptr) × (t.deed.len ≡ length t.block.links) × (t.deed.alloc ≡ t.alloc)
-    pub small : (t.lanes ≤ 65536) × (t.capacity ≤ 65536)
+    pub small : (t.lanes ≤ MOST) × (t.capacity ≤ MOST)
     pub tied : Tied t.block.links t.lanes t.capacity (row t.block.links)
     pub filled : Filled t.block.links t.block.values t.lanes
     pub len : t.len ≡ total (row t.block.links) t.lanes

@@ -191,7 +191,7 @@ calls-few : (s : Setting) (n : ℕ) (o : Outcome) → IsFew o → IsFew (calls s
 calls-few s zero o h = h
 calls-few s (suc n) o h = then-few s (calls s n o) (calls-few s n o h)
 
-pub reached-few : (s : Setting) (next : Next) (c : Course) (to : Outcome) → c.waiting ≡ [] → Reaches s (Goes next c) to → length (course_of to).waiting < 65536
+pub reached-few : (s : Setting) (next : Next) (c : Course) (to : Outcome) → c.waiting ≡ [] → Reaches s (Goes next c) to → length (course_of to).waiting < piece
 reached-few s next c to none r = subst IsFew r.is (calls-few s r.count (Goes next c) (subst (λ (l : List ℕ). length l < piece) (sym none) none-few))
 
 -- ---- what is left at an end
