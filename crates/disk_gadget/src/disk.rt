@@ -11,7 +11,8 @@ use crate::bulk;
 use crate::class_request::ClassRequest;
 use crate::medium::Medium;
 use crate::stage::{Course, Stage};
-use model_device::{Framework, Gadget, descriptors_of, is_done_change, stall};
+use chapter9::{stall, success};
+use model_device::{Framework, Gadget, descriptors_of, is_done_change};
 use redir_wire::{Connect, InterfaceInfo};
 use std::alloc::Global;
 use std::marker::Model;
@@ -149,14 +150,14 @@ fn request(
     match ClassRequest::of(setup) {
         Some(ClassRequest::Reset) => {
             course.stage = Stage::Waits;
-            Ok(bulk::given(Bytes::new(alloc)))
+            Ok(success(Bytes::new(alloc)))
         }
         Some(ClassRequest::MaxLun) => {
             let mut body = Bytes::new(alloc);
             if transfer.wanted > 0 && setup.length > 0 {
                 body.push(0)?;
             }
-            Ok(bulk::given(body))
+            Ok(success(body))
         }
         None => {
             let outcome = framework.control(alloc, transfer)?;

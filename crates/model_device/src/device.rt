@@ -3,9 +3,10 @@
 ghost use Rattle.std.specs.Prelude.{◌≡◌, IfOk};
 ghost use Rattle.model_device.specs.Device.{first_state};
 
-use crate::framework::{Framework, is_done_change, stall};
+use crate::framework::{Framework, is_done_change};
 use crate::function::Function;
 use crate::gadget::Gadget;
+use chapter9::stall;
 use redir_wire::{Connect, InterfaceInfo};
 use std::alloc::Global;
 use std::marker::Model;

@@ -4,7 +4,7 @@ ghost use Rattle.std.specs.Prelude.{◌≡◌, ◌&&◌, IsSome, IfOk, OnOk, OnE
 ghost use Rattle.usb_base.specs.Status.{is_success};
 ghost use Rattle.chapter9.specs.Descriptors.{wrong_place};
 ghost use Rattle.chapter9.specs.State.{unconfigured};
-ghost use Rattle.chapter9.specs.Standard.{outcome_of, stall, state_after};
+ghost use Rattle.chapter9.specs.Standard.{outcome_of, state_after};
 ghost use Rattle.chapter9.specs.Table.{table_of};
 ghost use Rattle.model_device.specs.Device.{device_bytes, identity_of, interfaces_of, is_running};
 ghost use Rattle.model_device.specs.Inside.{HasSet};
@@ -14,9 +14,7 @@ use chapter9::{DescriptorSet, DevState, Parts, WalkError, class_of, standard, ta
 use control_route::{is_change, route_of};
 use redir_wire::{Connect, InterfaceInfo};
 use std::alloc::Global;
-use usb_base::{
-    Bytes, EpAddr, EpKind, EpTable, Memory, Outcome, Speed, Transfer, UsbStatus, le_u16_at,
-};
+use usb_base::{Bytes, EpAddr, EpKind, EpTable, Memory, Outcome, Speed, Transfer, le_u16_at};
 
 /// USB's device framework (USB 2.0, chapter 9): a device's descriptors, with the parts of its configuration, and its
 /// state.
@@ -137,20 +135,7 @@ pub fn is_done_change(transfer: &Transfer, outcome: &Outcome) -> bool
     ensures { result ≡ (asks_change transfer.now && is_success outcome.now.status) }
 {
     match &transfer.setup {
-        Some(setup) => {
-            is_change(&route_of(setup)) && matches!(outcome.status, UsbStatus::Success)
-        }
+        Some(setup) => { is_change(&route_of(setup)) && outcome.status.is_success() }
         None => false,
-    }
-}
-
-/// The refusal of a transfer.
-pub fn stall(alloc: Global) -> Outcome
-    ensures { result ≡ stall }
-{
-    Outcome {
-        status: UsbStatus::Stall,
-        done: 0,
-        body: Bytes::new(alloc),
     }
 }

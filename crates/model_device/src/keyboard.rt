@@ -2,9 +2,9 @@
 #![tactic(auto, unfolding(crate::specs::Keyboard::keyboard))]
 
 use crate::device::Device;
-use crate::framework::{descriptors_of, stall};
+use crate::framework::descriptors_of;
 use crate::function::Function;
-use chapter9::DescriptorSet;
+use chapter9::{DescriptorSet, stall};
 use std::alloc::Global;
 use std::marker::Model;
 use usb_base::{Bytes, EpAddr, Memory, Outcome, Speed, StreamPacket, Transfer, UsbStatus};

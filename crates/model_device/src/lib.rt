@@ -12,7 +12,7 @@ mod submit;
 mod tone;
 
 pub use device::Device;
-pub use framework::{Framework, descriptors_of, is_done_change, stall};
+pub use framework::{Framework, descriptors_of, is_done_change};
 pub use function::Function;
 pub use gadget::Gadget;
 pub use keyboard::{Keyboard, NextKey};

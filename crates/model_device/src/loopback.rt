@@ -6,12 +6,12 @@ ghost use Rattle.model_device.specs.Loopback.{given_back, limit, taken_in};
 ghost use Rattle.model_device.specs.Meaning.{given_in, state_in};
 
 use crate::device::Device;
-use crate::framework::{descriptors_of, stall};
+use crate::framework::descriptors_of;
 use crate::function::Function;
-use chapter9::DescriptorSet;
+use chapter9::{DescriptorSet, stall, success, taken};
 use std::alloc::Global;
 use std::marker::Model;
-use usb_base::{Bytes, EpAddr, Memory, Outcome, Speed, StreamPacket, Transfer, UsbStatus};
+use usb_base::{Bytes, EpAddr, Memory, Outcome, Speed, StreamPacket, Transfer};
 
 /// The product in its device descriptor.
 const PRODUCT: u8 = 2;
@@ -102,11 +102,7 @@ fn take_in(alloc: Global, held: &mut Bytes, body: &[u8]) -> Result<Option<Outcom
         return Ok(None);
     }
     held.append(body)?;
-    Ok(Some(Outcome {
-        status: UsbStatus::Success,
-        done: body.len() as u32,
-        body: Bytes::new(alloc),
-    }))
+    Ok(Some(taken(alloc, body.len() as u32)))
 }
 
 // Gives the first bytes back, or answers None where there are none yet.
@@ -123,9 +119,5 @@ fn give_back(alloc: Global, held: &mut Bytes, wanted: u32) -> Result<Option<Outc
     let mut body = Bytes::new(alloc);
     body.append(&held.as_slice()[..len])?;
     held.skip(len);
-    Ok(Some(Outcome {
-        status: UsbStatus::Success,
-        done: len as u32,
-        body,
-    }))
+    Ok(Some(success(body)))
 }

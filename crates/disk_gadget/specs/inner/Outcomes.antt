@@ -6,7 +6,7 @@ use Rattle.std.proofs.lemmas.List.{length-take}
 use Rattle.usb_base.specs.Endpoint.{is_in_endpoint}
 use Rattle.usb_base.specs.Number.{le, part}
 use Rattle.usb_base.specs.declared.transfer.Transfer.{Transfer}
-use Rattle.chapter9.specs.Standard.{success}
+use Rattle.chapter9.specs.Standard.{success, taken}
 use Rattle.model_device.specs.Gadget.{IsNamed}
 use Rattle.model_device.specs.Transfer.{IsTransfer, IsOutcome}
 use Rattle.model_device.specs.inner.Lawful.{stall_outcome}
@@ -20,7 +20,7 @@ use Rattle.disk_gadget.specs.declared.wrapper.Wrapper.{Wrapper}
 use Rattle.disk_gadget.specs.Accesses.{count_of}
 use Rattle.disk_gadget.specs.DiskStep.{DiskState, bulk_turn, on_blocks, outcome_in, turned}
 use Rattle.disk_gadget.specs.Reports.{status_bytes}
-use Rattle.disk_gadget.specs.Turns.{Turn, acted, answering, begun, gathered, gathering, given_by, given_of, left_of, refused, reported, taken, taken_by}
+use Rattle.disk_gadget.specs.Turns.{Turn, acted, answering, begun, gathered, gathering, given_by, given_of, left_of, refused, reported, taken_by}
 use Rattle.disk_gadget.specs.Wrappers.{wrapper_of}
 
 -- a status has 13 bytes
@@ -31,7 +31,7 @@ status_length r = refl
 abbrev IsFine : List ℕ → Transfer → Option Turn → Type 0
 IsFine blocks t o = IfSome o (λ turn. IsOutcome t (outcome_in blocks turn.reply))
 
-taken_fine : (blocks : List ℕ) (t : Transfer) → IsTransfer t → is_in_endpoint t.ep ≡ false → IsOutcome t (outcome_in blocks (taken t.body))
+taken_fine : (blocks : List ℕ) (t : Transfer) → IsTransfer t → is_in_endpoint t.ep ≡ false → IsOutcome t (taken (length t.body))
 taken_fine blocks t it e = let wants = it.to_device e in record { done = omega arith; from_device = λ f. absurd (false≢true (sym e ∙ f)); to_device = λ f. refl }
 
 begun_fine : (blocks : List ℕ) (n : ℕ) (sense : Option Sense) (t : Transfer) (w : Option Wrapper) → IsTransfer t → is_in_endpoint t.ep ≡ false → IsOutcome t (outcome_in blocks (begun n sense t.body w).reply)
