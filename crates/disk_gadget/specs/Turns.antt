@@ -15,7 +15,7 @@ use Rattle.disk_gadget.specs.declared.stage.Stage.TheVariants.{Waits, Gathers, G
 use Rattle.disk_gadget.specs.declared.stage.Course.{Course}
 use Rattle.disk_gadget.specs.Accesses.{Access}
 use Rattle.disk_gadget.specs.Acts.{act_of}
-use Rattle.disk_gadget.specs.Reports.{status_bytes}
+use Rattle.disk_gadget.specs.Reports.{status_bytes, status_size}
 use Rattle.disk_gadget.specs.Wrappers.{wrapper_of}
 
 pub data Reply : Type 0 where
@@ -118,7 +118,7 @@ gave sense wanted answer r =
 -- a status isn't cut
 abbrev pub reported : Option Sense → ℕ → Report → Turn
 reported sense wanted r =
-    if nat_lt wanted 13 then refused (record { stage = Reports r; sense = sense })
+    if nat_lt wanted status_size then refused (record { stage = Reports r; sense = sense })
     else turn_to (record { stage = Waits; sense = sense }) (Plain (success (status_bytes r)))
 
 abbrev pub given_by : Option Sense → ℕ → Stage → Option Turn

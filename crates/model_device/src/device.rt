@@ -37,7 +37,7 @@ impl<F: Function> Device<F> {
         ensures { IfOk result (λ made. made ≡ first_state F.described) }
     {
         Ok(Device {
-            framework: Framework::make(alloc, F::descriptors(alloc)?)?,
+            framework: Framework::make(alloc, F::product().descriptors(alloc)?)?,
             function: F::first(alloc),
         })
     }
@@ -50,7 +50,7 @@ impl<F: Function> Gadget for Device<F> {
     ghost meaning = { meaning_of F.described };
 
     fn identity(&self) -> Connect {
-        self.framework.identity(F::speed())
+        self.framework.identity(F::product().speed)
     }
 
     fn configuration(&self) -> u8 {
