@@ -1,11 +1,10 @@
 //! A modelled device, lent to a guest, as what is served.
 
 ghost use Rattle.std.specs.Prelude.{◌≡◌, ◌∷◌, ◌++◌, ◌||◌, [], true, if◌then◌else◌, List as ListOf, OnOk, OnErr, IfOk};
-ghost use Rattle.std.specs.List.{flat_map, list_any};
+ghost use Rattle.std.specs.List.{flat_map, list_any, AllByRecursion};
 ghost use Rattle.usb_base.specs.Endpoint.{IsEndpoint};
 ghost use Rattle.redir_host.specs.step.Acts.{Act};
-ghost use Rattle.redir_host.specs.state.Sound.{Each};
-ghost use Rattle.redir_host.specs.step.Stands.{DoesAct, Stands, Stops};
+ghost use Rattle.redir_host.specs.step.Stands.{DoesAct, HostStands, Stops};
 ghost use Rattle.usb_base.specs.declared.side.Side.TheVariants.{Client};
 ghost use Rattle.bridge_run.specs.Events.{SidePiece, event_of, is_quiet};
 ghost use Rattle.bridge_run.specs.Lent.{each, used, acts_behind, is_coming, refused_by, refusal_in};
@@ -64,11 +63,11 @@ impl<G: Gadget> Lent<G> {
 
     /// Does with the device what an event asks.
     fn act(&mut self, event: LinkEvent, refusals: &mut List<Refusal>) -> Result<(), Memory>
-        ensures acts { OnOk result ((first : G) (past : ListOf Act) → Stands G.meaning first self.old.core past
+        ensures acts { OnOk result ((first : G) (past : ListOf Act) → HostStands G.meaning first self.old.core past
             → Acts G.meaning first self.new.core past (acts_behind G.meaning first past (event_of event.entry)) self.old.waiting self.new.waiting) }
-        ensures refusals { OnOk result ((first : G) (past : ListOf Act) → Stands G.meaning first self.old.core past
+        ensures refusals { OnOk result ((first : G) (past : ListOf Act) → HostStands G.meaning first self.old.core past
             → refusals.new ≡ refusals.old ++ refused_by G.meaning first past (event_of event.entry)) }
-        ensures stops { OnErr result ((first : G) (past : ListOf Act) → Stands G.meaning first self.old.core past
+        ensures stops { OnErr result ((first : G) (past : ListOf Act) → HostStands G.meaning first self.old.core past
             → Halts G.meaning first past (acts_behind G.meaning first past (event_of event.entry)) (refused_by G.meaning first past (event_of event.entry)) self.old.waiting self.new.waiting) }
         ensures come { self.new.has_come ≡ (is_coming (event_of event.entry) || self.old.has_come) }
         ensures quiet { OnOk result (is_quiet (event_of event.entry) ≡ true → refusals.new ≡ refusals.old) }
@@ -130,11 +129,11 @@ fn hear<G: Gadget>(
     refusals: &mut List<Refusal>,
     out: &mut Bytes,
 ) -> Result<(), Memory>
-    ensures acts { OnOk result ((first : G) (past : ListOf Act) → Stands G.meaning first core.old past
+    ensures acts { OnOk result ((first : G) (past : ListOf Act) → HostStands G.meaning first core.old past
         → Acts G.meaning first core.new past (acts_behind G.meaning first past (SidePiece Client bytes.now)) out.old out.new) }
-    ensures refusals { OnOk result ((first : G) (past : ListOf Act) → Stands G.meaning first core.old past
+    ensures refusals { OnOk result ((first : G) (past : ListOf Act) → HostStands G.meaning first core.old past
         → refusals.new ≡ refusals.old ++ refused_by G.meaning first past (SidePiece Client bytes.now)) }
-    ensures stops { OnErr result ((first : G) (past : ListOf Act) → Stands G.meaning first core.old past
+    ensures stops { OnErr result ((first : G) (past : ListOf Act) → HostStands G.meaning first core.old past
         → Halts G.meaning first past (acts_behind G.meaning first past (SidePiece Client bytes.now)) (refused_by G.meaning first past (SidePiece Client bytes.now)) out.old out.new) }
 {
     let notes = core.take(bytes, out)?;
@@ -147,9 +146,9 @@ fn hear<G: Gadget>(
 
 /// Performs the first request of each endpoint, and then offers the streams of all IN endpoints.
 fn use_device<G: Gadget>(core: &mut HostCore<G>, out: &mut Bytes) -> Result<(), Memory>
-    ensures acts { OnOk result ((first : G) (past : ListOf Act) → Stands G.meaning first core.old past
+    ensures acts { OnOk result ((first : G) (past : ListOf Act) → HostStands G.meaning first core.old past
         → Acts G.meaning first core.new past (used past) out.old out.new) }
-    ensures stops { OnErr result ((first : G) (past : ListOf Act) → Stands G.meaning first core.old past
+    ensures stops { OnErr result ((first : G) (past : ListOf Act) → HostStands G.meaning first core.old past
         → StopsIn G.meaning first past (used past) out.old out.new) }
 {
     use_each(core, Use::Perform, &OUT_ADDRESSES, out)?;
@@ -164,10 +163,10 @@ fn use_each<G: Gadget>(
     addresses: &[u8],
     out: &mut Bytes,
 ) -> Result<(), Memory>
-    requires { Each IsEndpoint addresses.now }
-    ensures acts { OnOk result ((first : G) (past : ListOf Act) → Stands G.meaning first core.old past
+    requires { AllByRecursion IsEndpoint addresses.now }
+    ensures acts { OnOk result ((first : G) (past : ListOf Act) → HostStands G.meaning first core.old past
         → Acts G.meaning first core.new past (each (act_of how) addresses.now past) out.old out.new) }
-    ensures stops { OnErr result ((first : G) (past : ListOf Act) → Stands G.meaning first core.old past
+    ensures stops { OnErr result ((first : G) (past : ListOf Act) → HostStands G.meaning first core.old past
         → StopsIn G.meaning first past (each (act_of how) addresses.now past) out.old out.new) }
 {
     for address in addresses {
@@ -186,9 +185,9 @@ fn use_endpoint<G: Gadget>(
     ep: EpAddr,
     out: &mut Bytes,
 ) -> Result<(), Memory>
-    ensures does { OnOk result ((first : G) (past : ListOf Act) → Stands G.meaning first core.old past
+    ensures does { OnOk result ((first : G) (past : ListOf Act) → HostStands G.meaning first core.old past
         → DoesAct G.meaning first core.new past (act_of how ep) out.old out.new) }
-    ensures stops { OnErr result ((first : G) (past : ListOf Act) → Stands G.meaning first core.old past
+    ensures stops { OnErr result ((first : G) (past : ListOf Act) → HostStands G.meaning first core.old past
         → Stops G.meaning first past (act_of how ep) out.old out.new) }
 {
     match how {

@@ -7,8 +7,8 @@ ghost use Rattle.redir_host.specs.guest.Guest.{guest_reader};
 ghost use Rattle.redir_host.specs.device.Offering.{told_offered};
 ghost use Rattle.redir_host.specs.device.Performing.{told_performed};
 ghost use Rattle.redir_host.specs.state.Sound.{IsSound};
-ghost use Rattle.redir_host.specs.step.Stands.{Does, HasFailed, HasPast, Stands, StopsIn, TakesPiece, TellsOf};
-ghost use Rattle.redir_host.specs.guest.Takings.{HasRead, LeavesWanted, TookPackets};
+ghost use Rattle.redir_host.specs.step.Stands.{Does, HasFailed, HasPast, HostStands, StopsIn, TakesPiece, TellsOf};
+ghost use Rattle.redir_host.specs.guest.Takings.{HasRead, LeavesWanted, TookAndSent};
 ghost use Rattle.redir_host.specs.inner.Views.{kept_of};
 
 use crate::host::Host;
@@ -57,7 +57,7 @@ impl<G> Inner<G> {
 impl<G: Gadget> Inner<G> {
     /// The host of a device that was just plugged in.
     pub fn new(alloc: Global, gadget: G) -> Self
-        ensures { Stands G.meaning gadget (kept_of result) [] }
+        ensures { HostStands G.meaning gadget (kept_of result) [] }
     {
         Inner {
             alloc,
@@ -139,7 +139,7 @@ fn take_packets<G: Gadget>(
 ) -> Result<(), ReadError>
     requires read { HasRead stream.old host.old.guest }
     requires sound { IsSound host.old }
-    ensures takes { TakesPackets guest_reader result stream.old stream.new (TookPackets result G.meaning host.old host.new out.old out.new notes.old notes.new) }
+    ensures takes { TakesPackets guest_reader result stream.old stream.new (TookAndSent result G.meaning host.old host.new out.old out.new notes.old notes.new) }
     ensures wants { LeavesWanted result G.meaning stream.old host.old out.old out.new }
 {
     while let Some((_, (header, packet))) = stream.next(alloc)? {

@@ -1,7 +1,7 @@
 use Rattle.std.proofs.Common.{ℕ, List, ◌+◌, ◌∷◌, drop, sym, ap, subst, ◌∙◌}
 use Rattle.std.proofs.lemmas.List.{drop_more}
+use Rattle.std.specs.List.{AllByRecursion as Each}
 use Rattle.usb_base.specs.Endpoint.{IsEndpoint}
-use Rattle.redir_host.specs.state.Sound.{Each}
 use Rattle.bridge_run.specs.inner.Lending.{act_of}
 use Rattle.bridge_run.proofs.lemmas.events.Acts.{midway-none, midway-more}
 use Rattle.bridge_run.proofs.lemmas.events.Halts.{stop-endpoint, err-all}

@@ -7,7 +7,7 @@ use Rattle.model_device.specs.Meaning.{Meaning}
 use Rattle.redir_host.specs.declared.host.Host.{Host}
 use Rattle.redir_host.specs.declared.note.Performed.{Performed}
 use Rattle.redir_host.specs.device.Performing.{performs, performs_marked, perform_move, told_performed, with_id}
-use Rattle.redir_host.specs.step.Makes.{Performs, Tells}
+use Rattle.redir_host.specs.step.Makes.{TellsPerformed, Tells}
 use Rattle.std.proofs.lemmas.Result.{IfOk-weaker, on_err_weaker}
 use Rattle.redir_host.specs.declared.request.Request.{Request}
 use Rattle.redir_host.specs.state.Queues.{is_at}
@@ -21,7 +21,7 @@ perform_marked-requires-clause-marked g c = subst (λ (o : Option Request). IsSo
 
 -- what is told and made of an endpoint's first request, by whether a reset is due before it
 performed-first : {S : Type 0} (m : Meaning S) (h new : Host S) (ep : ℕ) (q : Request) (reset : Bool) (result : Result Performed Memory) (o0 o1 : List ℕ) → h.unplugged ≡ false → Some q ≡ find (is_at ep) h.queue → q.reset ≡ reset
-    → IfOk result (λ told. (x : Request) → find (is_at ep) h.queue ≡ Some x → let rest : Host S = record h { queue = without_first (is_at ep) h.queue } in Performs (with_id x (if reset then performs_marked m rest x x.form else performs m rest x)) h new told o0 o1)
+    → IfOk result (λ told. (x : Request) → find (is_at ep) h.queue ≡ Some x → let rest : Host S = record h { queue = without_first (is_at ep) h.queue } in TellsPerformed (with_id x (if reset then performs_marked m rest x x.form else performs m rest x)) h new told o0 o1)
     → IfOk result (λ told. (told ≡ told_performed m h ep) × Tells (perform_move m h ep) new o0 o1)
 performed-first m h new ep q reset result o0 o1 plugged found is performs =
     IfOk-weaker result _ _ (λ told says. first_done m h new ep q reset told o0 o1 plugged (sym found) is (says q (sym found))) performs

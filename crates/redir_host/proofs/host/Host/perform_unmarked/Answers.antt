@@ -4,7 +4,7 @@ use Rattle.std.specs.Option.{option_copied}
 use Rattle.model_device.specs.Meaning.{given_in, state_in}
 use Rattle.redir_host.specs.declared.note.Performed.TheVariants.{Done}
 use Rattle.redir_host.specs.declared.request.Request.{Request}
-use Rattle.redir_host.specs.step.Makes.{Performs, Tells}
+use Rattle.redir_host.specs.step.Makes.{TellsPerformed, Tells}
 use Rattle.redir_host.specs.device.Performing.{done_by, performs, with_id}
 use Rattle.usb_base.specs.Firsts.{without_first}
 use Rattle.redir_host.specs.state.Queues.{is_at}
@@ -42,7 +42,7 @@ returns-in_ok-finish-in-Some-clause-ok g c q is =
     let done = performed_is h.gadget c.perform.new.self (m.perform h.gadget own.transfer) c.in-Some.outcome
     (sym c.in-Some.is ∙ c.in_ok-outcome.ensures.outcome ∙ ap (λ (r : Request). given_in (m.perform h.gadget r.transfer)) read)
     (c.in_ok-outcome.ensures.state ∙ ap (λ (r : Request). state_in h.gadget (m.perform h.gadget r.transfer)) read) in
-    let Says : Request → Type 0 = λ x. Performs (with_id x (performs m (record h { queue = rest }) x)) h c.finish.new.self (Done own.id) c.args.out.now c.finish.new.out in
+    let Says : Request → Type 0 = λ x. TellsPerformed (with_id x (performs m (record h { queue = rest }) x)) h c.finish.new.self (Done own.id) c.args.out.now c.finish.new.out in
     subst Says same (performs_done m h c.finish.new.self own rest c.table-table.result c.change_of-change.result c.perform.new.self c.in-Some.outcome c.args.out.now c.finish.new.out done c.table-table.ensures c.change_of-change.ensures
     (subst (λ (ys : List Request). Tells (done_by m c.table-table.result (record h { gadget = c.perform.new.self; queue = ys }) own c.change_of-change.result c.in-Some.outcome) c.finish.new.self c.args.out.now c.finish.new.out) c.remove_first-request.ensures.rest c.in_ok-finish-in-Some.ensures.ok))
 
