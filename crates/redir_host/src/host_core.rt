@@ -74,7 +74,9 @@ impl<G: Gadget> HostCore<G> {
         ensures failed { HasFailed self.old → IsErr result × (self.new ≡ self.old) }
     {
         self.inner.works()?;
-        let told = self.inner.perform(ep, out);
+        let before = out.len();
+        let performed = self.inner.host.perform(self.inner.alloc, ep, out);
+        let told = out.cut_on_err(before, performed);
         self.inner.fail_on_err(told)
     }
 
@@ -89,7 +91,7 @@ impl<G: Gadget> HostCore<G> {
         ensures failed { HasFailed self.old → IsErr result × (self.new ≡ self.old) }
     {
         self.inner.works()?;
-        let told = self.inner.offer(ep, out);
+        let told = self.inner.host.offer(self.inner.alloc, ep, out);
         self.inner.fail_on_err(told)
     }
 
@@ -104,7 +106,7 @@ impl<G: Gadget> HostCore<G> {
         ensures failed { HasFailed self.old → IsErr result × (self.new ≡ self.old) }
     {
         self.inner.works()?;
-        let told = self.inner.unplug(out);
+        let told = self.inner.host.unplug(out);
         self.inner.fail_on_err(told)
     }
 }

@@ -54,29 +54,10 @@ impl<G: Gadget> Host<G> {
             return Ok(Performed::NotReady);
         };
         if request.reset {
-            self.perform_marked(alloc, ep, out)
-        } else {
-            self.perform_unmarked(alloc, ep, out)
+            return self.perform_marked(alloc, ep, out);
         }
-    }
-
-    /// Performs an endpoint's first request.
-    fn perform_unmarked(
-        &mut self,
-        alloc: Global,
-        ep: EpAddr,
-        out: &mut Bytes,
-    ) -> Result<Performed, Memory>
-        requires sound { IsSound self.old }
-        requires there { IsSome (find (is_at ep) self.old.queue) }
-        ensures ok { IfOk result (λ told. (q : Asked) → find (is_at ep) self.old.queue ≡ Some q
-            → TellsPerformed (with_id q (performs G.meaning (record self.old { queue = without_first (is_at ep) self.old.queue }) q)) self.old self.new told out.old out.new) }
-        ensures wants { OnErr result (IsSomeAnd (find (is_at ep) self.old.queue) (λ q. IsSome (G.meaning.perform self.old.gadget q.transfer))) }
-        ensures err { OnErr result (Begins out.old out.new) }
-    {
         let table = self.gadget.table();
-        let transfer = &self.queue.first(ep).unwrap().transfer;
-        match self.gadget.perform(alloc, transfer)? {
+        match self.gadget.perform(alloc, &request.transfer)? {
             Some(outcome) => {
                 let request = self.queue.remove_first(ep);
                 let id = request.id;
