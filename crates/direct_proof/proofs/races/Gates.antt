@@ -11,7 +11,7 @@ use Rattle.gate_history.specs.client.Submits.{Pending, pending, live, abandoned}
 use Rattle.gate_history.specs.state.Ids.{holds, AreFresh, Fits, greatest}
 use Rattle.gate_history.specs.state.Flight.{ids_of, in_flight, wide_ids}
 use Rattle.gate_history.specs.state.Calls.{calls, call_ids}
-use Rattle.gate_history.specs.state.State.{State, state_of, submits, flying}
+use Rattle.gate_history.specs.state.State.{State, state_of, flying}
 use Rattle.gate_history.specs.state.Sound.{IsSound, HasFewPackets}
 use Rattle.gate_history.specs.step.Past.{is_left_out, past}
 use Rattle.gate_history.specs.step.Meaning.{mark_of}

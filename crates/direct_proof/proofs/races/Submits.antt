@@ -27,7 +27,6 @@ use Rattle.gate_history.specs.client.Verdict.{by_transfer, by_endpoint, changes}
 use Rattle.gate_history.specs.declared.errno.TheConstants.{ENOENT, EBUSY, ESHUTDOWN}
 use Rattle.gate_history.specs.state.Flight.{wide_bulk}
 use Rattle.gate_history.specs.state.Ups.{Up, is_ended}
-use Rattle.gate_history.specs.client.Submits.{Pending, is_touched}
 use Rattle.gate_history.specs.state.State.{State, change_waits, next_ids, has_number}
 use Rattle.gate_history.specs.step.Meaning.{verdict_of, mark_of, drawn_by, meaning, refused, accepts}
 use Rattle.direct_run.specs.Moves.{World, ByClient}
