@@ -3,7 +3,7 @@
 ghost use Rattle.std.specs.Prelude.{◌≡◌, ◌∷◌, ◌++◌, ◌||◌, [], true, if◌then◌else◌, List as ListOf, OnOk, OnErr, IfOk};
 ghost use Rattle.std.specs.List.{flat_map, list_any};
 ghost use Rattle.redir_host.specs.step.Acts.{Act};
-ghost use Rattle.redir_host.specs.step.Stands.{DoesAct, Stands, Stops};
+ghost use Rattle.redir_host.specs.step.Stands.{DoesAct, HostStands, Stops};
 ghost use Rattle.usb_base.specs.declared.side.Side.TheVariants.{Client};
 ghost use Rattle.bridge_run.specs.Events.{SidePiece, event_of, is_quiet};
 ghost use Rattle.bridge_run.specs.Lent.{each, used, acts_behind, is_coming, refused_by, refusal_in};
@@ -52,11 +52,11 @@ impl<G: Gadget> Lent<G> {
 
     /// Does with the device what an event asks.
     fn act(&mut self, event: LinkEvent, refusals: &mut List<Refusal>) -> Result<(), Memory>
-        ensures acts { OnOk result ((first : G) (past : ListOf Act) → Stands G.meaning first self.old.core past
+        ensures acts { OnOk result ((first : G) (past : ListOf Act) → HostStands G.meaning first self.old.core past
             → Acts G.meaning first self.new.core past (acts_behind G.meaning first past (event_of event.entry)) self.old.waiting self.new.waiting) }
-        ensures refusals { OnOk result ((first : G) (past : ListOf Act) → Stands G.meaning first self.old.core past
+        ensures refusals { OnOk result ((first : G) (past : ListOf Act) → HostStands G.meaning first self.old.core past
             → refusals.new ≡ refusals.old ++ refused_by G.meaning first past (event_of event.entry)) }
-        ensures stops { OnErr result ((first : G) (past : ListOf Act) → Stands G.meaning first self.old.core past
+        ensures stops { OnErr result ((first : G) (past : ListOf Act) → HostStands G.meaning first self.old.core past
             → Halts G.meaning first past (acts_behind G.meaning first past (event_of event.entry)) (refused_by G.meaning first past (event_of event.entry)) self.old.waiting self.new.waiting) }
         ensures come { self.new.has_come ≡ (is_coming (event_of event.entry) || self.old.has_come) }
         ensures quiet { OnOk result (is_quiet (event_of event.entry) ≡ true → refusals.new ≡ refusals.old) }
@@ -118,11 +118,11 @@ fn hear<G: Gadget>(
     refusals: &mut List<Refusal>,
     out: &mut Bytes,
 ) -> Result<(), Memory>
-    ensures acts { OnOk result ((first : G) (past : ListOf Act) → Stands G.meaning first core.old past
+    ensures acts { OnOk result ((first : G) (past : ListOf Act) → HostStands G.meaning first core.old past
         → Acts G.meaning first core.new past (acts_behind G.meaning first past (SidePiece Client bytes.now)) out.old out.new) }
-    ensures refusals { OnOk result ((first : G) (past : ListOf Act) → Stands G.meaning first core.old past
+    ensures refusals { OnOk result ((first : G) (past : ListOf Act) → HostStands G.meaning first core.old past
         → refusals.new ≡ refusals.old ++ refused_by G.meaning first past (SidePiece Client bytes.now)) }
-    ensures stops { OnErr result ((first : G) (past : ListOf Act) → Stands G.meaning first core.old past
+    ensures stops { OnErr result ((first : G) (past : ListOf Act) → HostStands G.meaning first core.old past
         → Halts G.meaning first past (acts_behind G.meaning first past (SidePiece Client bytes.now)) (refused_by G.meaning first past (SidePiece Client bytes.now)) out.old out.new) }
 {
     let notes = core.take(bytes, out)?;
@@ -135,9 +135,9 @@ fn hear<G: Gadget>(
 
 /// Performs the first request of each endpoint, and then offers the streams of all IN endpoints.
 fn use_device<G: Gadget>(core: &mut HostCore<G>, out: &mut Bytes) -> Result<(), Memory>
-    ensures acts { OnOk result ((first : G) (past : ListOf Act) → Stands G.meaning first core.old past
+    ensures acts { OnOk result ((first : G) (past : ListOf Act) → HostStands G.meaning first core.old past
         → Acts G.meaning first core.new past (used past) out.old out.new) }
-    ensures stops { OnErr result ((first : G) (past : ListOf Act) → Stands G.meaning first core.old past
+    ensures stops { OnErr result ((first : G) (past : ListOf Act) → HostStands G.meaning first core.old past
         → StopsIn G.meaning first past (used past) out.old out.new) }
 {
     use_each(core, Use::Perform, &EpAddr::all_out(), out)?;
@@ -152,9 +152,9 @@ fn use_each<G: Gadget>(
     eps: &[EpAddr],
     out: &mut Bytes,
 ) -> Result<(), Memory>
-    ensures acts { OnOk result ((first : G) (past : ListOf Act) → Stands G.meaning first core.old past
+    ensures acts { OnOk result ((first : G) (past : ListOf Act) → HostStands G.meaning first core.old past
         → Acts G.meaning first core.new past (each (act_of how) eps.now past) out.old out.new) }
-    ensures stops { OnErr result ((first : G) (past : ListOf Act) → Stands G.meaning first core.old past
+    ensures stops { OnErr result ((first : G) (past : ListOf Act) → HostStands G.meaning first core.old past
         → StopsIn G.meaning first past (each (act_of how) eps.now past) out.old out.new) }
 {
     for ep in eps {
@@ -170,9 +170,9 @@ fn use_endpoint<G: Gadget>(
     ep: EpAddr,
     out: &mut Bytes,
 ) -> Result<(), Memory>
-    ensures does { OnOk result ((first : G) (past : ListOf Act) → Stands G.meaning first core.old past
+    ensures does { OnOk result ((first : G) (past : ListOf Act) → HostStands G.meaning first core.old past
         → DoesAct G.meaning first core.new past (act_of how ep) out.old out.new) }
-    ensures stops { OnErr result ((first : G) (past : ListOf Act) → Stands G.meaning first core.old past
+    ensures stops { OnErr result ((first : G) (past : ListOf Act) → HostStands G.meaning first core.old past
         → Stops G.meaning first past (act_of how ep) out.old out.new) }
 {
     match how {

@@ -82,6 +82,10 @@ stall = ended Stall
 abbrev pub success : List ℕ → Outcome
 success body = record { status = Success; done = length body; body = body }
 
+-- of a transfer to the device this many bytes were taken
+abbrev pub taken : ℕ → Outcome
+taken count = record { status = Success; done = count; body = [] }
+
 -- what is given is cut to wLength, and to what the transfer wants
 abbrev pub read_outcome : ℕ → ℕ → Option (List ℕ) → Outcome
 read_outcome len wanted given = option_map_or (λ bytes. success (take (min wanted len) bytes)) given stall

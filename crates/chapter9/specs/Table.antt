@@ -26,7 +26,7 @@ abbrev pub with_row : ℕ → EpRow → List EpRow → List EpRow
 with_row ep row rows = if endpoint_index ep % 16 == 0 then rows else slice_set rows (endpoint_index ep) row
 
 -- an endpoint's address, and its row
-pub record Placed : Type 0 where
+pub record EndpointRow : Type 0 where
   pub ep : ℕ
   pub row : EpRow
 
@@ -37,18 +37,18 @@ interface_after alt before (Interface number other class subclass protocol) = if
 interface_after alt before _ = before
 
 -- the endpoint that this descriptor adds to that setting, if it is one
-abbrev pub placed : Part → Option ℕ → List Placed
-placed (Endpoint ep kind max_packet interval) (Some number) = record { ep = ep; row = record { kind = kind; interval = interval; interface = number; max_packet = max_packet } } ∷ []
-placed _ _ = []
+abbrev pub endpoint_rows : Part → Option ℕ → List EndpointRow
+endpoint_rows (Endpoint ep kind max_packet interval) (Some number) = record { ep = ep; row = record { kind = kind; interval = interval; interface = number; max_packet = max_packet } } ∷ []
+endpoint_rows _ _ = []
 
 -- the endpoints that stand after an interface descriptor with this alternate setting, up to the next interface
 -- descriptor
-abbrev pub endpoints_after : ℕ → Option ℕ → List Part → List Placed
+abbrev pub endpoints_after : ℕ → Option ℕ → List Part → List EndpointRow
 endpoints_after alt before [] = []
-endpoints_after alt before (part ∷ parts) = placed part before ++ endpoints_after alt (interface_after alt before part) parts
+endpoints_after alt before (part ∷ parts) = endpoint_rows part before ++ endpoints_after alt (interface_after alt before part) parts
 
 -- each row at its place, so that of two with one address the later counts
-abbrev pub with_rows : List EpRow → List Placed → List EpRow
+abbrev pub with_rows : List EpRow → List EndpointRow → List EpRow
 with_rows rows [] = rows
 with_rows rows (p ∷ ps) = with_rows (with_row p.ep p.row rows) ps
 

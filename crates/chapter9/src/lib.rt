@@ -3,6 +3,7 @@
 #![tactic(auto)]
 
 mod descriptors;
+mod outcome;
 mod part;
 mod requests;
 mod standard_requests;
@@ -10,6 +11,7 @@ mod state;
 mod table;
 
 pub use descriptors::{WalkError, descriptors_join, walk};
+pub use outcome::{ended, stall, success, taken};
 pub use part::{Part, Parts};
 pub use requests::{ControlRead, ControlWrite, Request, request_of};
 pub use standard_requests::{DescriptorSet, standard};

@@ -1,9 +1,10 @@
 //! What a device answers to a request on endpoint 0, and what the request changes.
 
-ghost use Rattle.std.specs.Prelude.{◌≡◌, ◌<◌, ◌==◌, ◌&&◌, [], IsSome, OnOk, OnErr, IfOk, Some, None, is_some, unwrap_or, option_copied, length, take, if◌then◌else◌};
+ghost use Rattle.std.specs.Prelude.{◌≡◌, ◌<◌, ◌==◌, ◌&&◌, IsSome, OnOk, OnErr, IfOk, Some, None, is_some, unwrap_or, option_copied, length, take, if◌then◌else◌};
 ghost use Rattle.chapter9.specs.State.{is_configured};
-ghost use Rattle.chapter9.specs.Standard.{changed_by, descriptor_of, given_by, halted, is_endpoint, is_setting, outcome_of, read_outcome, stall, state_after, success};
+ghost use Rattle.chapter9.specs.Standard.{changed_by, descriptor_of, given_by, halted, is_endpoint, is_setting, outcome_of, read_outcome, state_after, success};
 
+use crate::outcome::{ended, stall, success};
 use crate::part::Parts;
 use crate::requests::{ControlRead, ControlWrite, Request, request_of};
 use crate::state::DevState;
@@ -56,7 +57,7 @@ pub fn standard(
         }
         Some(Request::Write(write)) => {
             if change(parts, state, &setup, write) {
-                Ok(success(alloc))
+                Ok(ended(alloc, UsbStatus::Success))
             } else {
                 Ok(stall(alloc))
             }
@@ -198,29 +199,5 @@ fn given(alloc: Global, bytes: &[u8], most: u32) -> Result<Outcome, Memory>
     if len > 0 {
         body.append(&bytes[..len])?;
     }
-    Ok(Outcome {
-        status: UsbStatus::Success,
-        done: len as u32,
-        body,
-    })
-}
-
-fn success(alloc: Global) -> Outcome
-    ensures { result ≡ success [] }
-{
-    Outcome {
-        status: UsbStatus::Success,
-        done: 0,
-        body: Bytes::new(alloc),
-    }
-}
-
-fn stall(alloc: Global) -> Outcome
-    ensures { result ≡ stall }
-{
-    Outcome {
-        status: UsbStatus::Stall,
-        done: 0,
-        body: Bytes::new(alloc),
-    }
+    Ok(success(body))
 }

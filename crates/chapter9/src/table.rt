@@ -1,7 +1,7 @@
 //! Which endpoints a device has in a state, and of which class its interface is.
 
 ghost use Rattle.std.specs.Prelude.{◌≡◌, None};
-ghost use Rattle.chapter9.specs.Table.{class_at, class_of, endpoints_after, interface_after, placed, table_of, with_row, with_rows};
+ghost use Rattle.chapter9.specs.Table.{class_at, class_of, endpoints_after, interface_after, endpoint_rows, table_of, with_row, with_rows};
 
 use crate::part::{Part, Parts};
 use crate::state::DevState;
@@ -56,7 +56,7 @@ fn add_setting(table: &mut EpTable, parts: &Parts, alt: u8)
 
 // Adds the endpoint of a descriptor that stands behind one of this interface, if it is one.
 fn add_endpoint(table: &mut EpTable, interface: Option<u8>, part: &Part)
-    ensures { table.new.rows ≡ with_rows table.old.rows (placed part.now interface) }
+    ensures { table.new.rows ≡ with_rows table.old.rows (endpoint_rows part.now interface) }
 {
     let Some(interface) = interface else {
         return;

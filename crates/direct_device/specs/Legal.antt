@@ -1,5 +1,5 @@
 -- Where an item of a trace is allowed to the device attached directly, and what it answers to a whole trace.
-use Rattle.std.specs.Prelude.{◌≡◌, ℕ, Bool, true, List, [], ◌∷◌, ◌++◌, map, Option, Some, slice_get, IsSome, IsSomeAnd, false}
+use Rattle.std.specs.Prelude.{◌≡◌, Bool, true, List, [], ◌∷◌, ◌++◌, map, Option, Some, slice_get, IsSome, IsSomeAnd, false}
 use Rattle.std.specs.List.{find, list_any, flat_map}
 use Rattle.usb_base.specs.declared.transfer.StreamPacket.{StreamPacket}
 use Rattle.usbip_urb.specs.declared.packet.UrbPacket.{UrbPacket}
@@ -9,7 +9,7 @@ use Rattle.gate_history.specs.client.Submits.{is_waiting, waits_at}
 use Rattle.gate_history.specs.state.Ups.{Up, stream_of}
 use Rattle.direct_run.specs.declared.item.Item.{Item}
 use Rattle.direct_run.specs.declared.item.Item.TheVariants as item
-use Rattle.direct_device.specs.Direct.{first_direct, Load, Live, Waiting, Ran, Direct, as_submission, is_number, normal_of, is_at}
+use Rattle.direct_device.specs.Direct.{first_direct, Load, Live, Direct, as_submission, is_number, normal_of, is_at}
 use Rattle.direct_device.specs.Acting.{Deed, Import, Submit, Unlink, Perform, Cancel, Answer, Offer, Arrive, Gone, ClientGone, act, answers, is_cancelled_by, cut_for}
 
 -- ---- one item

@@ -1,8 +1,8 @@
 -- The ids of starts and stops, and the fence between two clients.
 use Rattle.std.specs.Prelude.{◌≡◌, ℕ, ◌+◌, ◌≤◌, ◌==◌, ◌||◌, Bool, true, false, if◌then◌else◌, List, [], ◌∷◌, ◌++◌, Option, Some, None, is_some, get_or}
+use Rattle.std.specs.List.{AllByRecursion}
 use Rattle.usb_base.specs.Endpoint.{endpoint_index}
 use Rattle.redir_data.specs.declared.packet.RedirPacket.{RedirPacket}
-use Rattle.redir_host.specs.state.Sound.{Each}
 use Rattle.gate_history.specs.state.Calls.{Calls}
 use Rattle.gate_history.specs.state.Ids.{times}
 use Rattle.direct_proof.specs.Running.{called_endpoint}
@@ -41,8 +41,8 @@ StatusIsKept c _ = Unit {0}
 
 pub record Controls (c : Calls) (to_host : List (ℕ × RedirPacket)) (back : List Tagged) : Type 0 where
   pub once : (id : ℕ) → times id (calls_on to_host) + times id (statuses_on back) ≤ 1
-  pub calls_kept : Each (λ (p : ℕ × RedirPacket). CallIsKept c p.0 (called_endpoint p.1)) to_host
-  pub statuses_kept : Each (StatusIsKept c) back
+  pub calls_kept : AllByRecursion (λ (p : ℕ × RedirPacket). CallIsKept c p.0 (called_endpoint p.1)) to_host
+  pub statuses_kept : AllByRecursion (StatusIsKept c) back
 
 -- the fence's stop is to come, or its status is on the wire
 abbrev pub Fenced : Option ℕ → Bool → List (ℕ × RedirPacket) → List Tagged → Type 0

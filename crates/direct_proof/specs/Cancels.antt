@@ -1,13 +1,12 @@
 -- What the gateway asks of its host: nothing that it refuses; a cancel names only what was asked back; behind a change only
 -- requests of endpoint 0 wait.
 use Rattle.std.specs.Prelude.{◌≡◌, ℕ, ◌==◌, Bool, true, false, List, [], ◌∷◌, ◌++◌}
-use Rattle.std.specs.List.{list_any}
+use Rattle.std.specs.List.{list_any, AllByRecursion}
 use Rattle.redir_wire.specs.declared.packet.RedirControl.TheVariants as plain
 use Rattle.redir_data.specs.declared.packet.RedirPacket.{RedirPacket}
 use Rattle.redir_data.specs.declared.packet.RedirPacket.TheVariants.{Carrying, Plain}
 use Rattle.model_device.specs.Transfer.{is_control}
 use Rattle.redir_host.specs.guest.Asking.{asking_of}
-use Rattle.redir_host.specs.state.Sound.{Each}
 use Rattle.redir_host.specs.declared.request.Asking.{Asking}
 use Rattle.redir_host.specs.declared.request.Asking.TheVariants.{Asks, Nothing, Refuses}
 use Rattle.gate_history.specs.client.Verdict.{changes}
@@ -60,7 +59,7 @@ left true (c ∷ cs) = cs
 
 abbrev pub CancelsFit : List Entry → List (ℕ × RedirPacket) → List Entry → Type 0
 CancelsFit ahead [] cs = Unit {0}
-CancelsFit ahead (p ∷ ps) cs = (is_cancel p.1 ≡ true → Each (IsAsked p.0) ahead) × CancelsFit (moved (begins p.1) ahead cs) ps (left (begins p.1) cs)
+CancelsFit ahead (p ∷ ps) cs = (is_cancel p.1 ≡ true → AllByRecursion (IsAsked p.0) ahead) × CancelsFit (moved (begins p.1) ahead cs) ps (left (begins p.1) cs)
 
 abbrev pub is_change : Entry → Bool
 is_change e = changes e.load.verdict
@@ -71,4 +70,4 @@ any_change es = list_any is_change es
 -- behind a change only requests of endpoint 0 wait
 abbrev pub Behind : List Entry → Type 0
 Behind [] = Unit {0}
-Behind (e ∷ es) = (is_change e ≡ true → Each (λ (y : Entry). is_control (normal_of y.load).ep ≡ true) es) × Behind es
+Behind (e ∷ es) = (is_change e ≡ true → AllByRecursion (λ (y : Entry). is_control (normal_of y.load).ep ≡ true) es) × Behind es

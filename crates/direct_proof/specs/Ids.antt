@@ -1,6 +1,6 @@
 -- What is owed: the requests and answers under way, by their ids and numbers.
 use Rattle.std.specs.Prelude.{◌≡◌, ℕ, ◌+◌, ◌≤◌, ◌==◌, Bool, true, List}
-use Rattle.redir_host.specs.state.Sound.{Each}
+use Rattle.std.specs.List.{AllByRecursion}
 use Rattle.direct_run.specs.Noted.{number_in}
 use Rattle.direct_run.specs.declared.submitted.Submitted.{Submitted}
 pub use Rattle.direct_device.specs.Counts.{count}
@@ -16,6 +16,6 @@ pub record Ids (debts : List Debt) (names : List Submitted) (entries : List Entr
   pub balance : (test : ℕ → ℕ → Bool) → count (λ (e : Entry). test e.id (number e.load)) entries + count (λ (c : Coming). test c.id (number c.load)) ran ≡ count (λ (d : Debt). test d.id (number d.load)) debts
   pub one_id : (id : ℕ) → count (λ (d : Debt). d.id == id) debts ≤ 1
   pub one_number : (n : ℕ) → count (λ (d : Debt). number d.load == n) debts ≤ 1
-  pub named : Each (λ (e : Entry). number_in e.id names ≡ number e.load) entries
-  pub entries_agree : Each (λ (e : Entry). Each (λ (d : Debt). Agrees d e.id e.load) debts) entries
-  pub ran_agrees : Each (λ (c : Coming). Each (λ (d : Debt). Agrees d c.id c.load) debts) ran
+  pub named : AllByRecursion (λ (e : Entry). number_in e.id names ≡ number e.load) entries
+  pub entries_agree : AllByRecursion (λ (e : Entry). AllByRecursion (λ (d : Debt). Agrees d e.id e.load) debts) entries
+  pub ran_agrees : AllByRecursion (λ (c : Coming). AllByRecursion (λ (d : Debt). Agrees d c.id c.load) debts) ran

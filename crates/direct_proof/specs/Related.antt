@@ -1,9 +1,8 @@
 -- When a gateway and a modelled host, with what is on the wires, stand for a device attached directly.
 use Rattle.std.specs.Prelude.{◌≡◌, ℕ, ◌==◌, Bool, true, false, if◌then◌else◌, List, [], ◌++◌, map, None}
-use Rattle.std.specs.List.{list_any}
+use Rattle.std.specs.List.{list_any, AllByRecursion}
 use Rattle.redir_data.specs.declared.packet.RedirPacket.{RedirPacket}
 use Rattle.model_device.specs.Meaning.{Meaning}
-use Rattle.redir_host.specs.state.Sound.{Each}
 use Rattle.redir_host.specs.declared.host.Host.{Host}
 use Rattle.redir_host.specs.declared.running.Running.{Running}
 use Rattle.gate_history.specs.state.State.{State, submits}
@@ -27,9 +26,9 @@ Queued w j = record {
   held : w.host.queue ≡ (if w.host.unplugged then [] else map at_queue j.held);
   half : w.host.unplugged ≡ false → w.host.resets_next ≡ j.half;
   coming : half_line j.half ++ lines w.to_host ≡ at_hosts j.coming;
-  loads : Each (λ (e : Entry). IsLoad e.load) (j.held ++ j.coming);
+  loads : AllByRecursion (λ (e : Entry). IsLoad e.load) (j.held ++ j.coming);
   -- starts and stops are of IN endpoints
-  calls_in : Each (λ (p : ℕ × RedirPacket). CallIsIn (called_endpoint p.1)) w.to_host;
+  calls_in : AllByRecursion (λ (p : ℕ × RedirPacket). CallIsIn (called_endpoint p.1)) w.to_host;
   cancels : CancelsFit j.held w.to_host j.coming;
   behind : Behind (j.held ++ j.coming);
 }
@@ -56,15 +55,15 @@ Farewell h back = record {
 pub record Related {S : Type 0} (m : Meaning S) (w : World S) (j : Shared) : Type 0 where
   pub line : Queued w j
   pub answers : w.to_gate ≡ map on_wire j.back
-  pub tagged : Each (TaggedOfKind w.gate.streams) j.back
+  pub tagged : AllByRecursion (TaggedOfKind w.gate.streams) j.back
   pub ids : Ids j.debts w.submits (j.held ++ j.coming) (runs_in j.back)
   -- an id that is owed is none of those that go by no id
-  pub real : Each (λ (d : Debt). (d.id == 0) ≡ false) j.debts
+  pub real : AllByRecursion (λ (d : Debt). (d.id == 0) ≡ false) j.debts
   -- the streams that run are of IN endpoints
-  pub runs_at_in : Each (λ (s : Running). IsIn s.ep) w.host.running
+  pub runs_at_in : AllByRecursion (λ (s : Running). IsIn s.ep) w.host.running
   pub before : w.host.guest.first ≡ true → Early w j
   -- behind the gateway's hello the host is asked nothing that it refuses
-  pub asked : w.host.guest.first ≡ false → Each (λ (p : ℕ × RedirPacket). IsAsking p.1) w.to_host
+  pub asked : w.host.guest.first ≡ false → AllByRecursion (λ (p : ℕ × RedirPacket). IsAsking p.1) w.to_host
   pub meets : Meets w j
   -- what the host owes is what waits for it, until the device is lost
   pub debts : w.gate.lost ≡ false → debts_of (submits w.gate) ++ debts_of w.gate.abandoned ≡ j.debts

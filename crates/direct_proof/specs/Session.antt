@@ -1,12 +1,11 @@
 -- What holds of facts and streams while the gateway knows of the device, or is told of it.
 use Rattle.std.specs.Prelude.{◌≡◌, ℕ, ◌||◌, Bool, true, List, ◌++◌, Option, Some, is_none}
-use Rattle.std.specs.List.{list_any}
+use Rattle.std.specs.List.{list_any, AllByRecursion}
 use Rattle.redir_wire.specs.EpTable.{table_of}
 use Rattle.redir_data.specs.declared.packet.RedirPacket.{RedirPacket}
 use Rattle.model_device.specs.Meaning.{Meaning}
 use Rattle.redir_host.specs.device.Facts.{ep_info_of}
 use Rattle.redir_host.specs.guest.Packets.{runs_at}
-use Rattle.redir_host.specs.state.Sound.{Each}
 use Rattle.redir_host.specs.declared.host.Host.{Host}
 use Rattle.redir_host.specs.declared.running.Running.{Running}
 use Rattle.gate_history.specs.state.Ups.{Up, stream_of}
@@ -34,6 +33,6 @@ Session m w j = record {
   quits : (ep : ℕ) → down_in w.gate.streams ep ≡ true → Quits w.gate.fence ep (runs w.host ep) w.to_host;
   trails : Trails w.gate.fence (down_in w.gate.streams) w.to_host;
   starts : StartsFit (m.table w.host.gadget) (any_change j.held || j.half) w.to_host;
-  kinds : Each (λ (s : Running). OfKind (stream_of w.gate.streams s.ep) s.kind) w.host.running;
-  start_kinds : Each (λ (p : ℕ × RedirPacket). StartOfKind w.gate.streams (started_kind p.1)) w.to_host;
+  kinds : AllByRecursion (λ (s : Running). OfKind (stream_of w.gate.streams s.ep) s.kind) w.host.running;
+  start_kinds : AllByRecursion (λ (p : ℕ × RedirPacket). StartOfKind w.gate.streams (started_kind p.1)) w.to_host;
 }

@@ -15,8 +15,7 @@ use Rattle.redir_host.specs.step.Items.{Item as HostItem}
 use Rattle.redir_host.specs.state.Kept.{HostKept}
 use Rattle.redir_host.specs.step.Machine.{run, all_given}
 use Rattle.redir_host.specs.write.Readable.{AreRead}
-use Rattle.redir_host.specs.state.Sound.{Each as HostEach}
-use Rattle.redir_host.specs.step.Stands.{Stands as HostStands}
+use Rattle.redir_host.specs.step.Stands.{HostStands}
 use Rattle.gate_history.specs.step.Events.{Event, ClientPiece, ClientEnd, HostPiece, HostEnd, client_bytes, host_bytes}
 use Rattle.gate_core.specs.state.Kept.{GateKept}
 use Rattle.gate_history.specs.write.Readable.{piece_bytes}
@@ -48,16 +47,11 @@ knows-event m s c e g stands k = record {
 
 -- ---- an act more
 
-as-each : {A : Type 0} (P : A → Type 0) (xs : List A) → HostEach P xs → Each P xs
-as-each P [] h = tt
-as-each P (x ∷ xs) h = (h.0, as-each P xs h.1)
-
 -- before the gateway's hello nothing was sent, and behind it the capabilities of both are agreed
 read-by : {S : Type 0} (m : Meaning S) (s : S) (old : List Found) (xs : List HostItem) → Listens m s old xs → AreRead (run m s xs).guest (all_given (λ v. v.sent) m s xs) → Each (CanBeRead ToGuest both_caps) (all_given (λ v. v.sent) m s xs)
 read-by m s [] xs k h = subst (Each (CanBeRead ToGuest both_caps)) (sym k.none) tt
 read-by m s (o ∷ os) xs k h =
-    as-each (CanBeRead ToGuest both_caps) (all_given (λ v. v.sent) m s xs)
-    (subst (λ (g : RedirState). HostEach (CanBeRead ToGuest g.caps) (all_given (λ v. v.sent) m s xs)) k.hears.guest h.read)
+    subst (λ (g : RedirState). Each (CanBeRead ToGuest g.caps) (all_given (λ v. v.sent) m s xs)) k.hears.guest h.read
 
 pub knows-act : {S : Type 0} (m : Meaning S) (s : S) (c : Course) (a : Act) (h : HostKept S) → HostStands m s h (a ∷ c.acts) → Flows m s (acted c a) → IsKnown m s c → IsKnown m s (acted c a)
 knows-act {S = S} m s c a h stands f k = record {

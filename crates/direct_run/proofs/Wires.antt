@@ -19,7 +19,7 @@ use Rattle.gate_history.proofs.lemmas.step.Events.{event-gives}
 use Rattle.model_device.specs.Meaning.{Meaning}
 use Rattle.redir_host.specs.step.Acts.{Act, guest_bytes}
 use Rattle.redir_host.specs.write.Output.{act_bytes}
-use Rattle.redir_host.specs.step.Stands.{Stands as HostStands}
+use Rattle.redir_host.specs.step.Stands.{HostStands}
 use Rattle.redir_host.proofs.lemmas.step.Acts.{act-out}
 use Rattle.direct_run.specs.declared.item.Item.{Item}
 use Rattle.direct_run.specs.declared.submitted.Submitted.{Submitted}

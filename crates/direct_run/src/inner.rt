@@ -5,7 +5,7 @@ ghost use Rattle.std.specs.List.{flat_map};
 ghost use Rattle.gate_history.specs.step.Events.{Event as PastEvent, HostPiece, event_of};
 ghost use Rattle.gate_core.specs.step.Stands.{Stands as GateStands};
 ghost use Rattle.redir_host.specs.step.Acts.{Act, Piece, Perform, Offer, Unplug};
-ghost use Rattle.redir_host.specs.step.Stands.{Stands as HostStands};
+ghost use Rattle.redir_host.specs.step.Stands.{HostStands};
 ghost use Rattle.direct_run.specs.Steps.{Step as PastStep, step_of};
 ghost use Rattle.direct_run.specs.World.{first_id, sent_to_host, sent_to_gate, nothing_yet};
 ghost use Rattle.direct_run.specs.Stands.{Stands, Takes};

@@ -1,5 +1,5 @@
 -- The reads and writes of blocks that passed, and what they make of the blocks.
-use Rattle.std.specs.Prelude.{ℕ, ◌+◌, ◌*◌, ◌/◌, ◌++◌, List, length, take, drop, Option, Some, None}
+use Rattle.std.specs.Prelude.{ℕ, ◌+◌, ◌*◌, ◌/◌, ◌++◌, List, length, take, drop, Option, Some}
 
 -- how many bytes a block has
 abbrev pub block_size : ℕ

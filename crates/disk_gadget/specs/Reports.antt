@@ -14,6 +14,10 @@ status_code Passed = 0
 status_code Failed = 1
 status_code PhaseError = 2
 
+-- how many bytes a status has
+abbrev pub status_size : ℕ
+status_size = 13
+
 -- `USBS`, dCSWTag, dCSWDataResidue, bCSWStatus
 abbrev pub status_bytes : Report → List ℕ
 status_bytes r = le w32 0x53425355 ++ le w32 r.tag ++ le w32 r.residue ++ (status_code r.status ∷ [])

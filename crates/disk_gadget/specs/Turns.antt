@@ -1,9 +1,8 @@
 -- What a transfer of the bulk endpoints does at each stage of a command (Bulk-Only Transport, 5.3). No byte of the
 -- blocks is asked for: what a read gives is told by the place where it stands.
 use Rattle.std.specs.Prelude.{ℕ, ◌+◌, ◌-◌, ◌==◌, ◌||◌, ◌++◌, nat_lt, min, Bool, true, false, List, [], length, take, drop, Option, Some, None, if◌then◌else◌}
-use Rattle.usb_base.specs.declared.status.UsbStatus.TheVariants.{Success}
 use Rattle.usb_base.specs.declared.transfer.Outcome.{Outcome}
-use Rattle.chapter9.specs.Standard.{stall, success}
+use Rattle.chapter9.specs.Standard.{stall, success, taken}
 use Rattle.disk_gadget.specs.declared.wrapper.Wrapper.{Wrapper}
 use Rattle.disk_gadget.specs.declared.report.Report.{Report}
 use Rattle.disk_gadget.specs.declared.report.Status.{Status}
@@ -16,7 +15,7 @@ use Rattle.disk_gadget.specs.declared.stage.Stage.TheVariants.{Waits, Gathers, G
 use Rattle.disk_gadget.specs.declared.stage.Course.{Course}
 use Rattle.disk_gadget.specs.Accesses.{Access}
 use Rattle.disk_gadget.specs.Acts.{act_of}
-use Rattle.disk_gadget.specs.Reports.{status_bytes}
+use Rattle.disk_gadget.specs.Reports.{status_bytes, status_size}
 use Rattle.disk_gadget.specs.Wrappers.{wrapper_of}
 
 pub data Reply : Type 0 where
@@ -31,9 +30,6 @@ pub record Turn : Type 0 where
   pub reply : Reply
   -- the read or write that passes here
   pub access : Option Access
-
-abbrev pub taken : List ℕ → Reply
-taken body = Plain (record { status = Success; done = length body; body = [] })
 
 -- nothing is halted, read or written
 abbrev pub turn_to : Course → Reply → Turn
@@ -75,17 +71,17 @@ report_of w status = record { tag = w.tag; residue = residue_of status w.length;
 abbrev pub acted : ℕ → Option Sense → Wrapper → List ℕ → List ℕ → Turn
 acted blocks sense w bytes body =
     let act = act_of blocks sense w bytes in
-    record (turn_to (record { stage = Reports (report_of w act.status); sense = act.sense }) (taken body)) { access = act.access }
+    record (turn_to (record { stage = Reports (report_of w act.status); sense = act.sense }) (Plain (taken (length body)))) { access = act.access }
 
 -- its answer is cut to its length, none of which is given yet
 abbrev pub answering : ℕ → Option Sense → Wrapper → List ℕ → Turn
 answering blocks sense w body =
     let act = act_of blocks sense w [] in
     let report : Report = record { tag = w.tag; residue = w.length; status = act.status } in
-    record (turn_to (record { stage = Gives (cut_answer w.length act.answer) report; sense = act.sense }) (taken body)) { access = act.access }
+    record (turn_to (record { stage = Gives (cut_answer w.length act.answer) report; sense = act.sense }) (Plain (taken (length body)))) { access = act.access }
 
 abbrev pub gathering : Option Sense → Wrapper → List ℕ → List ℕ → Turn
-gathering sense w bytes body = turn_to (record { stage = Gathers w bytes; sense = sense }) (taken body)
+gathering sense w bytes body = turn_to (record { stage = Gathers w bytes; sense = sense }) (Plain (taken (length body)))
 
 abbrev pub begun : ℕ → Option Sense → List ℕ → Option Wrapper → Turn
 begun blocks sense body None = record (refused (record { stage = Waits; sense = sense })) { halts = true }
@@ -122,7 +118,7 @@ gave sense wanted answer r =
 -- a status isn't cut
 abbrev pub reported : Option Sense → ℕ → Report → Turn
 reported sense wanted r =
-    if nat_lt wanted 13 then refused (record { stage = Reports r; sense = sense })
+    if nat_lt wanted status_size then refused (record { stage = Reports r; sense = sense })
     else turn_to (record { stage = Waits; sense = sense }) (Plain (success (status_bytes r)))
 
 abbrev pub given_by : Option Sense → ℕ → Stage → Option Turn

@@ -1,7 +1,6 @@
 //! Transfers of the bulk endpoints, stage by stage (Bulk-Only Transport, 5.3).
 
-ghost use Rattle.std.specs.Prelude.{◌≡◌, ◌<◌, ◌≤◌, ◌+◌, ◌^◌, ◌++◌, ◌==◌, [], length, min, OnOk, OnErr, IfOk, IsSome, if◌then◌else◌};
-ghost use Rattle.usb_base.specs.declared.status.UsbStatus.TheVariants.{Success};
+ghost use Rattle.std.specs.Prelude.{◌≡◌, ◌≤◌, ◌+◌, ◌++◌, ◌==◌, [], length, min, OnOk, OnErr, IfOk, IsSome, if◌then◌else◌};
 ghost use Rattle.chapter9.specs.Standard.{success};
 ghost use Rattle.disk_gadget.specs.Accesses.{blocks_after, count_of};
 ghost use Rattle.disk_gadget.specs.Acts.{act_of};
@@ -16,10 +15,9 @@ use crate::report::Report;
 use crate::sense::Sense;
 use crate::stage::{Answer, Course, Stage};
 use crate::wrapper::Wrapper;
-use chapter9::DevState;
-use model_device::stall;
+use chapter9::{DevState, stall, success, taken};
 use std::alloc::Global;
-use usb_base::{Bytes, EpAddr, Memory, Outcome, UsbStatus};
+use usb_base::{Bytes, EpAddr, Memory, Outcome};
 
 /// How many bytes a status has.
 const STATUS: u32 = 13;
@@ -48,7 +46,7 @@ pub fn take(
         Stage::Waits => match Wrapper::read(body.as_slice()) {
             Some(wrapper) => {
                 begin(alloc, course, medium, wrapper)?;
-                Ok(Some(taken(alloc, body.as_slice())))
+                Ok(Some(taken(alloc, body.len() as u32)))
             }
             None => {
                 halt_both(device);
@@ -69,7 +67,7 @@ pub fn take(
             )? {
                 course.stage = Stage::Reports(report);
             }
-            Ok(Some(taken(alloc, body.as_slice())))
+            Ok(Some(taken(alloc, body.len() as u32)))
         }
         Stage::Gives(..) | Stage::Reports(_) => Ok(None),
     }
@@ -97,13 +95,13 @@ pub fn give(
             if body.len() < wanted as usize || report.residue == 0 {
                 course.stage = Stage::Reports(*report);
             }
-            Ok(Some(given(body)))
+            Ok(Some(success(body)))
         }
         Stage::Reports(_) if wanted < STATUS => Ok(Some(stall(alloc))),
         Stage::Reports(report) => {
             let body = report.bytes(alloc)?;
             course.stage = Stage::Waits;
-            Ok(Some(given(body)))
+            Ok(Some(success(body)))
         }
     }
 }
@@ -189,30 +187,6 @@ fn gather(
     let carried = carry_out(alloc, sense, medium, wrapper, bytes.as_slice());
     let act = bytes.cut_on_err(before, carried)?;
     Ok(Some(wrapper.report(act.status)))
-}
-
-// What came of a transfer to the device.
-fn taken(alloc: Global, body: &[u8]) -> Outcome
-    requires { length body.now < 2 ^ 32 }
-    ensures { result ≡ record { status = Success; done = length body.now; body = [] } }
-{
-    Outcome {
-        status: UsbStatus::Success,
-        done: body.len() as u32,
-        body: Bytes::new(alloc),
-    }
-}
-
-/// What came of a transfer from the device.
-pub fn given(body: Bytes) -> Outcome
-    requires { length body < 2 ^ 32 }
-    ensures { result ≡ success body }
-{
-    Outcome {
-        status: UsbStatus::Success,
-        done: body.len() as u32,
-        body,
-    }
 }
 
 fn halt_both(device: &mut DevState)

@@ -9,29 +9,28 @@ ghost use Rattle.disk_gadget.specs.Inside.{request_done};
 
 use crate::bulk;
 use crate::class_request::ClassRequest;
-use crate::medium::Medium;
+use crate::medium::{MAX_BLOCKS, Medium};
 use crate::stage::{Course, Stage};
-use model_device::{Framework, Gadget, descriptors_of, is_done_change, stall};
+use chapter9::{stall, success};
+use model_device::{Framework, Gadget, Product, is_done_change};
 use redir_wire::{Connect, InterfaceInfo};
 use std::alloc::Global;
 use std::marker::Model;
-use usb_base::{
-    Bytes, EpAddr, EpTable, Memory, Outcome, Setup, Speed, StreamPacket, Transfer, UsbStatus,
-};
+use usb_base::{Bytes, EpAddr, EpTable, Memory, Outcome, Setup, Speed, StreamPacket, Transfer};
 
-/// The product in its device descriptor.
-const PRODUCT: u8 = 4;
-
-/// The configuration (USB 2.0, tables 9-10, 9-12 and 9-13; Bulk-Only Transport, 4).
-const CONFIG: [u8; 32] = [
-    0x09, 0x02, 0x20, 0x00, 0x01, 0x01, 0x00, 0x80, 0x32, // 32 bytes, one interface, 100 mA
+/// Its interface (USB 2.0, tables 9-12 and 9-13; Bulk-Only Transport, 4).
+const INTERFACE: [u8; 23] = [
     0x09, 0x04, 0x00, 0x00, 0x02, 0x08, 0x06, 0x50, 0x00, // mass storage, SCSI, bulk-only
     0x07, 0x05, 0x01, 0x02, 0x00, 0x02, 0x00, // OUT 1: bulk, 512 bytes
     0x07, 0x05, 0x81, 0x02, 0x00, 0x02, 0x00, // IN 1: bulk, 512 bytes
 ];
 
-/// String 1 (USB 2.0, table 9-16): `disk`.
-const NAME: [u8; 10] = [0x0A, 0x03, 0x64, 0x00, 0x69, 0x00, 0x73, 0x00, 0x6B, 0x00];
+const PRODUCT: Product = Product {
+    speed: Speed::High,
+    number: 4,
+    name: b"disk",
+    interface: &INTERFACE,
+};
 
 /// A high-speed device of mass storage, bulk-only, whose blocks of 512 bytes stand in memory. A change that
 /// succeeds leaves the blocks.
@@ -61,12 +60,11 @@ impl Disk {
     #[tactic(auto, unfolding(usb_base::specs::Number::le_at, crate::specs::Descriptors::described, crate::specs::DiskStep::first_disk))]
     pub fn make(alloc: Global, blocks: u32) -> Result<Disk, Memory>
         requires some { 1 ≤ blocks }
-        requires few { blocks ≤ 4096 }
+        requires few { blocks ≤ MAX_BLOCKS }
         ensures { IfOk result (λ made. made ≡ first_disk blocks) }
     {
-        let descriptors = descriptors_of(alloc, PRODUCT, &CONFIG, &NAME)?;
         Ok(Disk {
-            framework: Framework::make(alloc, descriptors)?,
+            framework: Framework::make(alloc, PRODUCT.descriptors(alloc)?)?,
             course: Course::fresh(),
             medium: Medium::zeros(alloc, blocks)?,
         })
@@ -79,7 +77,7 @@ impl Gadget for Disk {
     ghost meaning = { disk };
 
     fn identity(&self) -> Connect {
-        self.framework.identity(Speed::High)
+        self.framework.identity(PRODUCT.speed)
     }
 
     fn configuration(&self) -> u8 {
@@ -149,14 +147,14 @@ fn request(
     match ClassRequest::of(setup) {
         Some(ClassRequest::Reset) => {
             course.stage = Stage::Waits;
-            Ok(bulk::given(Bytes::new(alloc)))
+            Ok(success(Bytes::new(alloc)))
         }
         Some(ClassRequest::MaxLun) => {
             let mut body = Bytes::new(alloc);
             if transfer.wanted > 0 && setup.length > 0 {
                 body.push(0)?;
             }
-            Ok(bulk::given(body))
+            Ok(success(body))
         }
         None => {
             let outcome = framework.control(alloc, transfer)?;

@@ -15,3 +15,4 @@ mod wrapper;
 
 pub use disk::Disk;
 pub use laws::disk_reads_what_was_written;
+pub use medium::MAX_BLOCKS;

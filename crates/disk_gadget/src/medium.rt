@@ -11,26 +11,31 @@ use usb_base::Memory;
 /// How many bytes a block has.
 pub const BLOCK: usize = 512;
 
-/// All blocks of a disk, at most 4,096. Contracts see their bytes.
+/// How many blocks a disk has at most.
+pub const MAX_BLOCKS: u32 = 4_096;
+
+/// All blocks of a disk. Contracts see their bytes.
 #[derive(Drop)]
 pub struct Medium {
     bytes: Vec<u8>,
 }
 
 impl Model for Medium {
-    ghost use Rattle.std.specs.Prelude.{ℕ, ◌≤◌, List, length};
+    ghost use Rattle.std.specs.Prelude.{ℕ, ◌≤◌, ◌*◌, List, length};
+    ghost use Rattle.disk_gadget.specs.Accesses.{block_size};
+    ghost use Rattle.disk_gadget.specs.declared.medium.TheConstants.{MAX_BLOCKS};
 
     ghost Value = { List ℕ };
 
     ghost view = { λ m. m.bytes.items };
 
-    ghost invariant = { λ m. length m.bytes.items ≤ 2097152 };
+    ghost invariant = { λ m. length m.bytes.items ≤ block_size * MAX_BLOCKS };
 }
 
 impl Medium {
     /// So many blocks of zeros.
     pub fn zeros(alloc: Global, blocks: u32) -> Result<Medium, Memory>
-        requires { blocks ≤ 4096 }
+        requires { blocks ≤ MAX_BLOCKS }
         ensures { IfOk result (λ made. made ≡ replicate (block_size * blocks) 0) }
     {
         let bytes = vec![in alloc; 0; BLOCK * blocks as usize]?;
@@ -40,7 +45,7 @@ impl Medium {
     /// How many blocks there are.
     pub fn count(&self) -> u32
         ensures count { result ≡ count_of self.now }
-        ensures few { result ≤ 4096 }
+        ensures few { result ≤ MAX_BLOCKS }
     {
         (self.bytes.len() / BLOCK) as u32
     }

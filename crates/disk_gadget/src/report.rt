@@ -1,7 +1,7 @@
 //! Command status wrappers (Bulk-Only Transport, 5.2).
 
 ghost use Rattle.std.specs.Prelude.{◌≡◌, length, IfOk};
-ghost use Rattle.disk_gadget.specs.Reports.{status_bytes, status_code};
+ghost use Rattle.disk_gadget.specs.Reports.{status_bytes, status_code, status_size};
 
 use std::alloc::Global;
 use usb_base::{Bytes, Memory, push_le_u32};
@@ -41,10 +41,10 @@ pub struct Report {
 }
 
 impl Report {
-    /// Its 13 bytes.
+    /// Its bytes.
     pub fn bytes(&self, alloc: Global) -> Result<Bytes, Memory>
         ensures bytes { IfOk result (λ bytes. bytes ≡ status_bytes self.now) }
-        ensures length { IfOk result (λ bytes. length bytes ≡ 13) }
+        ensures length { IfOk result (λ bytes. length bytes ≡ status_size) }
     {
         let mut bytes = Bytes::new(alloc);
         push_le_u32(&mut bytes, SIGNATURE)?;

@@ -11,6 +11,9 @@ use usb_base::{array_at, le_u32_at};
 /// How many bytes a wrapper has.
 const LENGTH: usize = 31;
 
+/// How many bytes a command block has at most.
+const MOST_COMMAND: u8 = 16;
+
 /// dCBWSignature, `USBC`.
 const SIGNATURE: u32 = 0x4342_5355;
 
@@ -38,7 +41,7 @@ impl Wrapper {
             return None;
         }
         let length = le_u32_at(bytes, 8);
-        if length > MOST_MOVED || bytes[13] != 0 || bytes[14] == 0 || bytes[14] > 16 {
+        if length > MOST_MOVED || bytes[13] != 0 || bytes[14] == 0 || bytes[14] > MOST_COMMAND {
             return None;
         }
         Some(Wrapper {

@@ -1,5 +1,5 @@
 -- A device that answers endpoint 0 by its descriptors, and its other endpoints in a way of its own.
-use Rattle.std.specs.Prelude.{ℕ, ◌+◌, ◌*◌, ◌&&◌, not, Bool, true, false, List, [], ◌∷◌, length, replicate, slice_set, Option, Some, None, is_some, option_map, if◌then◌else◌}
+use Rattle.std.specs.Prelude.{ℕ, ◌+◌, ◌*◌, ◌&&◌, not, Bool, List, [], ◌∷◌, length, replicate, slice_set, Option, Some, None, is_some, option_map, if◌then◌else◌}
 use Rattle.std.specs.Int.{w16}
 use Rattle.std.specs.List.{flat_map}
 use Rattle.usb_base.specs.Status.{is_success}
@@ -7,8 +7,6 @@ use Rattle.usb_base.specs.Endpoint.{row_of}
 use Rattle.usb_base.specs.Number.{byte_at, le_at}
 use Rattle.usb_base.specs.Speed.{redir_speed}
 use Rattle.usb_base.specs.declared.speed.Speed.{Speed}
-use Rattle.usb_base.specs.declared.status.UsbStatus.{UsbStatus}
-use Rattle.usb_base.specs.declared.status.UsbStatus.TheVariants.{Success}
 use Rattle.usb_base.specs.declared.transfer.Transfer.{Transfer}
 use Rattle.usb_base.specs.declared.transfer.Outcome.{Outcome}
 use Rattle.usb_base.specs.declared.transfer.StreamPacket.{StreamPacket}
@@ -55,16 +53,17 @@ device_bytes product =
     -- iManufacturer, iProduct, iSerialNumber, bNumConfigurations
     0x00 ∷ 0x01 ∷ 0x00 ∷ 0x01 ∷ []
 
--- the descriptors of a product with this number and name, and these descriptors of its interface (USB 2.0, tables 9-8,
--- 9-10 and 9-16)
+-- configuration 1 with one interface (table 9-10), bus-powered, 100 mA
+abbrev pub config_of : List ℕ → List ℕ
+config_of interface = 0x09 ∷ 0x02 ∷ (9 + length interface) ∷ 0x00 ∷ 0x01 ∷ 0x01 ∷ 0x00 ∷ 0x80 ∷ 0x32 ∷ interface
+
+-- a string (table 9-16), of characters of two bytes
+abbrev pub string_of : List ℕ → List ℕ
+string_of text = (2 + 2 * length text) ∷ 0x03 ∷ flat_map (λ letter. letter ∷ 0x00 ∷ []) text
+
+-- the descriptors of a product with this number and name, and these descriptors of its interface
 abbrev pub set_of : ℕ → List ℕ → List ℕ → DescriptorSet
-set_of product name interface = record {
-  device = device_bytes product;
-  -- configuration 1 with one interface, bus-powered, 100 mA
-  config = 0x09 ∷ 0x02 ∷ (9 + length interface) ∷ 0x00 ∷ 0x01 ∷ 0x01 ∷ 0x00 ∷ 0x80 ∷ 0x32 ∷ interface;
-  -- string 1, of characters of two bytes
-  name = (2 + 2 * length name) ∷ 0x03 ∷ flat_map (λ letter. letter ∷ 0x00 ∷ []) name;
-}
+set_of product name interface = record { device = device_bytes product; config = config_of interface; name = string_of name }
 
 -- the fields of its device descriptor (USB 2.0, table 9-8), and its speed
 abbrev pub identity_of : Speed → DescriptorSet → Connect

@@ -8,6 +8,7 @@ use Rattle.usb_base.specs.declared.transfer.Transfer.{Transfer}
 use Rattle.chapter9.specs.declared.part.Part.{Part}
 use Rattle.chapter9.specs.declared.part.Part.TheVariants.{Endpoint}
 use Rattle.chapter9.specs.Descriptors.{wrong_place}
+use Rattle.model_device.specs.declared.gadget.TheConstants.{MAX_STREAM_PACKET}
 use Rattle.model_device.specs.Transfer.{IsTransfer, IsOutcome}
 use Rattle.model_device.specs.Gadget.{IsNamed}
 use Rattle.model_device.specs.Device.{Device, device_parts}
@@ -32,7 +33,7 @@ no_iso_out parts = list_all is_fine_part parts
 pub record IsFunction {X : Type 0} (d : Device X) : Type 0 where
   pub configuration : wrong_place d.set.config ≡ None
   pub outcomes : (x : X) (t : Transfer) → IsTransfer t → t.setup ≡ None → IfSome (d.transfer x t) (λ done. IsOutcome t done.1)
-  pub packets : (x : X) (ep : ℕ) → IfSome (d.packet x ep) (λ sent. length sent.1.body ≤ 65535)
+  pub packets : (x : X) (ep : ℕ) → IfSome (d.packet x ep) (λ sent. length sent.1.body ≤ MAX_STREAM_PACKET)
   pub named : (x : X) (t : Transfer) → IfSome (d.transfer x t) (λ done. IsNamed done.1.status)
   pub packets_named : (x : X) (ep : ℕ) → IfSome (d.packet x ep) (λ sent. IsNamed sent.1.status)
   pub endpoints : no_iso_out (device_parts d) ≡ true

@@ -7,8 +7,10 @@ use Rattle.usb_base.specs.declared.setup.Setup.{Setup}
 use Rattle.usb_base.specs.declared.status.UsbStatus.{UsbStatus}
 use Rattle.usb_base.specs.declared.status.UsbStatus.TheVariants.{Success}
 use Rattle.usb_base.specs.declared.transfer.Transfer.{Transfer}
+use Rattle.redir_wire.specs.declared.packet.TheConstants.{MAX_INTERFACES}
 use Rattle.chapter9.specs.Requests.{is_request}
 use Rattle.chapter9.specs.Standard.{success}
+use Rattle.model_device.specs.declared.gadget.TheConstants.{MAX_STREAM_PACKET}
 use Rattle.model_device.specs.Transfer.{IsTransfer, IsOutcome, asks_change, is_control}
 use Rattle.model_device.specs.Meaning.{Meaning}
 
@@ -43,10 +45,10 @@ pub record IsGadget {S : Type 0} (m : Meaning S) : Type 0 where
   pub refuses : (s : S) (t : Transfer) → IsTransfer t → asks_change t ≡ true → IfSome (m.perform s t) (λ done. done.1.status ≢ Success → done.0 ≡ s)
   -- no endpoint to the device is isochronous
   pub no_iso_out : (s : S) (i : ℕ) → i < 16 → (get_or (m.table s).rows i no_endpoint).kind ≢ Iso
-  pub few_interfaces : (s : S) → (m.interfaces s).count ≤ 32
+  pub few_interfaces : (s : S) → (m.interfaces s).count ≤ MAX_INTERFACES
   pub outcomes : (s : S) (t : Transfer) → IsTransfer t → IfSome (m.perform s t) (λ done. IsOutcome t done.1)
   -- a packet has at most the bytes that its length field can tell
-  pub packets : (s : S) (ep : ℕ) → IfSome (m.offer s ep) (λ sent. length sent.1.body ≤ 65535)
+  pub packets : (s : S) (ep : ℕ) → IfSome (m.offer s ep) (λ sent. length sent.1.body ≤ MAX_STREAM_PACKET)
   -- a status is read as it was written
   pub named : (s : S) (t : Transfer) → IsTransfer t → IfSome (m.perform s t) (λ done. IsNamed done.1.status)
   pub offer_named : (s : S) (ep : ℕ) → IfSome (m.offer s ep) (λ sent. IsNamed sent.1.status)

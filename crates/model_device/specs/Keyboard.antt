@@ -8,9 +8,13 @@ use Rattle.model_device.specs.InTurn.{in_turn}
 abbrev pub report : ℕ → List ℕ
 report key = 0 ∷ 0 ∷ (4 + key) ∷ 0 ∷ 0 ∷ 0 ∷ 0 ∷ 0 ∷ []
 
+-- from A to Z
+abbrev pub key_count : ℕ
+key_count = 26
+
 unfoldable pub keyboard : Device ℕ
 keyboard =
-    in_turn 26 report (set_of 1 (codes "keyboard")
+    in_turn key_count report (set_of 1 (codes "keyboard")
     -- interface 0 with one endpoint, of the vendor's class
     (0x09 ∷ 0x04 ∷ 0x00 ∷ 0x00 ∷ 0x01 ∷ 0xFF ∷ 0x00 ∷ 0x00 ∷ 0x00 ∷
     -- IN endpoint 1: interrupt, packets of 8 bytes, every 10 frames

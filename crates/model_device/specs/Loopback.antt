@@ -2,9 +2,8 @@
 use Rattle.std.specs.Prelude.{ℕ, ◌+◌, ◌==◌, nat_lt, ◌&&◌, not, List, [], ◌∷◌, ◌++◌, length, take, drop, codes, Option, Some, None, if◌then◌else◌}
 use Rattle.usb_base.specs.Endpoint.{is_in_endpoint}
 use Rattle.usb_base.specs.declared.speed.Speed.TheVariants.{High}
-use Rattle.usb_base.specs.declared.status.UsbStatus.TheVariants.{Success}
 use Rattle.usb_base.specs.declared.transfer.Outcome.{Outcome}
-use Rattle.chapter9.specs.Standard.{stall, success}
+use Rattle.chapter9.specs.Standard.{stall, success, taken}
 use Rattle.model_device.specs.Device.{Device, set_of}
 
 -- how many bytes it holds at most
@@ -16,7 +15,7 @@ abbrev pub taken_in : List ℕ → List ℕ → Option (List ℕ × Outcome)
 taken_in held body =
     if nat_lt limit (length body) then Some (held, stall)
     else if nat_lt limit (length held + length body) then None
-    else Some (held ++ body, record { status = Success; done = length body; body = [] })
+    else Some (held ++ body, taken (length body))
 
 -- where it holds nothing, a transfer that wants some bytes waits
 abbrev pub given_back : List ℕ → ℕ → Option (List ℕ × Outcome)

@@ -3,9 +3,12 @@ use Rattle.std.specs.Prelude.{ℕ, List, [], ◌∷◌, replicate, codes}
 use Rattle.model_device.specs.Device.{Device, set_of}
 use Rattle.model_device.specs.InTurn.{in_turn}
 
--- a packet of 192 samples
+-- how many samples a packet has
+abbrev pub packet_length : ℕ
+packet_length = 192
+
 unfoldable pub samples : ℕ → List ℕ
-samples sample = replicate 192 sample
+samples sample = replicate packet_length sample
 
 unfoldable pub tone : Device ℕ
 tone =

@@ -1,5 +1,5 @@
 -- The transfers that a device is asked for, and what may come of one.
-use Rattle.std.specs.Prelude.{◌≡◌, ℕ, ◌≤◌, ◌%◌, ◌==◌, nat_lt, not, Bool, true, false, [], length, Option, Some, None, is_some, IfSome}
+use Rattle.std.specs.Prelude.{◌≡◌, ℕ, ◌≤◌, ◌%◌, ◌==◌, nat_lt, not, Bool, true, false, [], length, is_some, IfSome}
 use Rattle.std.specs.Option.{option_map_or}
 use Rattle.usb_base.specs.Endpoint.{IsEndpoint, is_in_endpoint}
 use Rattle.usb_base.specs.declared.setup.Setup.{Setup}

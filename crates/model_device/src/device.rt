@@ -3,9 +3,10 @@
 ghost use Rattle.std.specs.Prelude.{◌≡◌, IfOk};
 ghost use Rattle.model_device.specs.Device.{first_state};
 
-use crate::framework::{Framework, is_done_change, stall};
+use crate::framework::{Framework, is_done_change};
 use crate::function::Function;
 use crate::gadget::Gadget;
+use chapter9::stall;
 use redir_wire::{Connect, InterfaceInfo};
 use std::alloc::Global;
 use std::marker::Model;
@@ -36,7 +37,7 @@ impl<F: Function> Device<F> {
         ensures { IfOk result (λ made. made ≡ first_state F.described) }
     {
         Ok(Device {
-            framework: Framework::make(alloc, F::descriptors(alloc)?)?,
+            framework: Framework::make(alloc, F::product().descriptors(alloc)?)?,
             function: F::first(alloc),
         })
     }
@@ -49,7 +50,7 @@ impl<F: Function> Gadget for Device<F> {
     ghost meaning = { meaning_of F.described };
 
     fn identity(&self) -> Connect {
-        self.framework.identity(F::speed())
+        self.framework.identity(F::product().speed)
     }
 
     fn configuration(&self) -> u8 {

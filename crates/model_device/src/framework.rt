@@ -4,9 +4,9 @@ ghost use Rattle.std.specs.Prelude.{◌≡◌, ◌&&◌, IsSome, IfOk, OnOk, OnE
 ghost use Rattle.usb_base.specs.Status.{is_success};
 ghost use Rattle.chapter9.specs.Descriptors.{wrong_place};
 ghost use Rattle.chapter9.specs.State.{unconfigured};
-ghost use Rattle.chapter9.specs.Standard.{outcome_of, stall, state_after};
+ghost use Rattle.chapter9.specs.Standard.{outcome_of, state_after};
 ghost use Rattle.chapter9.specs.Table.{table_of};
-ghost use Rattle.model_device.specs.Device.{device_bytes, identity_of, interfaces_of, is_running};
+ghost use Rattle.model_device.specs.Device.{identity_of, interfaces_of, is_running};
 ghost use Rattle.model_device.specs.Inside.{HasSet};
 ghost use Rattle.model_device.specs.Transfer.{asks_change};
 
@@ -14,9 +14,7 @@ use chapter9::{DescriptorSet, DevState, Parts, WalkError, class_of, standard, ta
 use control_route::{is_change, route_of};
 use redir_wire::{Connect, InterfaceInfo};
 use std::alloc::Global;
-use usb_base::{
-    Bytes, EpAddr, EpKind, EpTable, Memory, Outcome, Speed, Transfer, UsbStatus, le_u16_at,
-};
+use usb_base::{EpAddr, EpKind, EpTable, Memory, Outcome, Speed, Transfer, le_u16_at};
 
 /// USB's device framework (USB 2.0, chapter 9): a device's descriptors, with the parts of its configuration, and its
 /// state.
@@ -110,47 +108,12 @@ impl Framework {
     }
 }
 
-/// The descriptors of the product of this number: its device descriptor (USB 2.0, table 9-8), which has this project's
-/// vendor, its configuration's, and its name.
-pub fn descriptors_of(
-    alloc: Global,
-    product: u8,
-    config: &[u8],
-    name: &[u8],
-) -> Result<DescriptorSet, Memory>
-    ensures { IfOk result (λ set. set ≡ record { device = device_bytes product; config = config.now; name = name.now }) }
-{
-    let device = [
-        0x12, 0x01, 0x00, 0x02, 0x00, 0x00, 0x00, 0x40, // USB 2.00, no class, packets of 64 bytes
-        0xF0, 0xFF, product, 0x00, 0x00, 0x01, // vendor 0xFFF0, the product, release 1.00
-        0x00, 0x01, 0x00, 0x01, // string 1 names the product; one configuration
-    ];
-    Ok(DescriptorSet {
-        device,
-        config: Bytes::copied(alloc, config)?,
-        name: Bytes::copied(alloc, name)?,
-    })
-}
-
 /// Whether a transfer was a change that succeeded.
 pub fn is_done_change(transfer: &Transfer, outcome: &Outcome) -> bool
     ensures { result ≡ (asks_change transfer.now && is_success outcome.now.status) }
 {
     match &transfer.setup {
-        Some(setup) => {
-            is_change(&route_of(setup)) && matches!(outcome.status, UsbStatus::Success)
-        }
+        Some(setup) => { is_change(&route_of(setup)) && outcome.status.is_success() }
         None => false,
-    }
-}
-
-/// The refusal of a transfer.
-pub fn stall(alloc: Global) -> Outcome
-    ensures { result ≡ stall }
-{
-    Outcome {
-        status: UsbStatus::Stall,
-        done: 0,
-        body: Bytes::new(alloc),
     }
 }

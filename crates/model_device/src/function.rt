@@ -1,27 +1,26 @@
 //! What devices differ in that answer endpoint 0 by their descriptors.
 
-ghost use Rattle.std.specs.Prelude.{◌≡◌, OnOk, OnErr, IfOk, IsSome};
-ghost use Rattle.model_device.specs.Device.{Device};
+ghost use Rattle.std.specs.Prelude.{◌≡◌, ◌<◌, ◌+◌, ◌*◌, length, OnOk, OnErr, IfOk, IsSome};
+ghost use Rattle.model_device.specs.Device.{Device, set_of};
 ghost use Rattle.model_device.specs.Function.{IsFunction};
 ghost use Rattle.model_device.specs.Meaning.{given_in, state_in};
 ghost use Rattle.model_device.specs.Transfer.{IsTransfer};
 
-use chapter9::DescriptorSet;
+use crate::product::Product;
 use std::alloc::Global;
-use usb_base::{EpAddr, Memory, Outcome, Speed, StreamPacket, Transfer};
+use usb_base::{EpAddr, Memory, Outcome, StreamPacket, Transfer};
 
-/// The function that a device has for its host: its descriptors, and what its own endpoints do. Its value is what it
+/// The function that a device has for its host: what it tells of itself, and what its own endpoints do. Its value is what it
 /// keeps beside the state that requests of endpoint 0 change.
 pub trait Function: Drop {
     ghost described: { Device Self };
 
-    /// The speed that it runs at.
-    fn speed() -> Speed
-        ensures { result ≡ described.speed };
-
-    /// Its descriptors.
-    fn descriptors(alloc: Global) -> Result<DescriptorSet, Memory>
-        ensures { IfOk result (λ set. set ≡ described.set) };
+    /// What it tells of itself.
+    fn product() -> Product
+        ensures speed { result.speed ≡ described.speed }
+        ensures set { set_of result.number result.name.now result.interface.now ≡ described.set }
+        ensures name { 2 + 2 * length result.name.now < 256 }
+        ensures interface { 9 + length result.interface.now < 256 };
 
     /// What it keeps as it is plugged in, and after each change that succeeds.
     fn first(alloc: Global) -> Self

@@ -2,28 +2,25 @@
 #![tactic(auto, unfolding(crate::specs::Keyboard::keyboard))]
 
 use crate::device::Device;
-use crate::framework::{descriptors_of, stall};
 use crate::function::Function;
-use chapter9::DescriptorSet;
+use crate::product::Product;
+use chapter9::stall;
 use std::alloc::Global;
 use std::marker::Model;
 use usb_base::{Bytes, EpAddr, Memory, Outcome, Speed, StreamPacket, Transfer, UsbStatus};
 
-/// The product in its device descriptor.
-const PRODUCT: u8 = 1;
-
-/// The configuration (USB 2.0, tables 9-10, 9-12 and 9-13).
-const CONFIG: [u8; 25] = [
-    0x09, 0x02, 0x19, 0x00, 0x01, 0x01, 0x00, 0x80, 0x32, // 25 bytes, one interface, 100 mA
+/// Its interface (USB 2.0, tables 9-12 and 9-13).
+const INTERFACE: [u8; 16] = [
     0x09, 0x04, 0x00, 0x00, 0x01, 0xFF, 0x00, 0x00, 0x00, // one endpoint, the vendor's class
     0x07, 0x05, 0x81, 0x03, 0x08, 0x00, 0x0A, // IN 1: interrupt, 8 bytes, every 10 frames
 ];
 
-/// String 1 (USB 2.0, table 9-16): `keyboard`.
-const NAME: [u8; 18] = [
-    0x12, 0x03, 0x6B, 0x00, 0x65, 0x00, 0x79, 0x00, 0x62, 0x00, 0x6F, 0x00, 0x61, 0x00, 0x72, 0x00,
-    0x64, 0x00,
-];
+const PRODUCT: Product = Product {
+    speed: Speed::Full,
+    number: 1,
+    name: b"keyboard",
+    interface: &INTERFACE,
+};
 
 /// The usage ID of the key A (HID Usage Tables, keyboard page).
 const KEY_A: u8 = 4;
@@ -43,12 +40,13 @@ pub struct NextKey {
 
 impl Model for NextKey {
     ghost use Rattle.std.specs.Prelude.{ℕ, ◌<◌};
+    ghost use Rattle.model_device.specs.Keyboard.{key_count};
 
     ghost Value = { ℕ };
 
     ghost view = { λ k. k.key };
 
-    ghost invariant = { λ k. k.key < 26 };
+    ghost invariant = { λ k. k.key < key_count };
 }
 
 impl Function for NextKey {
@@ -57,12 +55,8 @@ impl Function for NextKey {
 
     ghost described = { keyboard };
 
-    fn speed() -> Speed {
-        Speed::Full
-    }
-
-    fn descriptors(alloc: Global) -> Result<DescriptorSet, Memory> {
-        descriptors_of(alloc, PRODUCT, &CONFIG, &NAME)
+    fn product() -> Product {
+        PRODUCT
     }
 
     fn first(_alloc: Global) -> NextKey {

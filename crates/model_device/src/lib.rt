@@ -8,14 +8,16 @@ mod function;
 mod gadget;
 mod keyboard;
 mod loopback;
+mod product;
 mod submit;
 mod tone;
 
 pub use device::Device;
-pub use framework::{Framework, descriptors_of, is_done_change, stall};
+pub use framework::{Framework, is_done_change};
 pub use function::Function;
-pub use gadget::Gadget;
+pub use gadget::{Gadget, MAX_STREAM_PACKET};
 pub use keyboard::{Keyboard, NextKey};
 pub use loopback::{Held, Loopback};
+pub use product::Product;
 pub use submit::submits_ask_transfers;
 pub use tone::{NextSample, Tone};

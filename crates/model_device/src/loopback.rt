@@ -6,26 +6,26 @@ ghost use Rattle.model_device.specs.Loopback.{given_back, limit, taken_in};
 ghost use Rattle.model_device.specs.Meaning.{given_in, state_in};
 
 use crate::device::Device;
-use crate::framework::{descriptors_of, stall};
 use crate::function::Function;
-use chapter9::DescriptorSet;
+use crate::product::Product;
+use chapter9::{stall, success, taken};
 use std::alloc::Global;
 use std::marker::Model;
-use usb_base::{Bytes, EpAddr, Memory, Outcome, Speed, StreamPacket, Transfer, UsbStatus};
+use usb_base::{Bytes, EpAddr, Memory, Outcome, Speed, StreamPacket, Transfer};
 
-/// The product in its device descriptor.
-const PRODUCT: u8 = 2;
-
-/// The configuration (USB 2.0, tables 9-10, 9-12 and 9-13).
-const CONFIG: [u8; 32] = [
-    0x09, 0x02, 0x20, 0x00, 0x01, 0x01, 0x00, 0x80, 0x32, // 32 bytes, one interface, 100 mA
+/// Its interface (USB 2.0, tables 9-12 and 9-13).
+const INTERFACE: [u8; 23] = [
     0x09, 0x04, 0x00, 0x00, 0x02, 0xFF, 0x00, 0x00, 0x00, // two endpoints, the vendor's class
     0x07, 0x05, 0x01, 0x02, 0x00, 0x02, 0x00, // OUT 1: bulk, 512 bytes
     0x07, 0x05, 0x81, 0x02, 0x00, 0x02, 0x00, // IN 1: bulk, 512 bytes
 ];
 
-/// String 1 (USB 2.0, table 9-16): `loop`.
-const NAME: [u8; 10] = [0x0A, 0x03, 0x6C, 0x00, 0x6F, 0x00, 0x6F, 0x00, 0x70, 0x00];
+const PRODUCT: Product = Product {
+    speed: Speed::High,
+    number: 2,
+    name: b"loop",
+    interface: &INTERFACE,
+};
 
 /// How many bytes it holds at most.
 const LIMIT: usize = 1_048_576;
@@ -57,12 +57,8 @@ impl Function for Held {
 
     ghost described = { loopback };
 
-    fn speed() -> Speed {
-        Speed::High
-    }
-
-    fn descriptors(alloc: Global) -> Result<DescriptorSet, Memory> {
-        descriptors_of(alloc, PRODUCT, &CONFIG, &NAME)
+    fn product() -> Product {
+        PRODUCT
     }
 
     fn first(alloc: Global) -> Held {
@@ -102,11 +98,7 @@ fn take_in(alloc: Global, held: &mut Bytes, body: &[u8]) -> Result<Option<Outcom
         return Ok(None);
     }
     held.append(body)?;
-    Ok(Some(Outcome {
-        status: UsbStatus::Success,
-        done: body.len() as u32,
-        body: Bytes::new(alloc),
-    }))
+    Ok(Some(taken(alloc, body.len() as u32)))
 }
 
 // Gives the first bytes back, or answers None where there are none yet.
@@ -123,9 +115,5 @@ fn give_back(alloc: Global, held: &mut Bytes, wanted: u32) -> Result<Option<Outc
     let mut body = Bytes::new(alloc);
     body.append(&held.as_slice()[..len])?;
     held.skip(len);
-    Ok(Some(Outcome {
-        status: UsbStatus::Success,
-        done: len as u32,
-        body,
-    }))
+    Ok(Some(success(body)))
 }

@@ -5,26 +5,26 @@ ghost use Rattle.std.specs.Prelude.{◌≡◌, IfOk};
 ghost use Rattle.model_device.specs.Tone.{samples};
 
 use crate::device::Device;
-use crate::framework::{descriptors_of, stall};
 use crate::function::Function;
-use chapter9::DescriptorSet;
+use crate::product::Product;
+use chapter9::stall;
 use std::alloc::Global;
 use std::marker::Model;
 use usb_base::{Bytes, EpAddr, Memory, Outcome, Speed, StreamPacket, Transfer, UsbStatus};
 
-/// The product in its device descriptor.
-const PRODUCT: u8 = 3;
-
-/// The configuration (USB 2.0, tables 9-10, 9-12 and 9-13).
-const CONFIG: [u8; 34] = [
-    0x09, 0x02, 0x22, 0x00, 0x01, 0x01, 0x00, 0x80, 0x32, // 34 bytes, one interface, 100 mA
+/// Its interface (USB 2.0, tables 9-12 and 9-13).
+const INTERFACE: [u8; 25] = [
     0x09, 0x04, 0x00, 0x00, 0x00, 0xFF, 0x00, 0x00, 0x00, // setting 0: no endpoint
     0x09, 0x04, 0x00, 0x01, 0x01, 0xFF, 0x00, 0x00, 0x00, // setting 1: one endpoint
     0x07, 0x05, 0x81, 0x01, 0xC0, 0x00, 0x01, // IN 1: isochronous, 192 bytes, every frame
 ];
 
-/// String 1 (USB 2.0, table 9-16): `tone`.
-const NAME: [u8; 10] = [0x0A, 0x03, 0x74, 0x00, 0x6F, 0x00, 0x6E, 0x00, 0x65, 0x00];
+const PRODUCT: Product = Product {
+    speed: Speed::Full,
+    number: 3,
+    name: b"tone",
+    interface: &INTERFACE,
+};
 
 /// How many bytes a packet has.
 const PACKET: usize = 192;
@@ -53,12 +53,8 @@ impl Function for NextSample {
 
     ghost described = { tone };
 
-    fn speed() -> Speed {
-        Speed::Full
-    }
-
-    fn descriptors(alloc: Global) -> Result<DescriptorSet, Memory> {
-        descriptors_of(alloc, PRODUCT, &CONFIG, &NAME)
+    fn product() -> Product {
+        PRODUCT
     }
 
     fn first(_alloc: Global) -> NextSample {

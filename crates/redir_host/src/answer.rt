@@ -1,18 +1,20 @@
 //! The answers of requests.
 
 ghost use Rattle.std.specs.Prelude.{◌≡◌, ◌<◌, ◌^◌, ◌++◌, false, OnOk, OnErr};
+ghost use Rattle.std.specs.List.{AllByRecursion};
 ghost use Rattle.redir_wire.specs.Begins.{Begins};
 ghost use Rattle.redir_wire.specs.Header.{IdFits, is_wide};
 ghost use Rattle.chapter9.specs.Standard.{ended};
 ghost use Rattle.redir_host.specs.write.Answers.{alt_in, answer_by, cancelled};
 ghost use Rattle.redir_host.specs.step.Machine.{told_bytes};
 ghost use Rattle.redir_host.specs.step.Makes.{AnswerFits, flushed_bytes};
-ghost use Rattle.redir_host.specs.state.Sound.{DoneFits, Each};
+ghost use Rattle.redir_host.specs.state.Sound.{DoneFits};
 
 use crate::change::is_touched;
 use crate::queue::Queue;
 use crate::request::{Form, Request};
 use crate::write::write;
+use chapter9::ended;
 use control_route::Route;
 use redir_data::{RedirData, RedirPacket};
 use redir_wire::{Caps, RedirControl};
@@ -130,7 +132,7 @@ pub fn write_flushed(
     caps: Caps,
     out: &mut Bytes,
 ) -> Result<(), Memory>
-    requires { Each (λ q. IdFits (is_wide false caps) q.id) queue.now }
+    requires { AllByRecursion (λ q. IdFits (is_wide false caps) q.id) queue.now }
     ensures ok { OnOk result (out.new ≡ out.old ++ flushed_bytes caps route.now table.now queue.now) }
     ensures err { OnErr result (Begins out.old out.new) }
 {
@@ -149,16 +151,5 @@ fn alt_in(outcome: &Outcome) -> u8
     match (outcome.status, outcome.body.as_slice()) {
         (UsbStatus::Success, [alt, ..]) => *alt,
         _ => 0,
-    }
-}
-
-/// The outcome of what ended with this status, and moved nothing.
-fn ended(alloc: Global, status: UsbStatus) -> Outcome
-    ensures { result ≡ ended status }
-{
-    Outcome {
-        status,
-        done: 0,
-        body: Bytes::new(alloc),
     }
 }

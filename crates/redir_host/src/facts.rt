@@ -5,6 +5,7 @@ ghost use Rattle.usb_base.specs.Endpoint.{no_endpoint};
 ghost use Rattle.redir_wire.specs.Begins.{Begins};
 ghost use Rattle.redir_wire.specs.Capability.{has};
 ghost use Rattle.redir_wire.specs.Ranges.{Ranges};
+ghost use Rattle.redir_wire.specs.declared.packet.TheConstants.{MAX_INTERFACES};
 ghost use Rattle.redir_host.specs.device.Facts.{connect_of, ep_info_of, kind_byte};
 ghost use Rattle.redir_host.specs.write.Told.{facts_bytes, connect_bytes};
 
@@ -22,7 +23,7 @@ pub fn write_facts(
     caps: Caps,
     out: &mut Bytes,
 ) -> Result<(), Memory>
-    requires { interfaces.count ≤ 32 }
+    requires { interfaces.count ≤ MAX_INTERFACES }
     ensures ok { OnOk result (out.new ≡ out.old ++ facts_bytes caps table.now interfaces) }
     ensures ranges { OnOk result (Ranges (RedirControl.EpInfo (ep_info_of caps table.now)) × Ranges (RedirControl.InterfaceInfo interfaces)) }
     ensures err { OnErr result (Begins out.old out.new) }

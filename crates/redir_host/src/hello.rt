@@ -7,13 +7,16 @@ use redir_wire::{ANNOUNCED, Caps, Hello, RedirControl, Words, write_control};
 use std::alloc::Global;
 use usb_base::{Bytes, Memory};
 
+/// What the host calls itself.
+const NAME: &[u8; 14] = b"usbgate host 1";
+
 /// Appends the host's hello.
 pub fn write_hello(alloc: Global, out: &mut Bytes) -> Result<(), Memory>
     ensures ok { OnOk result (out.new ≡ out.old ++ hello_bytes) }
     ensures err { OnErr result (out.new ≡ out.old) }
 {
     let mut version = [0; 64];
-    version[..14].copy_from_slice(b"usbgate host 1");
+    version[..NAME.len()].copy_from_slice(NAME);
     let mut words = Words::new(alloc);
     words.push(ANNOUNCED)?;
     let hello = RedirControl::Hello(Hello { version, words });

@@ -1,6 +1,7 @@
 //! The host of a device: what it keeps, and how it changes.
 
 ghost use Rattle.std.specs.Prelude.{◌≡◌, ◌≤◌, length, not, IfOk, OnOk, OnErr};
+ghost use Rattle.model_device.specs.declared.gadget.TheConstants.{MAX_STREAM_PACKET};
 ghost use Rattle.redir_host.specs.step.Machine.{first_host};
 ghost use Rattle.redir_host.specs.step.Makes.{Makes};
 ghost use Rattle.redir_host.specs.device.Offering.{offer_move, stream_packet, unplug_move, told_offered};
@@ -101,7 +102,7 @@ impl<G: Gadget> Host<G> {
 
 /// A packet of a stream of this kind.
 fn stream_packet(kind: StreamKind, ep: EpAddr, packet: StreamPacket) -> RedirPacket
-    requires { length packet.body ≤ 65535 }
+    requires { length packet.body ≤ MAX_STREAM_PACKET }
     ensures { (0, result) ≡ stream_packet kind ep packet }
 {
     let endpoint = ep.byte();

@@ -5,7 +5,7 @@ ghost use Rattle.redir_host.specs.step.Acts.{Piece, Perform, Offer, Unplug};
 ghost use Rattle.redir_host.specs.device.Offering.{told_offered};
 ghost use Rattle.redir_host.specs.write.Output.{host_out};
 ghost use Rattle.redir_host.specs.device.Performing.{told_performed};
-ghost use Rattle.redir_host.specs.step.Stands.{Does, HasFailed, Stands, StopsIn, TakesPiece, TellsOf};
+ghost use Rattle.redir_host.specs.step.Stands.{Does, HasFailed, HostStands, StopsIn, TakesPiece, TellsOf};
 
 use crate::hello::write_hello;
 use crate::inner::Inner;
@@ -37,7 +37,7 @@ impl<G: Gadget> Model for HostCore<G> {
 impl<G: Gadget> HostCore<G> {
     /// The host of a device that was just plugged in. It appends its hello.
     pub fn make(alloc: Global, gadget: G, out: &mut Bytes) -> Result<HostCore<G>, Memory>
-        ensures made { IfOk result (λ core. Stands G.meaning gadget core []) }
+        ensures made { IfOk result (λ core. HostStands G.meaning gadget core []) }
         ensures sent { OnOk result (out.new ≡ out.old ++ host_out G.meaning gadget []) }
         ensures err { OnErr result (out.new ≡ out.old) }
     {
@@ -74,7 +74,9 @@ impl<G: Gadget> HostCore<G> {
         ensures failed { HasFailed self.old → IsErr result × (self.new ≡ self.old) }
     {
         self.inner.works()?;
-        let told = self.inner.perform(ep, out);
+        let before = out.len();
+        let performed = self.inner.host.perform(self.inner.alloc, ep, out);
+        let told = out.cut_on_err(before, performed);
         self.inner.fail_on_err(told)
     }
 
@@ -89,7 +91,7 @@ impl<G: Gadget> HostCore<G> {
         ensures failed { HasFailed self.old → IsErr result × (self.new ≡ self.old) }
     {
         self.inner.works()?;
-        let told = self.inner.offer(ep, out);
+        let told = self.inner.host.offer(self.inner.alloc, ep, out);
         self.inner.fail_on_err(told)
     }
 
@@ -104,7 +106,7 @@ impl<G: Gadget> HostCore<G> {
         ensures failed { HasFailed self.old → IsErr result × (self.new ≡ self.old) }
     {
         self.inner.works()?;
-        let told = self.inner.unplug(out);
+        let told = self.inner.host.unplug(out);
         self.inner.fail_on_err(told)
     }
 }

@@ -1,23 +1,21 @@
 //! What a host core keeps, and how acts change it.
 
-ghost use Rattle.std.specs.Prelude.{◌≡◌, [], false, not, IfOk, OnOk, OnErr};
+ghost use Rattle.std.specs.Prelude.{◌≡◌, [], false, OnOk, OnErr};
 ghost use Rattle.packet_stream.specs.Loops.{TakesPackets};
-ghost use Rattle.redir_host.specs.step.Acts.{Piece, Perform, Offer, Unplug};
+ghost use Rattle.redir_host.specs.step.Acts.{Piece};
 ghost use Rattle.redir_host.specs.guest.Guest.{guest_reader};
-ghost use Rattle.redir_host.specs.device.Offering.{told_offered};
-ghost use Rattle.redir_host.specs.device.Performing.{told_performed};
 ghost use Rattle.redir_host.specs.state.Sound.{IsSound};
-ghost use Rattle.redir_host.specs.step.Stands.{Does, HasFailed, HasPast, Stands, StopsIn, TakesPiece, TellsOf};
-ghost use Rattle.redir_host.specs.guest.Takings.{HasRead, LeavesWanted, TookPackets};
+ghost use Rattle.redir_host.specs.step.Stands.{HasFailed, HasPast, HostStands, StopsIn, TakesPiece};
+ghost use Rattle.redir_host.specs.guest.Takings.{HasRead, LeavesWanted, TookAndSent};
 ghost use Rattle.redir_host.specs.inner.Views.{kept_of};
 
 use crate::host::Host;
-use crate::note::{HostNote, HostNotes, Offered, Performed};
+use crate::note::{HostNote, HostNotes};
 use model_device::Gadget;
 use packet_stream::{ReadError, Stream};
 use redir_data::{FromGuest, RedirState};
 use std::alloc::Global;
-use usb_base::{Bytes, EpAddr, Memory};
+use usb_base::{Bytes, Memory};
 
 /// The guest's stream, and the host that takes its packets.
 #[derive(Drop)]
@@ -57,7 +55,7 @@ impl<G> Inner<G> {
 impl<G: Gadget> Inner<G> {
     /// The host of a device that was just plugged in.
     pub fn new(alloc: Global, gadget: G) -> Self
-        ensures { Stands G.meaning gadget (kept_of result) [] }
+        ensures { HostStands G.meaning gadget (kept_of result) [] }
     {
         Inner {
             alloc,
@@ -92,41 +90,6 @@ impl<G: Gadget> Inner<G> {
             Err(ReadError::Memory(memory)) => Err(memory),
         }
     }
-
-    /// Performs the first request of an endpoint. For want of memory `out` stands.
-    pub fn perform(&mut self, ep: EpAddr, out: &mut Bytes) -> Result<Performed, Memory>
-        requires { HasPast G.meaning (kept_of self.old) }
-        ensures told { IfOk result (TellsOf G.meaning (kept_of self.old) (λ host. told_performed G.meaning host ep)) }
-        ensures does { OnOk result (Does G.meaning (Perform ep) (kept_of self.old) (kept_of self.new) out.old out.new) }
-        ensures stops { OnErr result (StopsIn G.meaning (Perform ep) (kept_of self.old) out.old out.new) }
-        ensures err { OnErr result (out.new ≡ out.old) }
-    {
-        let before = out.len();
-        let performed = self.host.perform(self.alloc, ep, out);
-        out.cut_on_err(before, performed)
-    }
-
-    /// Offers the guest what the device has for an endpoint. For want of memory `out` stands.
-    pub fn offer(&mut self, ep: EpAddr, out: &mut Bytes) -> Result<Offered, Memory>
-        requires { HasPast G.meaning (kept_of self.old) }
-        ensures told { IfOk result (TellsOf G.meaning (kept_of self.old) (λ host. told_offered G.meaning host ep)) }
-        ensures does { OnOk result (Does G.meaning (Offer ep) (kept_of self.old) (kept_of self.new) out.old out.new) }
-        ensures stops { OnErr result (StopsIn G.meaning (Offer ep) (kept_of self.old) out.old out.new) }
-        ensures err { OnErr result (out.new ≡ out.old) }
-    {
-        self.host.offer(self.alloc, ep, out)
-    }
-
-    /// Takes the device away; false where it was taken away before. For want of memory `out` stands.
-    pub fn unplug(&mut self, out: &mut Bytes) -> Result<bool, Memory>
-        requires { HasPast G.meaning (kept_of self.old) }
-        ensures told { IfOk result (λ told. told ≡ not self.old.host.unplugged) }
-        ensures does { OnOk result (Does G.meaning Unplug (kept_of self.old) (kept_of self.new) out.old out.new) }
-        ensures stops { OnErr result (StopsIn G.meaning Unplug (kept_of self.old) out.old out.new) }
-        ensures err { OnErr result (out.new ≡ out.old) }
-    {
-        self.host.unplug(out)
-    }
 }
 
 /// Takes the packets that are whole, one by one.
@@ -139,7 +102,7 @@ fn take_packets<G: Gadget>(
 ) -> Result<(), ReadError>
     requires read { HasRead stream.old host.old.guest }
     requires sound { IsSound host.old }
-    ensures takes { TakesPackets guest_reader result stream.old stream.new (TookPackets result G.meaning host.old host.new out.old out.new notes.old notes.new) }
+    ensures takes { TakesPackets guest_reader result stream.old stream.new (TookAndSent result G.meaning host.old host.new out.old out.new notes.old notes.new) }
     ensures wants { LeavesWanted result G.meaning stream.old host.old out.old out.new }
 {
     while let Some((_, (header, packet))) = stream.next(alloc)? {

@@ -1,13 +1,14 @@
 //! Laws of a host's definitions, as contracts of functions that do nothing.
 
 ghost use Rattle.std.specs.Prelude.{◌≡◌, ◌≤◌, ◌+◌, [], ◌∷◌, ◌++◌, Bool, false, true, ℕ, List, length, map, filter};
+ghost use Rattle.std.specs.List.{AllByRecursion};
 ghost use Rattle.usb_base.specs.Number.{AreBytes};
 ghost use Rattle.redir_wire.specs.declared.packet.Header.{Header};
 ghost use Rattle.redir_data.specs.declared.packet.RedirPacket.{RedirPacket};
 ghost use Rattle.redir_host.specs.declared.host.Host.{Host};
 ghost use Rattle.redir_host.specs.step.Acts.{Act, Perform, Offer, Unplug, guest_bytes};
 ghost use Rattle.redir_host.specs.guest.Guest.{guest_items};
-ghost use Rattle.redir_host.specs.step.Answered.{IsKnown, IsSublist, answer_of, answered, answers_sent, dropped, ids_of, is_gone, is_of, is_placed, line, performed_of, requests, requests_of, statuses_sent, stream_ids, told_placed, told_request, waiting};
+ghost use Rattle.redir_host.specs.step.Answered.{IsKnown, IsSublist, answer_of, answered, answers_sent, dropped, ids_of, is_gone, is_in_queue_of, is_placed, line, performed_of, requests, requests_of, statuses_sent, stream_ids, told_placed, told_request, waiting};
 ghost use Rattle.redir_host.specs.step.History.{brought, history, of_guest};
 ghost use Rattle.redir_host.specs.step.Items.{Item};
 ghost use Rattle.redir_host.specs.guest.Line.{Placed, queue_in, reset_in};
@@ -17,7 +18,7 @@ ghost use Rattle.redir_host.specs.device.Offering.{offer_move, unplug_move};
 ghost use Rattle.redir_host.specs.write.Output.{act_bytes, act_notes, host_of, host_out};
 ghost use Rattle.redir_host.specs.guest.Packets.{packet_move};
 ghost use Rattle.redir_host.specs.device.Performing.{perform_move};
-ghost use Rattle.redir_host.specs.state.Sound.{Each, IsSound};
+ghost use Rattle.redir_host.specs.state.Sound.{IsSound};
 
 use model_device::Gadget;
 
@@ -83,8 +84,8 @@ pub fn answered_at_most_once<G: Gadget>()
 /// behind those that it has performed.
 pub fn performed_in_order<G: Gadget>()
     ensures { (first : G) (items : List Item) (ep : ℕ)
-        → IsSublist (filter (is_of ep) (performed_of (answered G.meaning first items) ++ waiting G.meaning first items))
-        (filter (is_of ep) (requests items)) }
+        → IsSublist (filter (is_in_queue_of ep) (performed_of (answered G.meaning first items) ++ waiting G.meaning first items))
+        (filter (is_in_queue_of ep) (requests items)) }
 {}
 
 /// A law: each packet of the guest that starts or stops a stream, and came before the device was taken away, is
@@ -96,5 +97,5 @@ pub fn streams_answered_at_once<G: Gadget>()
 /// A law: each packet that is sent answers a request, is a status of a stream, or has id 0, so that no other packet of
 /// the guest is answered.
 pub fn nothing_else_is_answered<G: Gadget>()
-    ensures { (first : G) (items : List Item) → Each IsKnown (all_given (λ v. v.sent) G.meaning first items) }
+    ensures { (first : G) (items : List Item) → AllByRecursion IsKnown (all_given (λ v. v.sent) G.meaning first items) }
 {}

@@ -1,7 +1,7 @@
 //! Performs requests: changes with what they flush, resets, and answers.
 
 ghost use Rattle.std.specs.Prelude.{◌≡◌, ◌++◌, true, Some, IfOk, IsSome, IsSomeAnd, OnOk, OnErr};
-ghost use Rattle.std.specs.List.{find, flat_map};
+ghost use Rattle.std.specs.List.{find, flat_map, AllByRecursion};
 ghost use Rattle.control_route.specs.declared.route.Route.TheVariants as route;
 ghost use Rattle.usb_base.specs.Status.{is_success as is_success_status};
 ghost use Rattle.model_device.specs.Transfer.{IsOutcome};
@@ -11,14 +11,14 @@ ghost use Rattle.redir_host.specs.write.Answers.{answer};
 ghost use Rattle.redir_host.specs.device.Changes.{changed, cleared};
 ghost use Rattle.redir_host.specs.device.Facts.{facts_of};
 ghost use Rattle.redir_host.specs.step.Machine.{told_bytes};
-ghost use Rattle.redir_host.specs.step.Makes.{Makes, Performs, Tells};
+ghost use Rattle.redir_host.specs.step.Makes.{Makes, TellsPerformed, Tells};
 ghost use Rattle.redir_host.specs.guest.Asking.{routed};
 ghost use Rattle.redir_host.specs.device.Performing.{does, done_by, performed, performs, performs_marked, perform_move, resets, told_performed, with_id};
 ghost use Rattle.redir_host.specs.device.Resets.{PerformsNow, ResetsTo};
 ghost use Rattle.redir_host.specs.write.Readable.{InRange};
 ghost use Rattle.usb_base.specs.Firsts.{without_first};
 ghost use Rattle.redir_host.specs.state.Queues.{is_at};
-ghost use Rattle.redir_host.specs.state.Sound.{Each, IsRequest, IsSound};
+ghost use Rattle.redir_host.specs.state.Sound.{IsRequest, IsSound};
 
 use crate::answer::{write_answer, write_flushed};
 use crate::change::change_of;
@@ -54,29 +54,10 @@ impl<G: Gadget> Host<G> {
             return Ok(Performed::NotReady);
         };
         if request.reset {
-            self.perform_marked(alloc, ep, out)
-        } else {
-            self.perform_unmarked(alloc, ep, out)
+            return self.perform_marked(alloc, ep, out);
         }
-    }
-
-    /// Performs an endpoint's first request.
-    fn perform_unmarked(
-        &mut self,
-        alloc: Global,
-        ep: EpAddr,
-        out: &mut Bytes,
-    ) -> Result<Performed, Memory>
-        requires sound { IsSound self.old }
-        requires there { IsSome (find (is_at ep) self.old.queue) }
-        ensures ok { IfOk result (λ told. (q : Asked) → find (is_at ep) self.old.queue ≡ Some q
-            → Performs (with_id q (performs G.meaning (record self.old { queue = without_first (is_at ep) self.old.queue }) q)) self.old self.new told out.old out.new) }
-        ensures wants { OnErr result (IsSomeAnd (find (is_at ep) self.old.queue) (λ q. IsSome (G.meaning.perform self.old.gadget q.transfer))) }
-        ensures err { OnErr result (Begins out.old out.new) }
-    {
         let table = self.gadget.table();
-        let transfer = &self.queue.first(ep).unwrap().transfer;
-        match self.gadget.perform(alloc, transfer)? {
+        match self.gadget.perform(alloc, &request.transfer)? {
             Some(outcome) => {
                 let request = self.queue.remove_first(ep);
                 let id = request.id;
@@ -98,7 +79,7 @@ impl<G: Gadget> Host<G> {
         requires sound { IsSound self.old }
         requires marked { IsSomeAnd (find (is_at ep) self.old.queue) (λ q. q.reset ≡ true) }
         ensures ok { IfOk result (λ told. (q : Asked) → find (is_at ep) self.old.queue ≡ Some q
-            → Performs (with_id q (performs_marked G.meaning (record self.old { queue = without_first (is_at ep) self.old.queue }) q q.form)) self.old self.new told out.old out.new) }
+            → TellsPerformed (with_id q (performs_marked G.meaning (record self.old { queue = without_first (is_at ep) self.old.queue }) q q.form)) self.old self.new told out.old out.new) }
         ensures err { OnErr result (Begins out.old out.new) }
     {
         let request = self.queue.remove_first(ep);
@@ -236,7 +217,7 @@ impl<G: Gadget> Host<G> {
     /// Tells the endpoints and the interfaces as they are now.
     pub fn tell_facts(&self, out: &mut Bytes) -> Result<(), Memory>
         ensures ok { OnOk result (out.new ≡ out.old ++ flat_map (told_bytes self.now.guest.caps) (facts_of self.now.guest.caps G.meaning self.now.gadget)) }
-        ensures ranges { OnOk result (Each InRange (facts_of self.now.guest.caps G.meaning self.now.gadget)) }
+        ensures ranges { OnOk result (AllByRecursion InRange (facts_of self.now.guest.caps G.meaning self.now.gadget)) }
         ensures err { OnErr result (Begins out.old out.new) }
     {
         write_facts(

@@ -1,7 +1,7 @@
 //! Takes what the guest sends.
 
 ghost use Rattle.std.specs.Prelude.{◌≡◌, ◌++◌, false, Some, None, if◌then◌else◌, OnOk, OnErr};
-ghost use Rattle.std.specs.List.{find};
+ghost use Rattle.std.specs.List.{find, AllByRecursion};
 ghost use Rattle.redir_data.specs.declared.packet.RedirPacket.TheVariants.{Plain};
 ghost use Rattle.model_device.specs.Transfer.{is_control as is_control_endpoint};
 ghost use Rattle.redir_wire.specs.Begins.{Begins};
@@ -9,10 +9,10 @@ ghost use Rattle.redir_wire.specs.Header.{IdFits, is_wide};
 ghost use Rattle.redir_host.specs.guest.Asking.{asking_of};
 ghost use Rattle.redir_host.specs.step.Machine.{bytes_of};
 ghost use Rattle.redir_host.specs.step.Makes.{IdFitsOf, IsTaken, Makes, Takes};
-ghost use Rattle.redir_host.specs.guest.Packets.{can_start, cancel_move, data_move, greets, is_of, packet_move, packet_move_by, queued, start_move, status_of, stop_move};
+ghost use Rattle.redir_host.specs.guest.Packets.{can_start, cancel_move, data_move, greets, is_kind_of, packet_move, packet_move_by, queued, start_move, status_of, stop_move};
 ghost use Rattle.redir_host.specs.state.Queues.{is_cancelled_by};
 ghost use Rattle.redir_host.specs.write.Readable.{GreetsInRange, InRange, TakesInRange};
-ghost use Rattle.redir_host.specs.state.Sound.{Each, IsSound};
+ghost use Rattle.redir_host.specs.state.Sound.{IsSound};
 ghost use Rattle.redir_host.specs.step.Wants.{GivesSome};
 
 use crate::answer::{write_cancelled, write_ended};
@@ -120,7 +120,7 @@ impl<G: Gadget> Host<G> {
     /// Tells the guest of the device.
     fn greet(&self, out: &mut Bytes) -> Result<(), Memory>
         ensures ok { OnOk result (out.new ≡ out.old ++ bytes_of (greets G.meaning self.now)) }
-        ensures ranges { OnOk result (Each InRange (greets G.meaning self.now).sent) }
+        ensures ranges { OnOk result (AllByRecursion InRange (greets G.meaning self.now).sent) }
         ensures err { OnErr result (Begins out.old out.new) }
     {
         self.tell_facts(out)?;
@@ -236,13 +236,13 @@ fn stream_endpoint(table: &EpTable, kind: StreamKind, endpoint: u8) -> Option<Ep
     ensures { result ≡ (if can_start table.now kind endpoint then Some endpoint else None) }
 {
     match EpAddr::new(endpoint) {
-        Some(ep) if ep.is_in() && is_of(kind, table.row(ep).kind) => Some(ep),
+        Some(ep) if ep.is_in() && is_kind_of(kind, table.row(ep).kind) => Some(ep),
         _ => None,
     }
 }
 
-fn is_of(stream: StreamKind, kind: EpKind) -> bool
-    ensures { result ≡ is_of stream kind }
+fn is_kind_of(stream: StreamKind, kind: EpKind) -> bool
+    ensures { result ≡ is_kind_of stream kind }
 {
     matches!(
         (stream, kind),

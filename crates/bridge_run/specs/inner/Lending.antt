@@ -8,7 +8,7 @@ use Rattle.redir_host.specs.declared.note.HostNote.TheVariants as note
 use Rattle.redir_host.specs.step.Acts.{Act}
 use Rattle.redir_host.specs.step.Acts as act
 use Rattle.redir_host.specs.write.Output.{host_out}
-use Rattle.redir_host.specs.step.Stands.{Stands}
+use Rattle.redir_host.specs.step.Stands.{HostStands}
 use Rattle.bridge_run.specs.declared.lent.Lent.{Lent}
 use Rattle.bridge_run.specs.declared.lent.Use.{Use}
 use Rattle.bridge_run.specs.declared.lent.Use.TheVariants.{Perform, Offer}
@@ -28,7 +28,7 @@ act_of Offer ep = act.Offer ep
 -- the core stands for these acts, and the output gained what they sent that those before them hadn't
 pub record Acts {S : Type 0} (m : Meaning S) (s : S) (new : Core S) (past acts : List Act) (old_out new_out : List ℕ) : Type 0 where
   pub given : List ℕ
-  pub stands : Stands m s new acts
+  pub stands : HostStands m s new acts
   pub sends : host_out m s acts ≡ host_out m s past ++ given
   pub sent : new_out ≡ old_out ++ given
 
@@ -50,6 +50,6 @@ Halts m s past acts refusals old_out new_out = StopsIn m s past acts old_out new
 
 -- the core stands for the acts of these events, and what it has sent waits until the guest comes
 pub record IsLent {S : Type 0} (m : Meaning S) (s : S) (lent : Lent S) (events : List LinkEvent) : Type 0 where
-  pub stands : Stands m s lent.core (acts_of m s events)
+  pub stands : HostStands m s lent.core (acts_of m s events)
   pub came : lent.has_come ≡ has_come events
   pub waiting : lent.waiting ≡ (if has_come events then [] else host_out m s (acts_of m s events))

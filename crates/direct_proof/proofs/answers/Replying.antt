@@ -13,7 +13,7 @@ use Rattle.gate_history.specs.step.Machine.{live_after}
 use Rattle.gate_history.specs.step.Meaning.{fact_of}
 use Rattle.gate_history.specs.state.Facts.{tell}
 use Rattle.gate_history.specs.write.Answers.{answers_by}
-use Rattle.gate_history.proofs.lemmas.Lists.{filter-map}
+use Rattle.gate_history.proofs.lemmas.Lists.{filter-map, Each-filter}
 use Rattle.gate_history.proofs.lemmas.step.NoCancel.{none-cancelled, stays-uncancelled}
 use Rattle.direct_run.specs.declared.submitted.Submitted.{Submitted}
 use Rattle.direct_run.specs.Moves.{World, GateReads}
@@ -27,7 +27,7 @@ use Rattle.direct_proof.specs.Related.{Related}
 use Rattle.direct_proof.specs.Ids.{Ids}
 use Rattle.direct_proof.specs.Loads.{IsComing}
 use Rattle.direct_proof.specs.Meets.{is_plug}
-use Rattle.direct_proof.proofs.shared.Owed.{ids-answer, each-filter}
+use Rattle.direct_proof.proofs.shared.Owed.{ids-answer}
 use Rattle.direct_proof.proofs.answers.Answering.{pending_has, live-left, answers-sent, answers-done}
 use Rattle.direct_proof.proofs.answers.Answered.{IsDeed, reads-answer, reads-moved, answer_mark, with_back, way-read}
 use Rattle.direct_proof.proofs.shared.Found.{none-named}
@@ -105,7 +105,7 @@ module _ {S : Type 0} (m : Meaning S) (w : World S) (j : Shared) (place : ℕ) (
     answers = refl;
     tagged = rel.tagged.1;
     ids = ids-answer j.debts w.submits (j.held ++ j.coming) (runs_in bs) c ids;
-    real = each-filter (λ (d : Debt). (d.id == 0) ≡ false) (λ (d : Debt). not (d.id == c.id)) j.debts rel.real;
+    real = Each-filter (λ (d : Debt). (d.id == 0) ≡ false) (λ (d : Debt). not (d.id == c.id)) j.debts rel.real;
     runs_at_in = rel.runs_at_in;
     before = λ h. absurd (not-both (sym (early-greets (Answered c) bs (rel.before h).back)));
     asked = rel.asked;

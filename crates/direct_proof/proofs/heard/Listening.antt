@@ -1,5 +1,6 @@
 -- The host reads what asks it for a transfer, or the reset before it: it joins its queue as it stands there.
 use Rattle.std.proofs.Common.{◌≡◌, ℕ, ◌||◌, Bool, true, false, cond, List, [], ◌∷◌, ◌++◌, map, Option, None, refl, sym, ap, ◌∙◌, subst, append-nil, append_assoc}
+use Rattle.std.specs.List.{AllByRecursion as Each}
 use Rattle.usb_base.specs.declared.transfer.Transfer.{Transfer}
 use Rattle.redir_data.specs.declared.packet.RedirPacket.{RedirPacket}
 use Rattle.redir_data.specs.Streams.{advanced}
@@ -10,7 +11,6 @@ use Rattle.redir_host.specs.declared.request.Form.{Form}
 use Rattle.redir_host.specs.guest.Line.{Waiting as InLine, Waits}
 use Rattle.redir_host.specs.step.Moves.{quiet as host_quiet}
 use Rattle.redir_host.specs.guest.Packets.{packet_move_by, joins}
-use Rattle.redir_host.specs.state.Sound.{Each}
 use Rattle.gate_history.specs.write.Bytes.{gateway_hello}
 use Rattle.direct_run.specs.Moves.{World, HostReads}
 use Rattle.direct_proof.specs.Moves.{move, quiet, host_reads, host_takes}

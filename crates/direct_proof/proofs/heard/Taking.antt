@@ -1,7 +1,7 @@
 -- A cancel that the host reads: it takes its request off the queue, or comes too late.
 use Rattle.std.proofs.Common.{◌≡◌, ℕ, ◌==◌, ◌||◌, ◌&&◌, Bool, true, false, cond, List, [], ◌∷◌, ◌++◌, map, Some, None, refl, sym, ap, ◌∙◌, subst, arith, append-nil, inl, inr, ◌⊎◌}
 use Rattle.std.specs.Prelude.{Option, IsSomeAnd}
-use Rattle.std.specs.List.{find}
+use Rattle.std.specs.List.{find, AllByRecursion as Each}
 use Rattle.usb_base.specs.declared.transfer.Outcome.{Outcome}
 use Rattle.usb_base.specs.declared.status.UsbStatus.TheVariants.{Cancelled}
 use Rattle.redir_wire.specs.declared.packet.RedirControl.TheVariants as plain
@@ -14,7 +14,7 @@ use Rattle.chapter9.specs.Standard.{ended}
 use Rattle.redir_host.specs.declared.note.HostNote.TheVariants as host_note
 use Rattle.redir_host.specs.guest.Packets.{cancel_move, packet_move_by}
 use Rattle.redir_host.specs.step.Moves.{quiet as host_quiet}
-use Rattle.redir_host.specs.state.Sound.{Each}
+use Rattle.redir_host.proofs.lemmas.state.Each.{each_front}
 use Rattle.gate_history.specs.state.Ups.{stream_of}
 use Rattle.gate_history.specs.client.Verdict.{is_wire}
 use Rattle.direct_run.specs.Noted.{number_in}
@@ -28,7 +28,7 @@ use Rattle.direct_proof.specs.Tagged.{Answered, on_wire}
 use Rattle.direct_proof.specs.Related.{Related}
 use Rattle.direct_proof.specs.Loads.{IsLoad}
 use Rattle.direct_proof.specs.Cancels.{IsAsked, CancelsFit, any_change}
-use Rattle.direct_proof.proofs.lists.Counts.{Each-front, itself}
+use Rattle.direct_proof.proofs.lists.Counts.{itself}
 use Rattle.direct_proof.proofs.shared.Owed.{each-parts}
 use Rattle.direct_proof.proofs.shared.WireBack.{way-answer, ran-answer}
 use Rattle.direct_proof.proofs.shared.Folds.{clash, or-false}
@@ -113,7 +113,7 @@ keep-cancel {S = S} m w j id ps rel wire first = go w.host.unplugged refl
 
         found : (find (is_cancelled_by (number e.load)) d.queue ≡ Some (at_device e)) × (without_first (is_cancelled_by (number e.load)) d.queue ≡ map at_device (t.front ++ (t.back ++ j.coming)))
         found =
-            let r = find-mapped at_device (is_cancelled_by (number e.load)) t.front e (t.back ++ j.coming) (not-it t.front (Each-front (λ (x : Entry). (number x.load == number e.load) ≡ false) t.front (t.back ++ j.coming) others)) is-it in
+            let r = find-mapped at_device (is_cancelled_by (number e.load)) t.front e (t.back ++ j.coming) (not-it t.front (each_front (λ (x : Entry). (number x.load == number e.load) ≡ false) t.front (t.back ++ j.coming) others)) is-it in
             (ap (λ (l : List Entry). find (is_cancelled_by (number e.load)) (map at_device l)) held.inside ∙ r.0, ap (λ (l : List Entry). without_first (is_cancelled_by (number e.load)) (map at_device l)) held.inside ∙ r.1)
 
         read : Related m (read_world w ps w.host.queue w.host.resets_next) j
@@ -131,7 +131,7 @@ keep-cancel {S = S} m w j id ps rel wire first = go w.host.unplugged refl
 
     go : (b : Bool) → w.host.unplugged ≡ b → Keeps m w j (move m w HostReads)
     go true off = ignored (λ h. absurd (clash w.host.unplugged off h))
-    go false there = by (taken id j.held (Each-front (λ (e : Entry). IsLoad e.load) j.held j.coming rel.line.loads))
+    go false there = by (taken id j.held (each_front (λ (e : Entry). IsLoad e.load) j.held j.coming rel.line.loads))
       where
         by : (find (is_taken_by id) (map at_queue j.held) ≡ None) ⊎ Taken id j.held → Keeps m w j (move m w HostReads)
         by (inl none) = ignored (λ h. ap (cancel_move w.host id) (ap (find (is_taken_by id)) (queue-held m w j rel there) ∙ none))

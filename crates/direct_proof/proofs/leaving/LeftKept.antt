@@ -5,7 +5,6 @@ use Rattle.std.specs.Prelude.{zip}
 use Rattle.redir_data.specs.declared.packet.RedirPacket.{RedirPacket}
 use Rattle.model_device.specs.Meaning.{Meaning}
 use Rattle.redir_host.specs.guest.Line.{Waiting as InLine}
-use Rattle.redir_host.specs.state.Sound.{Each}
 use Rattle.gate_history.specs.write.Output.{cancel}
 use Rattle.gate_history.specs.state.State.{next_ids, submits, flying}
 use Rattle.gate_history.specs.client.Submits.{Pending}
@@ -21,7 +20,6 @@ use Rattle.direct_proof.specs.Shared.{Shared, at_hosts, half_line, lines, view, 
 use Rattle.direct_proof.proofs.shared.Asked.{cancels-asking, cancels-line, cancels-quiet, changes-ask, line-ask, behind-ask, ids-ask}
 use Rattle.direct_proof.proofs.shared.Folds.{clash, lines-append, not-both, or-right}
 use Rattle.direct_proof.proofs.shared.Fits.{fits-map, fits-nil}
-use Rattle.direct_proof.proofs.shared.Owed.{each-append}
 use Rattle.direct_proof.proofs.shared.Streaming.{IsQuiet, calls-quiet-in, starts-append, starts-more, controls-more, quits-more, trails-more}
 use Rattle.direct_proof.proofs.shared.Traces.{map-append}
 use Rattle.direct_proof.proofs.streams.changes.ChangeFree.{stops-asking}
@@ -31,12 +29,12 @@ use Rattle.direct_proof.proofs.leaving.Left.{leave_ids, leave_stops, left_world,
 use Rattle.direct_proof.proofs.leaving.LeftWire.{IsStopping, each-stop, every_up, none-stopped, last-stop, left-controls, left-fenced, left-quits, left-trails, none-up}
 use Rattle.direct_proof.proofs.leaving.LeftLists.{asked_all, asked-fits, no-starts, by_id, debts-again, kinds-none, starts-down, tagged-none}
 use Rattle.redir_host.specs.declared.request.Request.{Request as HostRequest}
-use Rattle.std.specs.List.{last_or}
+use Rattle.std.specs.List.{last_or, AllByRecursion as Each}
 use Rattle.gate_history.specs.state.Calls.{called}
 use Rattle.gate_history.specs.step.Marks.{Submission}
 use Rattle.gate_history.specs.state.Ids.{holds}
 use Rattle.gate_history.specs.state.Ups.{Up, no_streams}
-use Rattle.gate_history.proofs.lemmas.Lists.{map-map}
+use Rattle.gate_history.proofs.lemmas.Lists.{map-map, Each-append}
 use Rattle.direct_device.specs.Acting.{ClientGone}
 use Rattle.direct_device.specs.Direct.{Direct, Waiting}
 use Rattle.direct_proof.specs.Calls.{Controls, Fenced}
@@ -94,12 +92,12 @@ module _ {S : Type 0} (m : Meaning S) (w : World S) (j : Shared) (rel : Related 
       (subst (λ (l : List Entry). CancelsFit l (cs ++ zs) []) joined (asked-fits (j.held ++ j.coming) (cs ++ zs)))
 
   new-calls-in : Each (λ (p : ℕ × RedirPacket). CallIsIn (called_endpoint p.1)) (w.to_host ++ (cs ++ zs))
-  new-calls-in = each-append (λ (p : ℕ × RedirPacket). CallIsIn (called_endpoint p.1)) w.to_host (cs ++ zs) rel.line.calls_in
-      (each-append (λ (p : ℕ × RedirPacket). CallIsIn (called_endpoint p.1)) cs zs (calls-quiet-in cs quiet-cs) (stops-in every_up zs stopped))
+  new-calls-in = Each-append (λ (p : ℕ × RedirPacket). CallIsIn (called_endpoint p.1)) w.to_host (cs ++ zs) rel.line.calls_in
+      (Each-append (λ (p : ℕ × RedirPacket). CallIsIn (called_endpoint p.1)) cs zs (calls-quiet-in cs quiet-cs) (stops-in every_up zs stopped))
 
   new-asked : w.host.guest.first ≡ false → Each (λ (p : ℕ × RedirPacket). IsAsking p.1) (w.to_host ++ (cs ++ zs))
-  new-asked h = each-append (λ (p : ℕ × RedirPacket). IsAsking p.1) w.to_host (cs ++ zs) (rel.asked h)
-      (each-append (λ (p : ℕ × RedirPacket). IsAsking p.1) cs zs (cancels-asking (filter test w.gate.live)) (stops-asking every_up (leave_ids w.gate) w.gate.streams))
+  new-asked h = Each-append (λ (p : ℕ × RedirPacket). IsAsking p.1) w.to_host (cs ++ zs) (rel.asked h)
+      (Each-append (λ (p : ℕ × RedirPacket). IsAsking p.1) cs zs (cancels-asking (filter test w.gate.live)) (stops-asking every_up (leave_ids w.gate) w.gate.streams))
 
   -- nothing is sent for one that lost its device
   none-sent : w.gate.lost ≡ true → cs ++ zs ≡ []

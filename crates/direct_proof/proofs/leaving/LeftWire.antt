@@ -4,9 +4,10 @@ use Rattle.std.specs.Prelude.{get_or, zip}
 use Rattle.redir_wire.specs.declared.packet.RedirControl.TheVariants as plain
 use Rattle.redir_data.specs.declared.packet.RedirPacket.{RedirPacket}
 use Rattle.redir_data.specs.declared.packet.RedirPacket.TheVariants.{Plain}
-use Rattle.redir_host.specs.state.Sound.{Each}
 use Rattle.usb_base.specs.Endpoint.{endpoint_index}
-use Rattle.std.specs.List.{last_or}
+use Rattle.std.specs.List.{last_or, AllByRecursion as Each}
+use Rattle.redir_host.proofs.lemmas.state.Each.{each_behind}
+use Rattle.gate_history.proofs.lemmas.Lists.{Each-append}
 use Rattle.gate_history.specs.state.Calls.{called, call_ids}
 use Rattle.gate_history.specs.state.Flight.{wide_ids, ids_of}
 use Rattle.gate_history.specs.state.Ids.{AreFresh, greatest, holds, times}
@@ -22,9 +23,8 @@ use Rattle.direct_proof.specs.Running.{Quits, Trails, called_endpoint}
 use Rattle.direct_proof.specs.Session.{down_in}
 use Rattle.direct_proof.specs.Stale.{asks, is_fence}
 use Rattle.direct_proof.specs.Tagged.{Tagged, Stated}
-use Rattle.direct_proof.proofs.lists.Counts.{itself, Each-back}
+use Rattle.direct_proof.proofs.lists.Counts.{itself}
 use Rattle.direct_proof.proofs.shared.Folds.{not-both}
-use Rattle.direct_proof.proofs.shared.Owed.{each-append}
 use Rattle.direct_proof.proofs.shared.Streaming.{calls-append}
 use Rattle.direct_proof.proofs.shared.UpsFound.{lowered, by-address}
 use Rattle.direct_proof.proofs.streams.wires.Lowered.{WasUp, why-down}
@@ -117,7 +117,7 @@ module _ (st : State) (fits : UpsFit st.streams) (gate : IsStopping st) (ps : Li
         let a = ap (times n) (calls-append ps zs) ∙ times-append n (calls_on ps) (calls_on zs) in
         let b = stops-times every_up n (leave_ids st) (stops every_up st.streams) in
         few n (times n (leave_ids st)) refl o a b;
-    calls_kept = each-append (λ (p : ℕ × RedirPacket). CallIsKept (called zs st.calls) p.0 (called_endpoint p.1)) ps zs (olds ps c.calls_kept) (stops-new every_up (leave_ids st) 0 st.streams st.calls stands);
+    calls_kept = Each-append (λ (p : ℕ × RedirPacket). CallIsKept (called zs st.calls) p.0 (called_endpoint p.1)) ps zs (olds ps c.calls_kept) (stops-new every_up (leave_ids st) 0 st.streams st.calls stands);
     statuses_kept = statuses back c.statuses_kept;
   }
     where
@@ -168,7 +168,7 @@ module _ (st : State) (fits : UpsFit st.streams) (gate : IsStopping st) (ps : Li
 
   module _ (front : List (ℕ × RedirPacket)) (z : ℕ × RedirPacket) (is : leave_stops st ≡ front ++ z ∷ []) where
     asks-z : asks (Some z.0) z ≡ true
-    asks-z = (Each-back AsksAsFence front (z ∷ []) (subst (Each AsksAsFence) is (stops-ask (leave_ids st) st.streams))).0 (Some z.0) ∙ itself z.0
+    asks-z = (each_behind AsksAsFence front (z ∷ []) (subst (Each AsksAsFence) is (stops-ask (leave_ids st) st.streams))).0 (Some z.0) ∙ itself z.0
 
     split : ps ++ leave_stops st ≡ (ps ++ front) ++ z ∷ []
     split = ap (λ (l : List (ℕ × RedirPacket)). ps ++ l) is ∙ sym (append_assoc ps front (z ∷ []))

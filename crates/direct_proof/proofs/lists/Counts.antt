@@ -1,9 +1,8 @@
 -- Counting.
-use Rattle.std.proofs.Common.{◌≡◌, ℕ, ◌+◌, ◌≤◌, ◌<◌, ◌||◌, Bool, true, false, cond, eqb, List, [], ◌∷◌, ◌++◌, refl, sym, ap, ◌∙◌, arith}
+use Rattle.std.proofs.Common.{◌≡◌, ℕ, ◌+◌, ◌≤◌, ◌<◌, ◌||◌, Bool, true, false, cond, eqb, List, [], ◌∷◌, refl, sym, ap, ◌∙◌, arith}
 use Rattle.std.specs.Prelude.{filter}
-use Rattle.std.specs.List.{list_any}
-use Rattle.redir_host.specs.state.Sound.{Each}
-use Rattle.gate_history.proofs.lemmas.Lists.{both}
+use Rattle.std.specs.List.{list_any, AllByRecursion as Each}
+use Rattle.gate_history.proofs.lemmas.Lists.{both, Each-weaker}
 pub use Rattle.direct_device.proofs.Counts.{count-append, count-map, count-parts, any-some, any-none, count-zero, zero-count, itself, Each-and, Each-map}
 use Rattle.direct_proof.specs.Ids.{count}
 
@@ -50,10 +49,6 @@ same_test {X = X} p q (x ∷ xs) a0 b0 c0 = go (p x) (q x) refl refl (same_test 
 pub apart : (i n : ℕ) → i < n → eqb i n ≡ false
 apart i n h = grind arith
 
-pub Each-weaker : {X : Type 0} (P Q : X → Type 0) → ((x : X) → P x → Q x) → (xs : List X) → Each P xs → Each Q xs
-Each-weaker P Q h [] e = tt
-Each-weaker P Q h (x ∷ xs) e = (h x e.0, Each-weaker P Q h xs e.1)
-
 -- the one that a test finds
 pub single : {X : Type 0} (p q : X → Bool) (xs : List X) → count p xs ≤ 1 → 1 ≤ count (λ x. both (p x) (q x)) xs → (x : X) × (filter p xs ≡ x ∷ []) × (p x ≡ true) × (q x ≡ true)
 single p q [] a b = absurd (omega arith)
@@ -68,14 +63,6 @@ single {X = X} p q (x ∷ xs) a0 b0 = go (p x) (q x) refl refl (single p q xs) a
     go true true h k rest a b = (x, ap (λ (l : List X). x ∷ l) (no_more xs (zero-count p xs (omega arith))), h, k)
     go true false h k rest a b = absurd (omega (arith, count-both p q xs))
     go false c h k rest a b = rest (omega arith) (omega arith)
-
-pub Each-front : {X : Type 0} (P : X → Type 0) (xs ys : List X) → Each P (xs ++ ys) → Each P xs
-Each-front P [] ys e = tt
-Each-front P (x ∷ xs) ys e = (e.0, Each-front P xs ys e.1)
-
-pub Each-back : {X : Type 0} (P : X → Type 0) (xs ys : List X) → Each P (xs ++ ys) → Each P ys
-Each-back P [] ys e = e
-Each-back P (x ∷ xs) ys e = Each-back P xs ys e.1
 
 pub list_any-same : {X : Type 0} (p q : X → Bool) (xs : List X) → Each (λ x. p x ≡ q x) xs → list_any p xs ≡ list_any q xs
 list_any-same p q [] e = refl

@@ -1,6 +1,6 @@
 -- The gateway reads the device's end: all that is live is answered, and nothing comes any more.
 use Rattle.std.proofs.Common.{◌≡◌, ℕ, suc, ◌&&◌, not, Bool, true, false, cond, List, [], ◌∷◌, ◌++◌, map, Option, Some, None, refl, sym, ap, ◌∙◌, subst, append-nil, inl, inr, ◌⊎◌}
-use Rattle.std.specs.List.{flat_map}
+use Rattle.std.specs.List.{flat_map, AllByRecursion as Each}
 use Rattle.usbip_urb.specs.declared.packet.UrbPacket.{UrbPacket}
 use Rattle.usbip_urb.specs.declared.client.ClientPacket.TheVariants.{Urb}
 use Rattle.redir_wire.specs.Capability.{has}
@@ -9,7 +9,6 @@ use Rattle.redir_data.specs.declared.packet.RedirPacket.{RedirPacket}
 use Rattle.redir_data.specs.declared.packet.RedirPacket.TheVariants.{Plain}
 use Rattle.model_device.specs.Meaning.{Meaning}
 use Rattle.redir_host.specs.guest.Line.{Waiting as InLine}
-use Rattle.redir_host.specs.state.Sound.{Each}
 use Rattle.gate_history.specs.step.Marks.{Submission, Effect, Disconnects}
 use Rattle.gate_history.specs.client.Submits.{Pending, ends}
 use Rattle.gate_history.specs.write.Answers.{answers_at, lost_answer}
@@ -22,7 +21,7 @@ use Rattle.gate_history.specs.step.Machine.{ask}
 use Rattle.gate_history.specs.step.Meaning.{mark_as}
 use Rattle.gate_history.specs.state.Ups.{no_streams, stream_of}
 use Rattle.gate_history.specs.declared.note.Note.TheVariants as note
-use Rattle.gate_history.proofs.lemmas.Lists.{filter-none}
+use Rattle.gate_history.proofs.lemmas.Lists.{filter-none, Each-append}
 use Rattle.gate_history.proofs.lemmas.step.NoCancel.{none-cancelled, stays-uncancelled}
 use Rattle.direct_run.specs.Noted.{named}
 use Rattle.direct_run.specs.Moves.{World, GateReads}
@@ -37,7 +36,6 @@ use Rattle.direct_proof.specs.Cancels.{IsAsking, CancelsFit}
 use Rattle.direct_proof.specs.Kinds.{CallIsIn}
 use Rattle.direct_proof.specs.Running.{called_endpoint}
 use Rattle.direct_proof.proofs.answers.Answered.{with_back}
-use Rattle.direct_proof.proofs.shared.Owed.{each-append}
 use Rattle.direct_proof.proofs.shared.Folds.{clash, not-both, lines-append}
 use Rattle.direct_proof.proofs.shared.Fits.{fits-nil}
 use Rattle.direct_proof.proofs.answers.Replying.{still-there}
@@ -128,7 +126,7 @@ module _ {S : Type 0} (m : Meaning S) (w : World S) (j : Shared) (place : ℕ) (
       half = rel.line.half;
       coming = ap (λ (l : List InLine). half_line j.half ++ l) (lines-append w.to_host acks ∙ ap (λ (l : List InLine). lines w.to_host ++ l) (acked (has st.agreed 3)).0 ∙ append-nil (lines w.to_host)) ∙ rel.line.coming;
       loads = rel.line.loads;
-      calls_in = each-append (λ (p : ℕ × RedirPacket). CallIsIn (called_endpoint p.1)) w.to_host acks rel.line.calls_in (uncalled (has st.agreed 3));
+      calls_in = Each-append (λ (p : ℕ × RedirPacket). CallIsIn (called_endpoint p.1)) w.to_host acks rel.line.calls_in (uncalled (has st.agreed 3));
       cancels = fits-nil j.half j.held w.to_host acks j.coming rel.line.coming rel.line.cancels (acked (has st.agreed 3)).2;
       behind = rel.line.behind;
     };
@@ -138,7 +136,7 @@ module _ {S : Type 0} (m : Meaning S) (w : World S) (j : Shared) (place : ℕ) (
     real = rel.real;
     runs_at_in = rel.runs_at_in;
     before = λ h. absurd (clash w.host.guest.first h met);
-    asked = λ h. each-append (λ (p : ℕ × RedirPacket). IsAsking p.1) w.to_host acks (rel.asked h) (acked (has st.agreed 3)).1;
+    asked = λ h. Each-append (λ (p : ℕ × RedirPacket). IsAsking p.1) w.to_host acks (rel.asked h) (acked (has st.agreed 3)).1;
     meets = record {
       host = rel.meets.host;
       gate = rel.meets.gate;

@@ -1,13 +1,13 @@
 -- The device is taken away: its host tells of that, where it has sent its hello, and answers nothing any more.
 use Rattle.std.proofs.Common.{◌≡◌, ℕ, ◌||◌, Bool, true, false, cond, List, [], ◌∷◌, ◌++◌, map, Option, Some, None, is_some, refl, sym, ap, ◌∙◌, subst, append-nil, inl, inr, ◌⊎◌}
-use Rattle.std.specs.List.{list_any}
+use Rattle.std.specs.List.{list_any, AllByRecursion as Each}
 use Rattle.redir_wire.specs.declared.packet.RedirControl.TheVariants as plain
 use Rattle.redir_data.specs.declared.packet.RedirPacket.{RedirPacket}
 use Rattle.redir_data.specs.declared.packet.RedirPacket.TheVariants.{Plain}
 use Rattle.model_device.specs.Meaning.{Meaning}
 use Rattle.redir_host.specs.declared.host.Host.{Host}
 use Rattle.redir_host.specs.step.Moves.{quiet as host_quiet}
-use Rattle.redir_host.specs.state.Sound.{Each}
+use Rattle.gate_history.proofs.lemmas.Lists.{Each-append}
 use Rattle.gate_history.specs.declared.facts.Facts.{Facts}
 use Rattle.gate_history.specs.state.Ups.{Up, stream_of}
 use Rattle.gate_history.specs.client.Verdict.{is_iso}
@@ -24,7 +24,6 @@ use Rattle.direct_proof.specs.Stale.{Clean, ends}
 use Rattle.direct_proof.specs.Meets.{ByeLast, is_plug, is_greeting, is_bye}
 use Rattle.direct_proof.specs.Session.{down_in, runs}
 use Rattle.direct_proof.specs.Cancels.{any_change}
-use Rattle.direct_proof.proofs.shared.Owed.{each-append}
 use Rattle.direct_proof.proofs.shared.WireBack.{runs_in-append, packets_in-append}
 use Rattle.direct_proof.proofs.shared.Traces.{map-append}
 use Rattle.direct_proof.proofs.shared.Folds.{clash, not-both, or-left, or-none}
@@ -62,7 +61,7 @@ module _ {S : Type 0} (m : Meaning S) (w : World S) (j : Shared) (rel : Related 
       behind = rel.line.behind;
     };
     answers = ap (λ (l : List (ℕ × RedirPacket)). l ++ map on_wire cs) rel.answers ∙ sym (map-append on_wire j.back cs);
-    tagged = each-append (TaggedOfKind w.gate.streams) j.back cs rel.tagged tagged;
+    tagged = Each-append (TaggedOfKind w.gate.streams) j.back cs rel.tagged tagged;
     ids = subst (Ids j.debts w.submits (j.held ++ j.coming)) (sym (runs_in-append j.back cs ∙ ap (λ (l : List Coming). runs_in j.back ++ l) no_ran ∙ append-nil (runs_in j.back))) rel.ids;
     real = rel.real;
     runs_at_in = tt;

@@ -1,7 +1,7 @@
 -- The device performs a change, with success or refusing it, also a reset: what it flushes, and the facts that it tells.
 use Rattle.std.proofs.Common.{◌≡◌, ℕ, ◌||◌, ◌&&◌, not, Bool, true, false, cond, List, [], ◌∷◌, ◌++◌, map, filter, Option, Some, None, refl, sym, ap, ◌∙◌, subst, arith, append-nil, ◌==◌}
 use Rattle.std.specs.Prelude.{IfSome}
-use Rattle.std.specs.List.{find, list_any}
+use Rattle.std.specs.List.{find, list_any, AllByRecursion as Each}
 use Rattle.usb_base.specs.Status.{is_success}
 use Rattle.usb_base.specs.declared.transfer.Outcome.{Outcome}
 use Rattle.usb_base.specs.declared.endpoint.EpTable.{EpTable}
@@ -16,7 +16,7 @@ use Rattle.redir_host.specs.declared.running.Running.{Running}
 use Rattle.usb_base.specs.Firsts.{without_first}
 use Rattle.redir_host.specs.state.Queues.{queue_of, is_at}
 use Rattle.redir_host.specs.device.Performing.{performs_any, does, with_id}
-use Rattle.redir_host.specs.state.Sound.{Each}
+use Rattle.redir_host.proofs.lemmas.state.Each.{each_front, each_behind}
 use Rattle.gate_history.specs.declared.verdict.Verdict.{Verdict}
 use Rattle.gate_history.specs.declared.verdict.Verdict.TheVariants.{Now, Wire, Routed, IsoOut, Stream}
 use Rattle.gate_history.specs.client.Verdict.{changes, is_iso}
@@ -42,8 +42,7 @@ use Rattle.direct_proof.specs.Running.{StartsFit}
 use Rattle.direct_proof.specs.Kinds.{TaggedOfKind, OfKind, IsIn}
 use Rattle.direct_proof.proofs.answers.Loads.{performed-as}
 use Rattle.direct_proof.proofs.performs.Performs.{First, answered, perform-allowed, same-byte}
-use Rattle.direct_proof.proofs.shared.Owed.{each-append, each-filter, each-parts, ids-perform}
-use Rattle.direct_proof.proofs.lists.Counts.{Each-front, Each-back}
+use Rattle.direct_proof.proofs.shared.Owed.{each-parts, ids-perform}
 use Rattle.direct_proof.proofs.shared.Folds.{not-both, or-left, or-right, any-append}
 use Rattle.direct_proof.proofs.shared.Streaming.{starts-none}
 use Rattle.direct_proof.proofs.shared.Backs.{told-append, clean-append}
@@ -57,7 +56,7 @@ use Rattle.direct_proof.proofs.performs.StillRunning.{quits-still, each-still}
 use Rattle.usb_base.specs.declared.status.UsbStatus.TheVariants.{Cancelled}
 use Rattle.redir_host.specs.device.Changes.{is_touched}
 use Rattle.chapter9.specs.Standard.{ended}
-use Rattle.gate_history.proofs.lemmas.Lists.{filter-map}
+use Rattle.gate_history.proofs.lemmas.Lists.{filter-map, Each-append, Each-filter}
 use Rattle.direct_proof.proofs.shared.WireBack.{packets_in-append, runs_in-append}
 use Rattle.direct_proof.proofs.shared.Traces.{map-append}
 use Rattle.direct_proof.proofs.heard.Taken.{wire-seen}
@@ -140,7 +139,7 @@ module _ {S : Type 0} (m : Meaning S) (laws : IsGadget m) (w : World S) (j : Sha
 
   -- those behind it are of endpoint 0, and stay
   untouched : Each (λ (x : Entry). out x ≡ false) j.coming
-  untouched = go j.coming (Each-back (λ (y : Entry). is_control (normal_of y.load).ep ≡ true) f.back j.coming (behind-zeros f.front e (f.back ++ j.coming) (subst Behind held.inside rel.line.behind) is-it))
+  untouched = go j.coming (each_behind (λ (y : Entry). is_control (normal_of y.load).ep ≡ true) f.back j.coming (behind-zeros f.front e (f.back ++ j.coming) (subst Behind held.inside rel.line.behind) is-it))
     where
       never : (b : Bool) → (b && false) ≡ false
       never true = refl
@@ -168,14 +167,14 @@ module _ {S : Type 0} (m : Meaning S) (laws : IsGadget m) (w : World S) (j : Sha
       (ids-perform j.debts w.submits f.front (f.back ++ j.coming) e (runs_in j.back) (m.configuration done.0) done.1 (subst (λ (l : List Entry). Ids j.debts w.submits l (runs_in j.back)) held.inside rel.ids))))
 
   news : Each IsNews cs
-  news = each-append IsNews (map flushed_tag gone) (ToldTable (m.table done.0) ∷ ToldFaces (m.interfaces done.0) ∷ Answered c ∷ []) (all gone) (tt, (tt, (tt, tt)))
+  news = Each-append IsNews (map flushed_tag gone) (ToldTable (m.table done.0) ∷ ToldFaces (m.interfaces done.0) ∷ Answered c ∷ []) (all gone) (tt, (tt, (tt, tt)))
     where
       all : (es : List Entry) → Each IsNews (map flushed_tag es)
       all [] = tt
       all (x ∷ es) = (tt, all es)
 
   tagged : Each (TaggedOfKind w.gate.streams) cs
-  tagged = each-append (TaggedOfKind w.gate.streams) (map flushed_tag gone) (ToldTable (m.table done.0) ∷ ToldFaces (m.interfaces done.0) ∷ Answered c ∷ []) (all gone (each-filter (λ (x : Entry). IsLoad x.load) out f.rest (Each-front (λ (x : Entry). IsLoad x.load) f.rest j.coming rest-loads))) (tt, (tt, (came, tt)))
+  tagged = Each-append (TaggedOfKind w.gate.streams) (map flushed_tag gone) (ToldTable (m.table done.0) ∷ ToldFaces (m.interfaces done.0) ∷ Answered c ∷ []) (all gone (Each-filter (λ (x : Entry). IsLoad x.load) out f.rest (each_front (λ (x : Entry). IsLoad x.load) f.rest j.coming rest-loads))) (tt, (tt, (came, tt)))
     where
       all : (es : List Entry) → Each (λ (x : Entry). IsLoad x.load) es → Each (TaggedOfKind w.gate.streams) (map flushed_tag es)
       all [] h = tt
@@ -214,9 +213,9 @@ module _ {S : Type 0} (m : Meaning S) (laws : IsGadget m) (w : World S) (j : Sha
 
   related : Related m (sent_world w done.0 left running cs) (sent_shared j left cs)
   related = after-host m w j done.0 left running cs rel there first news
-      (each-append (λ (x : Entry). IsLoad x.load) left j.coming (each-filter (λ (x : Entry). IsLoad x.load) (λ x. not (out x)) f.rest (Each-front (λ (x : Entry). IsLoad x.load) f.rest j.coming rest-loads)) (Each-back (λ (x : Entry). IsLoad x.load) f.rest j.coming rest-loads))
+      (Each-append (λ (x : Entry). IsLoad x.load) left j.coming (Each-filter (λ (x : Entry). IsLoad x.load) (λ x. not (out x)) f.rest (each_front (λ (x : Entry). IsLoad x.load) f.rest j.coming rest-loads)) (each_behind (λ (x : Entry). IsLoad x.load) f.rest j.coming rest-loads))
       tagged ids
-      (λ P h. each-filter P (λ x. not (out x)) f.rest (subst (Each P) (sym f.rest-is) (each-parts P f.front e f.back (subst (Each P) held.is h)).1))
+      (λ P h. Each-filter P (λ x. not (out x)) f.rest (subst (Each P) (sym f.rest-is) (each-parts P f.front e f.back (subst (Each P) held.is h)).1))
       (subst Behind all-left (behind-filter (λ x. not (out x)) (f.rest ++ j.coming) (subst Behind rested (behind-drop f.front e (f.back ++ j.coming) (subst Behind held.inside rel.line.behind)))))
       session (each-still (λ (x : Running). IsIn x.ep) success r table w.host.running rel.runs_at_in)
 
@@ -249,7 +248,7 @@ module _ {S : Type 0} (m : Meaning S) (laws : IsGadget m) (w : World S) (j : Sha
         gadget = done.0;
         queue = (filter-map (λ (y : Waiting). not (is_flushed (Some r) success table y)) at_device (f.rest ++ j.coming) ∙ ap (map at_device) all-left) i;
         ran = (ap (λ (l : List Ran). joins_ran d (l ++ ran_of c ∷ [])) (ap (map (λ (y : Waiting). cancelled y.load)) (filter-map (is_flushed (Some r) success table) at_device (f.rest ++ j.coming)) ∙ ap (λ (l : List Entry). map (λ (y : Waiting). cancelled y.load) (map at_device l)) all-gone
-            ∙ flushed-ran f.rest (Each-front (λ (x : Entry). IsLoad x.load) f.rest j.coming rest-loads)) ∙ more w.gate.imported) i;
+            ∙ flushed-ran f.rest (each_front (λ (x : Entry). IsLoad x.load) f.rest j.coming rest-loads)) ∙ more w.gate.imported) i;
         way = λ k. sym (ways (stream_of w.gate.streams k) k) i;
       })
     where

@@ -1,5 +1,6 @@
 -- What a change takes off the queues, of those that are held.
 use Rattle.std.proofs.Common.{◌≡◌, ℕ, ◌==◌, ◌&&◌, not, Bool, true, false, cond, List, [], ◌∷◌, ◌++◌, map, filter, Option, refl, sym, ap, ◌∙◌, subst, arith, inl, inr, ◌⊎◌}
+use Rattle.std.specs.List.{AllByRecursion as Each}
 use Rattle.usb_base.specs.declared.endpoint.EpTable.{EpTable}
 use Rattle.usb_base.specs.Endpoint.{row_of}
 use Rattle.usb_base.specs.declared.status.UsbStatus.TheVariants.{Cancelled}
@@ -12,7 +13,8 @@ use Rattle.control_route.specs.declared.route.Route.TheVariants as route
 use Rattle.model_device.specs.Transfer.{is_control}
 use Rattle.redir_host.specs.device.Changes.{is_touched}
 use Rattle.chapter9.specs.Standard.{ended}
-use Rattle.redir_host.specs.state.Sound.{Each}
+use Rattle.redir_host.proofs.lemmas.state.Each.{each_front, each_behind}
+use Rattle.gate_history.proofs.lemmas.Lists.{Each-append, Each-filter}
 use Rattle.gate_history.specs.declared.request.Request.{Request}
 use Rattle.gate_history.specs.declared.verdict.Verdict.{Verdict}
 use Rattle.gate_history.specs.declared.verdict.Verdict.TheVariants.{Wire, Routed}
@@ -27,8 +29,7 @@ use Rattle.direct_proof.specs.Cancels.{Behind, is_change}
 use Rattle.direct_proof.specs.Running.{Quits, runs_after}
 use Rattle.direct_proof.specs.Stale.{Clean}
 use Rattle.direct_proof.specs.Loads.{FitsVerdict}
-use Rattle.direct_proof.proofs.lists.Counts.{count-append, count-map, count-parts, Each-map, Each-front, Each-back}
-use Rattle.direct_proof.proofs.shared.Owed.{each-append, each-filter}
+use Rattle.direct_proof.proofs.lists.Counts.{count-append, count-map, count-parts, Each-map}
 use Rattle.direct_proof.proofs.shared.Folds.{not-both}
 use Rattle.direct_proof.proofs.shared.Ran.{coming_of}
 
@@ -74,7 +75,7 @@ behind-filter p [] h = tt
 behind-filter p (e ∷ es) h =
     let rest = behind-filter p es h.1 in
     elim (p e) as (λ b. Behind (cond b (e ∷ filter p es) (filter p es)))
-    [ true ↦ ((λ c. each-filter (λ (y : Entry). is_control (normal_of y.load).ep ≡ true) p es (h.0 c)), rest) | false ↦ rest ]
+    [ true ↦ ((λ c. Each-filter (λ (y : Entry). is_control (normal_of y.load).ep ≡ true) p es (h.0 c)), rest) | false ↦ rest ]
 
 -- behind a change stand those of endpoint 0 alone
 pub behind-zeros : (xs : List Entry) (e : Entry) (ys : List Entry) → Behind (xs ++ e ∷ ys) → is_change e ≡ true → Each (λ (y : Entry). is_control (normal_of y.load).ep ≡ true) ys
@@ -109,15 +110,15 @@ ids-flush ds names rest coming ran c f ids = record {
   one_number = ids.one_number;
   named = parts (λ (x : Entry). number_in x.id names ≡ number x.load) ids.named;
   entries_agree = parts (λ (x : Entry). Each (λ (d : Debt). Agrees d x.id x.load) ds) ids.entries_agree;
-  ran_agrees = each-append R ran (map flushed_of (filter f rest) ++ c ∷ []) (Each-front R ran (c ∷ []) ids.ran_agrees)
-      (each-append R (map flushed_of (filter f rest)) (c ∷ []) (Each-map R flushed_of (filter f rest) (each-filter (λ (x : Entry). Each (λ (d : Debt). Agrees d x.id x.load) ds) f rest (Each-front (λ (x : Entry). Each (λ (d : Debt). Agrees d x.id x.load) ds) rest coming ids.entries_agree))) (Each-back R ran (c ∷ []) ids.ran_agrees));
+  ran_agrees = Each-append R ran (map flushed_of (filter f rest) ++ c ∷ []) (each_front R ran (c ∷ []) ids.ran_agrees)
+      (Each-append R (map flushed_of (filter f rest)) (c ∷ []) (Each-map R flushed_of (filter f rest) (Each-filter (λ (x : Entry). Each (λ (d : Debt). Agrees d x.id x.load) ds) f rest (each_front (λ (x : Entry). Each (λ (d : Debt). Agrees d x.id x.load) ds) rest coming ids.entries_agree))) (each_behind R ran (c ∷ []) ids.ran_agrees));
 }
   where
     R : Coming → Type 0
     R k = Each (λ (d : Debt). Agrees d k.id k.load) ds
 
     parts : (P : Entry → Type 0) → Each P (rest ++ coming) → Each P (filter (λ x. not (f x)) rest ++ coming)
-    parts P h = each-append P (filter (λ x. not (f x)) rest) coming (each-filter P (λ x. not (f x)) rest (Each-front P rest coming h)) (Each-back P rest coming h)
+    parts P h = Each-append P (filter (λ x. not (f x)) rest) coming (Each-filter P (λ x. not (f x)) rest (each_front P rest coming h)) (each_behind P rest coming h)
 
 -- ---- on the wire back
 

@@ -2,7 +2,7 @@
 use Rattle.std.proofs.Common.{◌≡◌, ℕ, nat_lt, Bool, true, false, cond, List, [], ◌∷◌, ◌++◌, map, Option, Some, None, refl, sym, ap, ◌∙◌, subst, append-nil}
 use Rattle.std.specs.Prelude.{IfSome}
 use Rattle.std.specs.Option.{option_map_or}
-use Rattle.std.specs.List.{find}
+use Rattle.std.specs.List.{find, AllByRecursion as Each}
 use Rattle.usb_base.specs.declared.setup.Setup.{Setup}
 use Rattle.usb_base.specs.declared.transfer.Outcome.{Outcome}
 use Rattle.redir_data.specs.declared.packet.RedirPacket.{RedirPacket}
@@ -18,7 +18,6 @@ use Rattle.redir_host.specs.declared.request.Request.{Request as HostRequest}
 use Rattle.usb_base.specs.Firsts.{without_first}
 use Rattle.redir_host.specs.state.Queues.{queue_of, is_at}
 use Rattle.redir_host.specs.device.Performing.{performed, first_performed, performs_any, does, with_id}
-use Rattle.redir_host.specs.state.Sound.{Each}
 use Rattle.gate_history.specs.declared.verdict.Pipe.{Pipe}
 use Rattle.gate_history.specs.declared.verdict.Pipe.TheVariants.{Control, Bulk, InterruptOut}
 use Rattle.gate_history.specs.declared.verdict.Verdict.{Verdict}

@@ -1,14 +1,13 @@
 -- The streams that still run at the host behind a change.
 use Rattle.std.proofs.Common.{◌≡◌, ℕ, ◌||◌, Bool, true, false, cond, List, [], ◌∷◌, filter, Option, refl}
-use Rattle.std.specs.List.{list_any}
+use Rattle.std.specs.List.{list_any, AllByRecursion as Each}
 use Rattle.usb_base.specs.declared.endpoint.EpTable.{EpTable}
 use Rattle.control_route.specs.declared.route.Route.{Route}
 use Rattle.redir_host.specs.declared.running.Running.{Running}
 use Rattle.redir_host.specs.guest.Packets.{runs_at}
 use Rattle.redir_host.specs.device.Changes.{runs_on}
-use Rattle.redir_host.specs.state.Sound.{Each}
+use Rattle.gate_history.proofs.lemmas.Lists.{Each-filter}
 use Rattle.direct_proof.specs.Running.{Quits}
-use Rattle.direct_proof.proofs.shared.Owed.{each-filter}
 use Rattle.direct_proof.proofs.shared.Folds.{clash, or-none}
 use Rattle.direct_proof.proofs.performs.Flushes.{quits-low}
 use Rattle.direct_proof.proofs.performs.Flushing.{still_running}
@@ -33,5 +32,5 @@ quits-still true r table fence k rs wire h = inner (list_any (runs_at k) (filter
     inner true false z y g = absurd (clash (list_any (runs_at k) (filter (runs_on r table) rs)) z (fewer r table k rs y))
 
 pub each-still : (P : Running → Type 0) (success : Bool) (r : Route) (table : EpTable) (rs : List Running) → Each P rs → Each P (still_running success r table rs)
-each-still P true r table rs h = each-filter P (runs_on r table) rs h
+each-still P true r table rs h = Each-filter P (runs_on r table) rs h
 each-still P false r table rs h = h

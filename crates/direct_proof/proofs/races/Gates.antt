@@ -1,10 +1,9 @@
 -- The gateway of a world is always the state after some items, so what is known of every such state is known of it.
 use Rattle.std.proofs.Common.{◌≡◌, ℕ, ◌<◌, ◌++◌, map, true, false, cond, List, [], ◌∷◌, refl, sym, ap, ◌∙◌, subst}
-use Rattle.std.specs.List.{AllByRecursion}
+use Rattle.std.specs.List.{AllByRecursion as Each}
 use Rattle.redir_data.specs.declared.packet.RedirPacket.{RedirPacket}
 use Rattle.redir_data.specs.Sent.{sent_header}
 use Rattle.model_device.specs.Meaning.{Meaning}
-use Rattle.redir_host.specs.state.Sound.{Each}
 use Rattle.gate_history.specs.declared.item.Item.{Item as GateItem}
 use Rattle.gate_history.specs.declared.item.Item.TheVariants.{Told}
 use Rattle.gate_history.specs.step.Marks.{Submission, Mark}
@@ -12,7 +11,7 @@ use Rattle.gate_history.specs.client.Submits.{Pending, pending, live, abandoned}
 use Rattle.gate_history.specs.state.Ids.{holds, AreFresh, Fits, greatest}
 use Rattle.gate_history.specs.state.Flight.{ids_of, in_flight, wide_ids}
 use Rattle.gate_history.specs.state.Calls.{calls, call_ids}
-use Rattle.gate_history.specs.state.State.{State, state_of, submits, flying}
+use Rattle.gate_history.specs.state.State.{State, state_of, flying}
 use Rattle.gate_history.specs.state.Sound.{IsSound, HasFewPackets}
 use Rattle.gate_history.specs.step.Past.{is_left_out, past}
 use Rattle.gate_history.specs.step.Meaning.{mark_of}
@@ -74,13 +73,9 @@ run-fresh st r x few = subst (λ (s : State). Each (IsDrawn s) (mark_of s x).dra
     fresh : AreFresh (greatest (wide_ids was.agreed)) (in_flight (past first_id r.0)) (mark_of was x).drawn
     fresh = item-fresh first_id r.0 x few
 
-    each-of : (ids : List ℕ) → AllByRecursion (Fits (greatest (wide_ids was.agreed))) ids → AllByRecursion (λ (id : ℕ). holds (in_flight (past first_id r.0)) id ≡ false) ids → Each (IsDrawn was) ids
+    each-of : (ids : List ℕ) → Each (Fits (greatest (wide_ids was.agreed))) ids → Each (λ (id : ℕ). holds (in_flight (past first_id r.0)) id ≡ false) ids → Each (IsDrawn was) ids
     each-of [] h k = tt
     each-of (id ∷ ids) h k = ((not-zero id h.0.low, ap (λ (fs : List ℕ). holds fs id) (flying-is first_id (past first_id r.0)) ∙ k.0), each-of ids h.1 k.1)
 
 pub run-before : (st : State) → IsRun st → AreBefore st.items st.live
-run-before st r = before st.items st.live (unmap-each (λ (x : Submission). x.place < st.items) (λ (p : Pending). p.submit) st.live (each-of (submits st) (run-sound st r).places))
-  where
-    each-of : (ss : List Submission) → AllByRecursion (λ (x : Submission). x.place < st.items) ss → Each (λ (x : Submission). x.place < st.items) ss
-    each-of [] h = tt
-    each-of (x ∷ xs) h = (h.0, each-of xs h.1)
+run-before st r = before st.items st.live (unmap-each (λ (x : Submission). x.place < st.items) (λ (p : Pending). p.submit) st.live (run-sound st r).places)

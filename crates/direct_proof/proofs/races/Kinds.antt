@@ -1,6 +1,7 @@
 -- Moves of schedules in which submits, unlinks and changes race with what the device does, with its end and with clients that come
 -- and go. No stream goes up or down, and none is up where a client leaves.
 use Rattle.std.specs.Prelude.{◌≡◌, ℕ, true, false, List, [], ◌∷◌, Option, Some, None, is_some}
+use Rattle.std.specs.List.{AllByRecursion as Each}
 use Rattle.usb_base.specs.Endpoint.{is_in_endpoint}
 use Rattle.usbip_op.specs.declared.packet.OpPacket.TheVariants as op
 use Rattle.usbip_urb.specs.ClientPackets.{IsClientPacket}
@@ -12,7 +13,6 @@ use Rattle.redir_data.specs.declared.packet.RedirData.TheVariants as moving
 use Rattle.redir_data.specs.declared.packet.RedirPacket.{RedirPacket}
 use Rattle.redir_data.specs.declared.packet.RedirPacket.TheVariants.{Plain, Carrying}
 use Rattle.control_route.specs.declared.route.Route.{Route}
-use Rattle.redir_host.specs.state.Sound.{Each}
 use Rattle.gate_history.specs.declared.item.Item.TheVariants.{Asked, ClientWrong, ClientLeft}
 use Rattle.gate_history.specs.step.Meaning.{verdict_of}
 use Rattle.gate_history.specs.client.Requests.{request_of}

@@ -1,6 +1,6 @@
 -- A submit that goes to the host by an id and ends no stream, or that is answered at once, keeps what is shared.
 use Rattle.std.proofs.Common.{◌≡◌, ℕ, nat_le, Bool, true, false, cond, List, [], ◌∷◌, length, map, Option, Some, None, is_some, refl, sym, ap, ◌∙◌, subst, inl, inr, ◌⊎◌, ◌+◌, not, ℤ}
-use Rattle.std.specs.List.{list_any}
+use Rattle.std.specs.List.{list_any, AllByRecursion as Each}
 use Rattle.usb_base.specs.declared.setup.Setup.{Setup}
 use Rattle.usb_base.specs.Endpoint.{row_of}
 use Rattle.usb_base.specs.declared.side.Side.TheVariants.{Client}
@@ -17,7 +17,6 @@ use Rattle.control_route.specs.declared.route.Route.TheVariants as route
 use Rattle.model_device.specs.Meaning.{Meaning}
 use Rattle.model_device.specs.Transfer.{IsTransfer, is_control}
 use Rattle.model_device.specs.Gadget.{IsGadget}
-use Rattle.redir_host.specs.state.Sound.{Each}
 use Rattle.gate_history.specs.declared.request.Request.{Request}
 use Rattle.gate_history.specs.client.Requests.{request_of}
 use Rattle.gate_history.specs.declared.item.Item.TheVariants.{Asked}
@@ -28,10 +27,8 @@ use Rattle.gate_history.specs.client.Verdict.{by_transfer, by_endpoint, changes}
 use Rattle.gate_history.specs.declared.errno.TheConstants.{ENOENT, EBUSY, ESHUTDOWN}
 use Rattle.gate_history.specs.state.Flight.{wide_bulk}
 use Rattle.gate_history.specs.state.Ups.{Up, is_ended}
-use Rattle.gate_history.specs.client.Submits.{Pending, is_touched}
 use Rattle.gate_history.specs.state.State.{State, change_waits, next_ids, has_number}
 use Rattle.gate_history.specs.step.Meaning.{verdict_of, mark_of, drawn_by, meaning, refused, accepts}
-use Rattle.gate_history.proofs.lemmas.Lists.{Each as ListEach}
 use Rattle.direct_run.specs.Moves.{World, ByClient}
 use Rattle.direct_device.specs.Direct.{normal_by, Live}
 use Rattle.direct_proof.specs.Runs.{IsRun}
@@ -64,19 +61,15 @@ use Rattle.direct_proof.proofs.submits.NoIso.{no-iso}
 -- ---- a submit
 
 ends-none : (st : State) (x : Route) → EndsNone st x → simple.EndsNone st x
-ends-none st x h = record { ups = ups st.streams h.ups; waiting = waiting st.live h.waiting }
+ends-none st x h = record { ups = ups st.streams h.ups; waiting = h.waiting }
   where
     one : (o : Option Up) → Stays x o → simple.Stays (is_ended (Some x)) o
     one None k = tt
     one (Some up) k = k
 
-    ups : (os : List (Option Up)) → Each (Stays x) os → ListEach (simple.Stays (is_ended (Some x))) os
+    ups : (os : List (Option Up)) → Each (Stays x) os → Each (simple.Stays (is_ended (Some x))) os
     ups [] k = tt
     ups (o ∷ os) k = (one o k.0, ups os k.1)
-
-    waiting : (ps : List Pending) → Each (λ (p : Pending). is_touched (Routed x) p.submit.verdict ≡ false) ps → ListEach (λ (p : Pending). is_touched (Routed x) p.submit.verdict ≡ false) ps
-    waiting [] k = tt
-    waiting (p ∷ ps) k = (k.0, waiting ps k.1)
 
 -- a transfer by its own packet behind a change is one of endpoint 0
 wire-behind : (st : State) (r : Request) (pipe : Pipe) → verdict_of st r ≡ Wire pipe → IsTransfer r.transfer → (change_waits st ≡ false) ⊎ (is_control r.transfer.ep ≡ true)

@@ -1,8 +1,10 @@
 -- Requests that are asked back: what an unlink marks, and the cancels that it sends.
 use Rattle.std.proofs.Common.{◌≡◌, ℕ, ◌+◌, ◌||◌, Bool, true, false, cond, List, [], ◌∷◌, ◌++◌, map, filter, refl, sym, ap, ◌∙◌, subst, arith}
+use Rattle.std.specs.List.{AllByRecursion as Each}
 use Rattle.redir_data.specs.declared.packet.RedirPacket.{RedirPacket}
 use Rattle.model_device.specs.Transfer.{is_control}
-use Rattle.redir_host.specs.state.Sound.{Each}
+use Rattle.redir_host.proofs.lemmas.state.Each.{each_front}
+use Rattle.gate_history.proofs.lemmas.Lists.{Each-weaker}
 use Rattle.gate_history.specs.client.Verdict.{goes_by_id}
 use Rattle.gate_history.specs.step.Marks.{Submission}
 use Rattle.gate_history.specs.client.Submits.{Pending}
@@ -14,7 +16,7 @@ use Rattle.direct_proof.specs.Requests.{Entry, Coming, Debt, at_host, debts_of, 
 use Rattle.direct_proof.specs.Shared.{lines, at_hosts}
 use Rattle.direct_proof.specs.Ids.{Ids, count, Agrees}
 use Rattle.direct_proof.specs.Cancels.{IsAsked, IsAsking, Behind, is_change, any_change, CancelsFit}
-use Rattle.direct_proof.proofs.lists.Counts.{count-map, Each-map, Each-swap, Each-front, Each-weaker}
+use Rattle.direct_proof.proofs.lists.Counts.{count-map, Each-map, Each-swap}
 use Rattle.direct_proof.proofs.shared.Folds.{not-both}
 use Rattle.direct_proof.proofs.shared.Streaming.{IsQuiet}
 
@@ -95,5 +97,5 @@ pub entries-of : (debts : List Debt) (names : List Submitted) (es : List Entry) 
     Each (λ (s : Submission). goes_by_id s.verdict ≡ true → Each (λ (e : Entry). Agrees (debt_from s) e.id e.load) es) ss
 entries-of debts names es ran ss left ids same =
     debts-each (λ (d : Debt). Each (λ (e : Entry). Agrees d e.id e.load) es) ss
-    (Each-front (λ (d : Debt). Each (λ (e : Entry). Agrees d e.id e.load) es) (debts_of ss) (debts_of left)
+    (each_front (λ (d : Debt). Each (λ (e : Entry). Agrees d e.id e.load) es) (debts_of ss) (debts_of left)
     (subst (Each (λ (d : Debt). Each (λ (e : Entry). Agrees d e.id e.load) es)) (sym same) (Each-swap (λ (d : Debt) (e : Entry). Agrees d e.id e.load) debts es ids.entries_agree)))

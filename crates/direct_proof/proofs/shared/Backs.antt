@@ -1,7 +1,6 @@
 -- The wire to the gateway: facts told, and what is stale, as it grows and is read.
 use Rattle.std.proofs.Common.{◌≡◌, ℕ, ◌||◌, Bool, true, false, List, [], ◌∷◌, ◌++◌, Option, refl, sym, ap, ◌∙◌, inl, inr, ◌⊎◌}
-use Rattle.std.specs.List.{list_any}
-use Rattle.redir_host.specs.state.Sound.{Each}
+use Rattle.std.specs.List.{list_any, AllByRecursion as Each}
 use Rattle.gate_history.specs.declared.facts.Facts.{Facts}
 use Rattle.gate_history.specs.state.Facts.{tell}
 use Rattle.gate_history.specs.step.Meaning.{fact_of}

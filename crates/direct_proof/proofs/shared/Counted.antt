@@ -1,6 +1,6 @@
 -- An item that changes nothing of what is shared is only counted.
 use Rattle.std.proofs.Common.{◌≡◌, ℕ, suc, ◌==◌, Bool, true, false, cond, List, [], ◌∷◌, ◌++◌, ap, ◌∙◌}
-use Rattle.redir_host.specs.state.Sound.{Each}
+use Rattle.std.specs.List.{AllByRecursion as Each}
 use Rattle.model_device.specs.Meaning.{Meaning}
 use Rattle.direct_run.specs.declared.submitted.Submitted.{Submitted}
 use Rattle.direct_run.specs.Moves.{World}

@@ -1,8 +1,8 @@
 -- Cancels on the wire to the host still fit where it grows, and where what stands ahead of them changes.
 use Rattle.std.proofs.Common.{◌≡◌, ℕ, Bool, true, false, List, [], ◌∷◌, ◌++◌, map, refl, sym, ap, ◌∙◌, subst, append-nil, append_assoc}
+use Rattle.std.specs.List.{AllByRecursion as Each}
 use Rattle.redir_data.specs.declared.packet.RedirPacket.{RedirPacket}
 use Rattle.redir_host.specs.guest.Line.{Waiting as InLine, Reset}
-use Rattle.redir_host.specs.state.Sound.{Each}
 use Rattle.direct_proof.specs.Requests.{Entry}
 use Rattle.direct_proof.specs.Shared.{lines, half_line, at_hosts}
 use Rattle.direct_proof.specs.Cancels.{begins, moved, left, IsAsked, CancelsFit}

@@ -1,6 +1,6 @@
 -- Ids that are new: those that the gateway draws are none that is owed, and none is 0.
 use Rattle.std.proofs.Common.{◌≡◌, ℕ, ◌≤◌, ◌==◌, false, List, arith}
-use Rattle.redir_host.specs.state.Sound.{Each}
+use Rattle.std.specs.List.{AllByRecursion as Each}
 use Rattle.gate_history.specs.state.Flight.{wide_ids}
 use Rattle.gate_history.specs.state.Ids.{draw, greatest, holds}
 use Rattle.gate_history.specs.state.State.{State, flying}

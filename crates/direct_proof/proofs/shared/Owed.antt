@@ -2,16 +2,16 @@
 use Rattle.std.proofs.Common.{◌≡◌, ℕ, ◌+◌, ◌≤◌, ◌==◌, not, Bool, true, false, cond, List, [], ◌∷◌, ◌++◌, filter, refl, sym, ap, ◌∙◌, subst, arith, Some}
 use Rattle.std.proofs.lemmas.List.{reverse-append}
 use Rattle.usb_base.specs.declared.transfer.Outcome.{Outcome}
-use Rattle.redir_host.specs.state.Sound.{Each}
-use Rattle.gate_history.proofs.lemmas.Lists.{both}
+use Rattle.gate_history.proofs.lemmas.Lists.{both, Each-weaker, Each-append, Each-filter}
 use Rattle.direct_run.specs.declared.submitted.Submitted.{Submitted}
 use Rattle.direct_run.specs.Noted.{number_in}
 use Rattle.direct_device.specs.Direct.{Load, number}
 use Rattle.direct_proof.specs.Requests.{Entry, Coming, Debt}
 use Rattle.direct_proof.specs.Ids.{count, Ids, Agrees}
 use Rattle.direct_proof.proofs.shared.New.{IsNew}
-use Rattle.direct_proof.proofs.lists.Counts.{count-append, count-parts, count-zero, count-both, single, itself, Each-weaker, Each-found}
+use Rattle.direct_proof.proofs.lists.Counts.{count-append, count-parts, count-zero, count-both, single, itself, Each-found}
 use Rattle.std.specs.Prelude.{find, reverse}
+use Rattle.std.specs.List.{AllByRecursion as Each}
 use Rattle.std.specs.Option.{option_map_or}
 
 abbrev weight : Bool → ℕ
@@ -19,15 +19,6 @@ weight b = cond b 1 0
 
 false-true : false ≡ true → ⊥
 false-true h = cc
-
-pub each-append : {X : Type 0} (P : X → Type 0) (xs ys : List X) → Each P xs → Each P ys → Each P (xs ++ ys)
-each-append P [] ys e f = f
-each-append P (x ∷ xs) ys e f = (e.0, each-append P xs ys e.1 f)
-
-pub each-filter : {X : Type 0} (P : X → Type 0) (p : X → Bool) (xs : List X) → Each P xs → Each P (filter p xs)
-each-filter P p [] e = tt
-each-filter P p (x ∷ xs) e =
-    elim (p x) as (λ b. Each P (cond b (x ∷ filter p xs) (filter p xs))) [ true ↦ (e.0, each-filter P p xs e.1) | false ↦ each-filter P p xs e.1 ]
 
 abbrev pub IsNewNumber : ℕ → List Debt → Type 0
 IsNewNumber n ds = Each (λ (d : Debt). (number d.load == n) ≡ false) ds
@@ -74,7 +65,7 @@ number-last id xs x = ap (λ (l : List Submitted). option_map_or (λ y. y.seqnum
 -- what agrees with the debts agrees with one more, of another id
 agree-more : {X : Type 0} (id_of : X → ℕ) (load_of : X → Load) (ds : List Debt) (d : Debt) (xs : List X) → Each (λ (x : X). Each (λ (y : Debt). Agrees y (id_of x) (load_of x)) ds) xs → Each (λ (x : X). (d.id == id_of x) ≡ false) xs → Each (λ (x : X). Each (λ (y : Debt). Agrees y (id_of x) (load_of x)) (ds ++ d ∷ [])) xs
 agree-more id_of load_of ds d [] h k = tt
-agree-more id_of load_of ds d (x ∷ xs) h k = (each-append (λ (y : Debt). Agrees y (id_of x) (load_of x)) ds (d ∷ []) h.0 ((λ z. absurd (false-true (sym k.0 ∙ z))), tt), agree-more id_of load_of ds d xs h.1 k.1)
+agree-more id_of load_of ds d (x ∷ xs) h k = (Each-append (λ (y : Debt). Agrees y (id_of x) (load_of x)) ds (d ∷ []) h.0 ((λ z. absurd (false-true (sym k.0 ∙ z))), tt), agree-more id_of load_of ds d xs h.1 k.1)
 
 one-more : {X : Type 0} (p : X → Bool) (xs : List X) (x : X) → count p xs ≤ 1 → (p x ≡ true → count p xs ≡ 0) → count p (xs ++ x ∷ []) ≤ 1
 one-more p xs x h k = go (p x) refl
@@ -89,9 +80,9 @@ ids-submit ds names es ran id l asked ids new new_number = record {
   balance = λ test. omega (arith, ids.balance test, count-append (λ (x : Entry). test x.id (number x.load)) es (e ∷ []), count-append (λ (x : Debt). test x.id (number x.load)) ds (d ∷ []));
   one_id = λ i. one-more (λ (x : Debt). x.id == i) ds d (ids.one_id i) (λ h. let same : id ≡ i = grind (arith, h) in count-zero (λ (x : Debt). x.id == i) ds (subst (λ (n : ℕ). IsNew n ds) same new));
   one_number = λ n. one-more (λ (x : Debt). number x.load == n) ds d (ids.one_number n) (λ h. let same : number l ≡ n = grind (arith, h) in count-zero (λ (x : Debt). number x.load == n) ds (subst (λ (k : ℕ). IsNewNumber k ds) same new_number));
-  named = each-append Named es (e ∷ []) (olds es ids.named old-entries) (number-last id names _ ∙ ap (λ (b : Bool). cond b (number l) (number_in id names)) (itself id), tt);
-  entries_agree = each-append (λ (x : Entry). Each (λ (y : Debt). Agrees y x.id x.load) (ds ++ d ∷ [])) es (e ∷ []) (agree-more (λ (x : Entry). x.id) (λ (x : Entry). x.load) ds d es ids.entries_agree old-entries)
-      (each-append (λ (y : Debt). Agrees y id l) ds (d ∷ []) (Each-weaker (λ (y : Debt). (y.id == id) ≡ false) (λ (y : Debt). Agrees y id l) (λ y h k. absurd (false-true (sym h ∙ k))) ds new) ((λ k. refl), tt), tt);
+  named = Each-append Named es (e ∷ []) (olds es ids.named old-entries) (number-last id names _ ∙ ap (λ (b : Bool). cond b (number l) (number_in id names)) (itself id), tt);
+  entries_agree = Each-append (λ (x : Entry). Each (λ (y : Debt). Agrees y x.id x.load) (ds ++ d ∷ [])) es (e ∷ []) (agree-more (λ (x : Entry). x.id) (λ (x : Entry). x.load) ds d es ids.entries_agree old-entries)
+      (Each-append (λ (y : Debt). Agrees y id l) ds (d ∷ []) (Each-weaker (λ (y : Debt). (y.id == id) ≡ false) (λ (y : Debt). Agrees y id l) (λ y h k. absurd (false-true (sym h ∙ k))) ds new) ((λ k. refl), tt), tt);
   ran_agrees = agree-more (λ (x : Coming). x.id) (λ (x : Coming). x.load) ds d ran ids.ran_agrees (ran-old ds names es ran ids id new);
 }
   where
@@ -129,7 +120,7 @@ ids-perform ds names front back e ran configuration o ids = record {
   one_number = ids.one_number;
   named = (each-parts (λ (x : Entry). number_in x.id names ≡ number x.load) front e back ids.named).1;
   entries_agree = (each-parts (λ (x : Entry). Each (λ (d : Debt). Agrees d x.id x.load) ds) front e back ids.entries_agree).1;
-  ran_agrees = each-append (λ (x : Coming). Each (λ (d : Debt). Agrees d x.id x.load) ds) ran (c ∷ []) ids.ran_agrees ((each-parts (λ (x : Entry). Each (λ (d : Debt). Agrees d x.id x.load) ds) front e back ids.entries_agree).0, tt);
+  ran_agrees = Each-append (λ (x : Coming). Each (λ (d : Debt). Agrees d x.id x.load) ds) ran (c ∷ []) ids.ran_agrees ((each-parts (λ (x : Entry). Each (λ (d : Debt). Agrees d x.id x.load) ds) front e back ids.entries_agree).0, tt);
 }
   where
     c : Coming
@@ -145,7 +136,7 @@ pub record IsOwed (ds : List Debt) (c : Coming) : Type 0 where
   pub same_load : debt.load ≡ c.load
 
 each-one : {X : Type 0} (P : X → Type 0) (p : X → Bool) (xs : List X) (x : X) → Each P xs → filter p xs ≡ x ∷ [] → P x
-each-one P p xs x h e = (subst (Each P) e (each-filter P p xs h)).0
+each-one P p xs x h e = (subst (Each P) e (Each-filter P p xs h)).0
 
 pub owed-some : (ds : List Debt) (names : List Submitted) (es : List Entry) (ran : List Coming) (c : Coming) → Ids ds names es (c ∷ ran) → 1 ≤ count (λ (d : Debt). both (d.id == c.id) (number d.load == number c.load)) ds
 owed-some ds names es ran c ids = let w = ap weight (pair-itself c.id (number c.load)) in omega (arith, w, ids.balance (pair c.id (number c.load)))
@@ -171,8 +162,8 @@ ids-answer ds names es ran c ids = record {
   one_id = λ i. (let a = count-parts (λ (d : Debt). d.id == i) (λ (d : Debt). d.id == c.id) ds in let b = ids.one_id i in omega (arith, a, b));
   one_number = λ n. (let a = count-parts (λ (d : Debt). number d.load == n) (λ (d : Debt). d.id == c.id) ds in let b = ids.one_number n in omega (arith, a, b));
   named = ids.named;
-  entries_agree = Each-weaker (λ (x : Entry). Each (λ (d : Debt). Agrees d x.id x.load) ds) (λ (x : Entry). Each (λ (d : Debt). Agrees d x.id x.load) (filter (λ (d : Debt). not (d.id == c.id)) ds)) (λ x h. each-filter (λ (d : Debt). Agrees d x.id x.load) (λ (d : Debt). not (d.id == c.id)) ds h) es ids.entries_agree;
-  ran_agrees = Each-weaker (λ (x : Coming). Each (λ (d : Debt). Agrees d x.id x.load) ds) (λ (x : Coming). Each (λ (d : Debt). Agrees d x.id x.load) (filter (λ (d : Debt). not (d.id == c.id)) ds)) (λ x h. each-filter (λ (d : Debt). Agrees d x.id x.load) (λ (d : Debt). not (d.id == c.id)) ds h) ran ids.ran_agrees.1;
+  entries_agree = Each-weaker (λ (x : Entry). Each (λ (d : Debt). Agrees d x.id x.load) ds) (λ (x : Entry). Each (λ (d : Debt). Agrees d x.id x.load) (filter (λ (d : Debt). not (d.id == c.id)) ds)) (λ x h. Each-filter (λ (d : Debt). Agrees d x.id x.load) (λ (d : Debt). not (d.id == c.id)) ds h) es ids.entries_agree;
+  ran_agrees = Each-weaker (λ (x : Coming). Each (λ (d : Debt). Agrees d x.id x.load) ds) (λ (x : Coming). Each (λ (d : Debt). Agrees d x.id x.load) (filter (λ (d : Debt). not (d.id == c.id)) ds)) (λ x h. Each-filter (λ (d : Debt). Agrees d x.id x.load) (λ (d : Debt). not (d.id == c.id)) ds h) ran ids.ran_agrees.1;
 }
   where
     o : IsOwed ds c

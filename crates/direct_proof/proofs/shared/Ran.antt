@@ -1,6 +1,6 @@
 -- What isn't a change is performed, or taken off the queue: it leaves, its answer is under way, and the facts stay.
 use Rattle.std.proofs.Common.{◌≡◌, ℕ, ◌||◌, Bool, true, false, List, [], ◌∷◌, ◌++◌, Some, refl, sym, ap, ◌∙◌, subst, append_assoc}
-use Rattle.std.specs.List.{list_any}
+use Rattle.std.specs.List.{list_any, AllByRecursion as Each}
 use Rattle.usb_base.specs.declared.transfer.Outcome.{Outcome}
 use Rattle.usb_base.specs.declared.endpoint.EpTable.{EpTable}
 use Rattle.redir_wire.specs.EpTable.{table_of}
@@ -8,7 +8,6 @@ use Rattle.model_device.specs.Meaning.{Meaning}
 use Rattle.model_device.specs.Gadget.{SameFacts}
 use Rattle.model_device.specs.Transfer.{is_control}
 use Rattle.redir_host.specs.device.Facts.{ep_info_of}
-use Rattle.redir_host.specs.state.Sound.{Each}
 use Rattle.direct_run.specs.Moves.{World}
 use Rattle.direct_run.specs.Packets.{both_caps}
 use Rattle.direct_device.specs.Direct.{normal_of}

@@ -1,15 +1,15 @@
 -- The host does something: some of what it holds leaves, and it sends answers and facts.
 use Rattle.std.proofs.Common.{◌≡◌, ℕ, ◌||◌, Bool, true, false, cond, List, [], ◌∷◌, ◌++◌, map, Option, Some, None, is_some, if◌then◌else◌, ◌==◌, refl, sym, ap, ◌∙◌, subst}
-use Rattle.std.specs.List.{list_any}
+use Rattle.std.specs.List.{list_any, AllByRecursion as Each}
 use Rattle.usb_base.specs.Status.{status_byte}
 use Rattle.redir_data.specs.declared.packet.RedirPacket.{RedirPacket}
 use Rattle.model_device.specs.Meaning.{Meaning}
 use Rattle.redir_host.specs.declared.host.Host.{Host}
 use Rattle.redir_host.specs.declared.running.Running.{Running}
-use Rattle.redir_host.specs.state.Sound.{Each}
 use Rattle.redir_host.specs.declared.request.Form.{Form}
 use Rattle.redir_host.specs.declared.request.Form.TheVariants as form
 use Rattle.redir_host.specs.write.Answers.{answer_by}
+use Rattle.gate_history.proofs.lemmas.Lists.{Each-append}
 use Rattle.gate_history.specs.declared.facts.Facts.{Facts}
 use Rattle.gate_history.specs.state.Facts.{tell}
 use Rattle.gate_history.specs.step.Meaning.{fact_of}
@@ -27,7 +27,6 @@ use Rattle.direct_proof.specs.Cancels.{Behind}
 use Rattle.direct_proof.specs.Meets.{is_bye, is_greeting, is_plug, PlugOnce, ByeLast, Meets}
 use Rattle.gate_history.specs.state.Calls.{Calls}
 use Rattle.direct_proof.specs.Calls.{status_id, statuses_on, StatusIsKept}
-use Rattle.direct_proof.proofs.shared.Owed.{each-append}
 use Rattle.direct_proof.proofs.shared.WireBack.{runs_in-append}
 use Rattle.direct_proof.proofs.shared.Traces.{map-append}
 use Rattle.direct_proof.proofs.shared.Folds.{clash, or-none, or-false, any-append}
@@ -154,7 +153,7 @@ after-host m w j gadget held running cs rel plugged first news loads tagged ids 
     behind = behind;
   };
   answers = ap (λ (l : List (ℕ × RedirPacket)). l ++ map on_wire cs) rel.answers ∙ sym (map-append on_wire j.back cs);
-  tagged = each-append (TaggedOfKind w.gate.streams) j.back cs rel.tagged tagged;
+  tagged = Each-append (TaggedOfKind w.gate.streams) j.back cs rel.tagged tagged;
   ids = subst (Ids j.debts w.submits (held ++ j.coming)) (sym (runs_in-append j.back cs)) ids;
   real = rel.real;
   runs_at_in = runs_in_range;

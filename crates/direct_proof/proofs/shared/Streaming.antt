@@ -1,10 +1,10 @@
 -- The wire to the host: streams that quit, starts and stops, and their ids, as it grows and is read.
 use Rattle.std.proofs.Common.{◌≡◌, ℕ, ◌+◌, ◌≤◌, ◌||◌, Bool, true, false, cond, List, [], ◌∷◌, ◌++◌, Option, Some, None, refl, sym, ap, ◌∙◌, subst, arith, append-nil, is_some}
-use Rattle.std.specs.List.{list_any}
+use Rattle.std.specs.List.{list_any, AllByRecursion as Each}
 use Rattle.usb_base.specs.declared.endpoint.EpTable.{EpTable}
 use Rattle.redir_data.specs.declared.packet.RedirPacket.{RedirPacket}
 use Rattle.redir_host.specs.declared.running.StreamKind.{StreamKind}
-use Rattle.redir_host.specs.state.Sound.{Each}
+use Rattle.gate_history.proofs.lemmas.Lists.{Each-append}
 use Rattle.gate_history.specs.state.Ids.{times}
 use Rattle.gate_history.specs.state.Calls.{Calls}
 use Rattle.direct_proof.specs.Tagged.{Tagged}
@@ -12,7 +12,6 @@ use Rattle.direct_proof.specs.Stale.{asks}
 use Rattle.direct_proof.specs.Running.{Quits, runs_after, Trails, passes, called_endpoint, started_kind, CanStart, StartsFit}
 use Rattle.direct_proof.specs.Calls.{call_id, calls_on, statuses_on, status_id, Controls, CallIsKept, StatusIsKept, Fenced}
 use Rattle.direct_proof.specs.Kinds.{CallIsIn}
-use Rattle.direct_proof.proofs.shared.Owed.{each-append}
 use Rattle.direct_proof.proofs.shared.Folds.{not-both, or-left, or-assoc, or-false, any-append, gathers-append}
 
 -- ---- packets that say nothing of streams
@@ -93,7 +92,7 @@ calls-quiet-in (q ∷ qs) h = (subst CallIsIn (sym h.0.0) tt, calls-quiet-in qs 
 pub controls-more : (c : Calls) (ps qs : List (ℕ × RedirPacket)) (back : List Tagged) → Each IsQuiet qs → Controls c ps back → Controls c (ps ++ qs) back
 controls-more c ps qs back quiet k = record {
   once = λ id. subst (λ (l : List ℕ). times id l + times id (statuses_on back) ≤ 1) (sym (calls-same ps qs quiet)) (k.once id);
-  calls_kept = each-append (λ (p : ℕ × RedirPacket). CallIsKept c p.0 (called_endpoint p.1)) ps qs k.calls_kept (kept-quiet c qs quiet);
+  calls_kept = Each-append (λ (p : ℕ × RedirPacket). CallIsKept c p.0 (called_endpoint p.1)) ps qs k.calls_kept (kept-quiet c qs quiet);
   statuses_kept = k.statuses_kept;
 }
 
@@ -130,7 +129,7 @@ pub controls-sent : (c : Calls) (ps : List (ℕ × RedirPacket)) (bs cs : List T
 controls-sent c ps bs cs none kept k = record {
   once = λ id. subst (λ (l : List ℕ). times id (calls_on ps) + times id l ≤ 1) (sym same) (k.once id);
   calls_kept = k.calls_kept;
-  statuses_kept = each-append (StatusIsKept c) bs cs k.statuses_kept kept;
+  statuses_kept = Each-append (StatusIsKept c) bs cs k.statuses_kept kept;
 }
   where
     same : statuses_on (bs ++ cs) ≡ statuses_on bs

@@ -1,6 +1,6 @@
 -- What the present client is sent by moves that bytes can make.
 use Rattle.std.proofs.Common.{◌≡◌, ℕ, Bool, true, false, cond, List, [], ◌∷◌, ◌++◌, refl, sym, ap, ◌∙◌, subst, append-nil}
-use Rattle.std.specs.List.{AllByRecursion, flat_map}
+use Rattle.std.specs.List.{flat_map, AllByRecursion as Each}
 use Rattle.usbip_urb.specs.declared.client.ClientPacket.{ClientPacket}
 use Rattle.usbip_urb.specs.declared.packet.UrbPacket.{UrbPacket}
 use Rattle.redir_data.specs.declared.packet.RedirPacket.{RedirPacket}
@@ -10,7 +10,6 @@ use Rattle.model_device.specs.Meaning.{Meaning}
 use Rattle.redir_host.specs.device.Offering.{told_offered}
 use Rattle.redir_host.specs.guest.Packets.{packet_move}
 use Rattle.redir_host.specs.device.Performing.{performed}
-use Rattle.redir_host.specs.state.Sound.{Each}
 use Rattle.gate_history.specs.declared.item.Item.{Item as GateItem}
 use Rattle.gate_history.specs.declared.item.Item.TheVariants.{Asked, ClientWrong, ClientLeft, Told, HostWrong, HostLeft}
 use Rattle.gate_history.specs.step.Meaning.{mark_of}
@@ -73,7 +72,7 @@ begun-move m d since w packets sound b (Performs ep) k = by-host m d since w pac
 begun-move m d since w packets sound b (Offers ep) k = by-host m d since w packets sound b (move m w (Offers ep)).deeds (offers-plain ep (told_offered m w.host ep)) k
 begun-move m d since w packets sound b Unplugs k = still since w.gate packets b
 
-begun-runs : {S : Type 0} (m : Meaning S) → IsGadget m → (s : S) (xs : List Move) → AllByRecursion IsMove xs →
+begun-runs : {S : Type 0} (m : Meaning S) → IsGadget m → (s : S) (xs : List Move) → Each IsMove xs →
     Begun (since_import m (first_direct s) [] (runs_from m (first_world s) xs).deeds) (runs_from m (first_world s) xs).world.gate (present_outs m s xs)
 begun-runs m laws s [] are = record { ops = []; urbs = []; are = refl; none = λ i o. refl; given = refl; inside = λ i. absurd (cc) }
 begun-runs {S = S} m laws s (x ∷ xs) are =
@@ -99,5 +98,5 @@ begun-runs {S = S} m laws s (x ∷ xs) are =
     outs : (move m w x).outs ≡ (told.move m (told.run m s xs).world x).outs
     outs = (move-tells m w x).outs ∙ ap (λ (v : World S). (told.move m v x).outs) (runs-tell m s xs).world
 
-pub replies-first : {S : Type 0} (m : Meaning S) → IsGadget m → (s : S) (xs : List Move) → AllByRecursion IsMove xs → RepliesFirst m s (runs_from m (first_world s) xs).deeds (present_outs m s xs)
+pub replies-first : {S : Type 0} (m : Meaning S) → IsGadget m → (s : S) (xs : List Move) → Each IsMove xs → RepliesFirst m s (runs_from m (first_world s) xs).deeds (present_outs m s xs)
 replies-first m laws s xs are = let b = begun-runs m laws s xs are in record { replies = b.ops; answers = b.urbs; packets-are = b.are; answers-are = b.given }

@@ -1,6 +1,6 @@
 -- The answers of a trace behind its last import.
 use Rattle.std.proofs.Common.{◌≡◌, ℕ, ◌&&◌, not, Bool, true, false, List, [], ◌∷◌, ◌++◌, map, filter, Option, Some, None, refl, sym, ap, ◌∙◌, append-nil, append_assoc}
-use Rattle.std.specs.List.{flat_map}
+use Rattle.std.specs.List.{flat_map, AllByRecursion as Each}
 use Rattle.usbip_urb.specs.declared.packet.UrbPacket.{UrbPacket}
 use Rattle.model_device.specs.Meaning.{Meaning}
 use Rattle.redir_host.specs.declared.note.HostNote.{HostNote}
@@ -8,7 +8,7 @@ use Rattle.redir_host.specs.declared.note.HostNote.TheVariants as host_note
 use Rattle.redir_host.specs.declared.note.Offered.{Offered}
 use Rattle.redir_host.specs.declared.note.Offered.TheVariants as offered
 use Rattle.redir_host.specs.step.Moves.{Move as HostMove}
-use Rattle.redir_host.specs.state.Sound.{Each}
+use Rattle.gate_history.proofs.lemmas.Lists.{Each-append}
 use Rattle.gate_history.specs.step.Marks.{Submission, Effect, Imports, Unlinks, Arrives, Mark}
 use Rattle.gate_history.specs.write.Notes.{is_by_answer}
 use Rattle.gate_history.specs.write.Output.{present}
@@ -21,7 +21,6 @@ use Rattle.direct_device.specs.Direct.{Direct}
 use Rattle.direct_device.specs.Legal.{acts, all_answers}
 use Rattle.direct_proof.specs.Moves.{answer_deeds, arrive_deeds, cancel_deed, deeds_of, import_deeds, offered_deed, performed_deed, submit_deeds, unlink_deeds, when}
 use Rattle.direct_proof.specs.Simulates.{since_import}
-use Rattle.direct_proof.proofs.shared.Owed.{each-append}
 
 abbrev pub IsPlain : Deed → Type 0
 IsPlain Import = ⊥
@@ -106,12 +105,12 @@ module _ (st : State) (m : Mark) where
   more-plain : (first : List Deed) → Each IsPlain first →
       Each IsPlain (first ++ submit_deeds m.what ++ unlink_deeds m.what ++ arrive_deeds m.what ++ answer_deeds st m.what ++ when (is_loss m.what && st.imported && not st.lost) Gone ++ when (leaves m.what && not st.client_over) ClientGone)
   more-plain first h =
-      let a = each-append IsPlain first (submit_deeds m.what) h (submits-plain (opened m.what)) in
-      let b = each-append IsPlain (first ++ submit_deeds m.what) (unlink_deeds m.what) a (unlink-plain m.what) in
-      let c = each-append IsPlain (first ++ submit_deeds m.what ++ unlink_deeds m.what) (arrive_deeds m.what) b (arrive-plain m.what) in
-      let f = each-append IsPlain (first ++ submit_deeds m.what ++ unlink_deeds m.what ++ arrive_deeds m.what) (answer_deeds st m.what) c (answers-plain (filter (λ (p : Pending). is_by_answer (ends m.what p.submit)) (present st m.what))) in
-      let g = each-append IsPlain (first ++ submit_deeds m.what ++ unlink_deeds m.what ++ arrive_deeds m.what ++ answer_deeds st m.what) (when (is_loss m.what && st.imported && not st.lost) Gone) f (gone-plain (is_loss m.what && st.imported && not st.lost)) in
-      each-append IsPlain (first ++ submit_deeds m.what ++ unlink_deeds m.what ++ arrive_deeds m.what ++ answer_deeds st m.what ++ when (is_loss m.what && st.imported && not st.lost) Gone) (when (leaves m.what && not st.client_over) ClientGone) g (left-plain (leaves m.what && not st.client_over))
+      let a = Each-append IsPlain first (submit_deeds m.what) h (submits-plain (opened m.what)) in
+      let b = Each-append IsPlain (first ++ submit_deeds m.what) (unlink_deeds m.what) a (unlink-plain m.what) in
+      let c = Each-append IsPlain (first ++ submit_deeds m.what ++ unlink_deeds m.what) (arrive_deeds m.what) b (arrive-plain m.what) in
+      let f = Each-append IsPlain (first ++ submit_deeds m.what ++ unlink_deeds m.what ++ arrive_deeds m.what) (answer_deeds st m.what) c (answers-plain (filter (λ (p : Pending). is_by_answer (ends m.what p.submit)) (present st m.what))) in
+      let g = Each-append IsPlain (first ++ submit_deeds m.what ++ unlink_deeds m.what ++ arrive_deeds m.what ++ answer_deeds st m.what) (when (is_loss m.what && st.imported && not st.lost) Gone) f (gone-plain (is_loss m.what && st.imported && not st.lost)) in
+      Each-append IsPlain (first ++ submit_deeds m.what ++ unlink_deeds m.what ++ arrive_deeds m.what ++ answer_deeds st m.what ++ when (is_loss m.what && st.imported && not st.lost) Gone) (when (leaves m.what && not st.client_over) ClientGone) g (left-plain (leaves m.what && not st.client_over))
 
   abbrev rest : List Deed → List Deed
   rest first = first ++ submit_deeds m.what ++ unlink_deeds m.what ++ arrive_deeds m.what ++ answer_deeds st m.what ++ when (is_loss m.what && st.imported && not st.lost) Gone ++ when (leaves m.what && not st.client_over) ClientGone

@@ -1,12 +1,11 @@
 -- A submit that goes to the host and ends no stream is the same item at the device attached directly, and keeps what is shared.
 use Rattle.std.proofs.Common.{◌≡◌, ℕ, ◌<◌, ◌==◌, ◌||◌, Bool, true, false, cond, List, [], ◌∷◌, ◌++◌, map, filter, None, refl, sym, ap, ◌∙◌, subst, append-nil, append_assoc, inl, inr, ◌⊎◌}
-use Rattle.std.specs.List.{AllByRecursion}
+use Rattle.std.specs.List.{AllByRecursion as Each}
 use Rattle.usbip_urb.specs.declared.packet.Submit.{Submit as UrbSubmit}
 use Rattle.redir_data.specs.declared.packet.RedirPacket.{RedirPacket}
 use Rattle.model_device.specs.Meaning.{Meaning}
 use Rattle.model_device.specs.Transfer.{is_control}
 use Rattle.redir_host.specs.guest.Line.{Waiting as InLine}
-use Rattle.redir_host.specs.state.Sound.{Each}
 use Rattle.gate_history.specs.declared.request.Request.{Request}
 use Rattle.gate_history.specs.client.Requests.{request_of}
 use Rattle.gate_history.specs.declared.verdict.Verdict.{Verdict}
@@ -19,7 +18,7 @@ use Rattle.gate_history.specs.state.Sound.{IsSound}
 use Rattle.gate_history.specs.step.Machine.{after}
 use Rattle.gate_history.specs.step.Meaning.{mark_as, mark_of, by_stream}
 use Rattle.gate_history.specs.write.Output.{fresh}
-use Rattle.gate_history.proofs.lemmas.Lists.{filter-all, Each as ListEach, list_any-map}
+use Rattle.gate_history.proofs.lemmas.Lists.{filter-all, list_any-map, Each-append, Each-filter}
 use Rattle.direct_run.specs.Moves.{World, ByClient}
 use Rattle.direct_device.specs.Direct.{Load, number, normal_of, Live, Direct, is_number}
 use Rattle.direct_proof.specs.Moves.{gate_made, Made, move, quiet}
@@ -34,7 +33,7 @@ use Rattle.direct_proof.specs.Session.{down_in, runs}
 use Rattle.direct_proof.specs.Kinds.{StartOfKind, CallIsIn}
 use Rattle.direct_proof.specs.Running.{started_kind, called_endpoint}
 use Rattle.direct_proof.proofs.lists.Counts.{any-none}
-use Rattle.direct_proof.proofs.shared.Owed.{each-append, each-filter, ids-submit, IsNewNumber}
+use Rattle.direct_proof.proofs.shared.Owed.{ids-submit, IsNewNumber}
 use Rattle.direct_proof.proofs.shared.Folds.{clash, any-append, lines-append, at_hosts-append}
 use Rattle.direct_proof.proofs.shared.Fits.{fits-append}
 use Rattle.direct_proof.proofs.shared.Streaming.{IsQuiet, quits-more, trails-more, starts-more, controls-more, fenced-more, calls-quiet-in}
@@ -83,11 +82,7 @@ module _ {S : Type 0} (m : Meaning S) (w : World S) (j : Shared) (rel : Related 
   mark = mark_as st what None
 
   first : AreBefore st.items st.live
-  first = before st.items st.live (unmap-each (λ (x : Submission). x.place < st.items) (λ (p : Pending). p.submit) st.live (each-of (submits st) sound.places))
-    where
-      each-of : (ss : List Submission) → AllByRecursion (λ (x : Submission). x.place < st.items) ss → Each (λ (x : Submission). x.place < st.items) ss
-      each-of [] h = tt
-      each-of (x ∷ xs) h = (h.0, each-of xs h.1)
+  first = before st.items st.live (unmap-each (λ (x : Submission). x.place < st.items) (λ (p : Pending). p.submit) st.live sound.places)
 
   joined : (j.held ++ j.coming) ++ entry ∷ [] ≡ j.held ++ (j.coming ++ entry ∷ [])
   joined = append_assoc j.held j.coming (entry ∷ [])
@@ -141,7 +136,7 @@ module _ {S : Type 0} (m : Meaning S) (w : World S) (j : Shared) (rel : Related 
   uncancelled ahead (p ∷ ps) es h = ((λ c. absurd (clash (is_cancel p.1) c h.0)), uncancelled (moved_on (begins p.1) ahead es) ps (left (begins p.1) es) h.1)
 
   new-number : IsNewNumber (number load) j.debts
-  new-number = subst (IsNewNumber r.number) owed (mapped (filter (λ (x : Submission). goes_by_id x.verdict) (submits st)) (each-filter (λ (x : Submission). is_numbered r.number x ≡ false) (λ (x : Submission). goes_by_id x.verdict) (submits st) (any-none (is_numbered r.number) (submits st) is.new)))
+  new-number = subst (IsNewNumber r.number) owed (mapped (filter (λ (x : Submission). goes_by_id x.verdict) (submits st)) (Each-filter (λ (x : Submission). is_numbered r.number x ≡ false) (λ (x : Submission). goes_by_id x.verdict) (submits st) (any-none (is_numbered r.number) (submits st) is.new)))
     where
       mapped : (ss : List Submission) → Each (λ (x : Submission). is_numbered r.number x ≡ false) ss → Each (λ (d : Debt). (number d.load == r.number) ≡ false) (map debt_from ss)
       mapped [] h = tt
@@ -160,8 +155,8 @@ module _ {S : Type 0} (m : Meaning S) (w : World S) (j : Shared) (rel : Related 
       held = rel.line.held;
       half = rel.line.half;
       coming = coming;
-      loads = subst (Each (λ (e : Entry). IsLoad e.load)) joined (each-append (λ (e : Entry). IsLoad e.load) (j.held ++ j.coming) (entry ∷ []) rel.line.loads (is.load, tt));
-      calls_in = each-append (λ (p : ℕ × RedirPacket). CallIsIn (called_endpoint p.1)) w.to_host qs rel.line.calls_in (calls-quiet-in qs quiet-qs);
+      loads = subst (Each (λ (e : Entry). IsLoad e.load)) joined (Each-append (λ (e : Entry). IsLoad e.load) (j.held ++ j.coming) (entry ∷ []) rel.line.loads (is.load, tt));
+      calls_in = Each-append (λ (p : ℕ × RedirPacket). CallIsIn (called_endpoint p.1)) w.to_host qs rel.line.calls_in (calls-quiet-in qs quiet-qs);
       cancels = fits-append j.half j.held w.to_host qs j.coming (entry ∷ []) rel.line.coming rel.line.cancels (uncancelled (j.held ++ j.coming) qs (entry ∷ []) is.simple.no_cancel);
       behind = subst Behind joined behind;
     };
@@ -169,10 +164,10 @@ module _ {S : Type 0} (m : Meaning S) (w : World S) (j : Shared) (rel : Related 
     tagged = rel.tagged;
     ids = subst (λ (es : List Entry). Ids later.debts (w.submits ++ record { seqnum = r.number; id = is.simple.id } ∷ []) es (runs_in j.back)) joined
         (ids-submit j.debts w.submits (j.held ++ j.coming) (runs_in j.back) (is.simple.id) load false rel.ids (is-new st (is.simple.id) j.debts is.fresh.1 (rel.debts there)) new-number);
-    real = each-append (λ (d : Debt). (d.id == 0) ≡ false) j.debts (debt ∷ []) rel.real (is.fresh.0, tt);
+    real = Each-append (λ (d : Debt). (d.id == 0) ≡ false) j.debts (debt ∷ []) rel.real (is.fresh.0, tt);
     runs_at_in = rel.runs_at_in;
     before = λ h. absurd (clash w.host.guest.first h met);
-    asked = λ h. each-append (λ (p : ℕ × RedirPacket). IsAsking p.1) w.to_host qs (rel.asked h) is.simple.asking;
+    asked = λ h. Each-append (λ (p : ℕ × RedirPacket). IsAsking p.1) w.to_host qs (rel.asked h) is.simple.asking;
     meets = rel.meets;
     debts = λ h. (λ i. (ap debts_of (map-append (λ (p : Pending). p.submit) st.live (fresh (opened_as st r v is.simple first) ∷ [])) ∙ debts-append (submits st) (opened_as st r v is.simple first ∷ []) ∙ (λ k. owed k ++ map debt_from (cond (is.simple.goes k) (opened_as st r v is.simple first ∷ []) []))) i ++ debts_of ((rel.alone inside).0 i))
         ∙ append-nil (j.debts ++ debt ∷ []);
@@ -187,7 +182,7 @@ module _ {S : Type 0} (m : Meaning S) (w : World S) (j : Shared) (rel : Related 
       trails = trails-more st.fence (down_in st.streams) w.to_host qs quiet-qs k.trails;
       starts = starts-more (m.table w.host.gadget) (any_change j.held || j.half) w.to_host qs quiet-qs k.starts;
       kinds = k.kinds;
-      start_kinds = each-append (λ (p : ℕ × RedirPacket). StartOfKind st.streams (started_kind p.1)) w.to_host qs k.start_kinds (unstarted qs is.simple.quiet);
+      start_kinds = Each-append (λ (p : ℕ × RedirPacket). StartOfKind st.streams (started_kind p.1)) w.to_host qs k.start_kinds (unstarted qs is.simple.quiet);
     };
     ups = rel.ups;
     down = rel.down;
@@ -202,7 +197,7 @@ module _ {S : Type 0} (m : Meaning S) (w : World S) (j : Shared) (rel : Related 
       d : Direct S
       d = view w j
 
-      live-untouched : (ps : List Pending) → ListEach (λ (p : Pending). is_touched v p.submit.verdict ≡ false) ps → ListEach (λ (y : Live). is_touched v y.load.verdict ≡ false) (map live_of ps)
+      live-untouched : (ps : List Pending) → Each (λ (p : Pending). is_touched v p.submit.verdict ≡ false) ps → Each (λ (y : Live). is_touched v y.load.verdict ≡ false) (map live_of ps)
       live-untouched [] h = tt
       live-untouched (p ∷ ps) h = (h.0, live-untouched ps h.1)
 

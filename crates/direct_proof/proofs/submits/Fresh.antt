@@ -1,10 +1,10 @@
 -- What is known of a submit that goes to the host and ends no stream: its id and its number are new, and it may stand behind a change.
 use Rattle.std.proofs.Common.{◌≡◌, ℕ, ◌<◌, ◌==◌, ◌||◌, Bool, true, false, List, [], ◌∷◌, ◌++◌, map, filter, sym, ◌∙◌, subst, arith, ◌⊎◌}
-use Rattle.std.specs.List.{list_any}
+use Rattle.std.specs.List.{list_any, AllByRecursion as Each}
 use Rattle.usb_base.specs.Endpoint.{endpoint_index}
 use Rattle.usbip_urb.specs.declared.packet.Submit.{Submit as UrbSubmit}
 use Rattle.model_device.specs.Transfer.{is_control}
-use Rattle.redir_host.specs.state.Sound.{Each}
+use Rattle.gate_history.proofs.lemmas.Lists.{Each-append}
 use Rattle.gate_history.specs.client.Requests.{request_of}
 use Rattle.gate_history.specs.declared.verdict.Verdict.{Verdict}
 use Rattle.gate_history.specs.client.Verdict.{goes_by_id}
@@ -19,7 +19,6 @@ use Rattle.direct_proof.specs.Requests.{Entry, Debt, debts_of}
 use Rattle.direct_proof.specs.Loads.{IsLoad}
 use Rattle.direct_proof.specs.Cancels.{Behind, is_change}
 use Rattle.direct_proof.proofs.shared.New.{IsNew, IsDrawn}
-use Rattle.direct_proof.proofs.shared.Owed.{each-append}
 use Rattle.direct_proof.proofs.shared.Folds.{clash, or-none, any-append}
 use Rattle.direct_proof.proofs.shared.Asked.{debt_from}
 use Rattle.direct_proof.proofs.submits.Simple.{IsSimple}
@@ -28,7 +27,7 @@ use Rattle.direct_proof.proofs.submits.Simple.{IsSimple}
 
 -- an id that isn't in flight is no debt's
 pub is-new : (st : State) (id : ℕ) (ds : List Debt) → holds (flying st) id ≡ false → debts_of (submits st) ++ debts_of st.abandoned ≡ ds → IsNew id ds
-is-new st id ds free same = subst (IsNew id) same (each-append (λ (d : Debt). (d.id == id) ≡ false) (debts_of (submits st)) (debts_of st.abandoned) (go (filter by (submits st)) parts.0) (go (filter by st.abandoned) parts.1))
+is-new st id ds free same = subst (IsNew id) same (Each-append (λ (d : Debt). (d.id == id) ≡ false) (debts_of (submits st)) (debts_of st.abandoned) (go (filter by (submits st)) parts.0) (go (filter by st.abandoned) parts.1))
   where
     by : Submission → Bool
     by s = goes_by_id s.verdict
@@ -67,4 +66,4 @@ behind-none (x ∷ es) e h k = ((λ c. absurd (clash (is_change x) c k.0)), behi
 
 pub behind-zero : (es : List Entry) (e : Entry) → Behind es → is_control (normal_of e.load).ep ≡ true → Behind (es ++ e ∷ [])
 behind-zero [] e h k = ((λ c. tt), tt)
-behind-zero (x ∷ es) e h k = ((λ c. each-append (λ (y : Entry). is_control (normal_of y.load).ep ≡ true) es (e ∷ []) (h.0 c) (k, tt)), behind-zero es e h.1 k)
+behind-zero (x ∷ es) e h k = ((λ c. Each-append (λ (y : Entry). is_control (normal_of y.load).ep ≡ true) es (e ∷ []) (h.0 c) (k, tt)), behind-zero es e h.1 k)

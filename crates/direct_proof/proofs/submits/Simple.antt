@@ -9,7 +9,6 @@ use Rattle.control_route.specs.Changes.{touches}
 use Rattle.control_route.specs.declared.route.Route.{Route}
 use Rattle.model_device.specs.Transfer.{IsTransfer}
 use Rattle.redir_host.specs.guest.Line.{Waiting as InLine, asked_line}
-use Rattle.redir_host.specs.state.Sound.{Each as HostEach}
 use Rattle.gate_history.specs.declared.request.Request.{Request}
 use Rattle.gate_history.specs.declared.verdict.Pipe.{Pipe}
 use Rattle.gate_history.specs.declared.verdict.Verdict.{Verdict}
@@ -46,7 +45,7 @@ pub record IsSimple (st : State) (r : Request) (v : Verdict) : Type 0 where
   pub packets : packets_of st.streams v r ≡ sent
   pub last : last_of 0 (next_ids st (length sent)) ≡ id
   pub zipped : zip (next_ids st (length sent)) sent ≡ qs
-  pub fresh : HostEach (IsDrawn st) (next_ids st (length sent)) → IsDrawn st id
+  pub fresh : Each (IsDrawn st) (next_ids st (length sent)) → IsDrawn st id
   pub goes : goes_by_id v ≡ true
   pub lives : at_once v ≡ None
   pub untouched : Each (λ (p : Pending). is_touched v p.submit.verdict ≡ false) st.live
@@ -54,10 +53,10 @@ pub record IsSimple (st : State) (r : Request) (v : Verdict) : Type 0 where
   pub joins : (l : Load) → joins_live l v ≡ record { load = l; unlinker = None } ∷ []
   pub answered : (l : Load) → answered_now l v ≡ []
   pub line : lines qs ≡ at_host (record { id = id; load = record { request = r; verdict = v }; asked = false })
-  pub asking : HostEach (λ (p : ℕ × RedirPacket). IsAsking p.1) qs
-  pub quiet : HostEach IsQuiet qs
+  pub asking : Each (λ (p : ℕ × RedirPacket). IsAsking p.1) qs
+  pub quiet : Each IsQuiet qs
   pub uncalled : (c : Calls) → called qs c ≡ c
-  pub no_cancel : HostEach (λ (p : ℕ × RedirPacket). is_cancel p.1 ≡ false) qs
+  pub no_cancel : Each (λ (p : ℕ × RedirPacket). is_cancel p.1 ≡ false) qs
 
 pub simple-wire : (st : State) (r : Request) (pipe : Pipe) → IsTransfer r.transfer → FitsPipe pipe r.transfer r.transfer.setup → IsSimple st r (Wire pipe)
 simple-wire st r pipe is fits = record {

@@ -1,6 +1,6 @@
 -- Both machines say the same of a submit: with no change live the gateway knows the device's endpoints, and with one it needn't.
 use Rattle.std.proofs.Common.{◌≡◌, ℕ, ◌≤◌, ◌<◌, ◌==◌, ◌||◌, nat_le, Bool, true, false, cond, List, [], ◌∷◌, ◌++◌, map, filter, length, Option, Some, None, is_some, refl, sym, ap, ◌∙◌, subst, arith, append-nil}
-use Rattle.std.specs.List.{list_any}
+use Rattle.std.specs.List.{list_any, AllByRecursion as Each}
 use Rattle.std.proofs.lemmas.List.{length-map}
 use Rattle.usbip_urb.specs.declared.code.TheConstants.{MAX_LIVE}
 use Rattle.usb_base.specs.declared.setup.Setup.{Setup}
@@ -9,7 +9,6 @@ use Rattle.usb_base.specs.Endpoint.{row_of, endpoint_index}
 use Rattle.redir_wire.specs.EpTable.{table_of}
 use Rattle.model_device.specs.Meaning.{Meaning}
 use Rattle.redir_host.specs.device.Facts.{ep_info_of}
-use Rattle.redir_host.specs.state.Sound.{Each}
 use Rattle.redir_host.specs.declared.running.StreamKind.TheVariants.{Iso, Interrupt}
 use Rattle.gate_history.specs.declared.request.Request.{Request}
 use Rattle.gate_history.specs.declared.verdict.Verdict.{Verdict}
@@ -22,7 +21,7 @@ use Rattle.gate_history.specs.state.Ups.{stream_at}
 use Rattle.gate_history.specs.state.Flight.{wide_bulk}
 use Rattle.gate_history.specs.state.State.{submits, change_waits}
 use Rattle.gate_history.specs.step.Meaning.{verdict_of, by_stream, fact_of}
-use Rattle.gate_history.proofs.lemmas.Lists.{both, list_any-map}
+use Rattle.gate_history.proofs.lemmas.Lists.{both, list_any-map, Each-filter}
 use Rattle.gate_history.specs.declared.facts.Facts.{Facts}
 use Rattle.gate_history.specs.state.Facts.{tell}
 use Rattle.direct_run.specs.declared.submitted.Submitted.{Submitted}
@@ -42,7 +41,6 @@ use Rattle.direct_proof.specs.Session.{down_in}
 use Rattle.direct_proof.specs.Meets.{is_plug, is_announced}
 use Rattle.direct_proof.specs.Calls.{Fenced}
 use Rattle.direct_proof.proofs.lists.Counts.{single, any-none, Each-found, itself}
-use Rattle.direct_proof.proofs.shared.Owed.{each-filter}
 use Rattle.direct_proof.proofs.shared.Folds.{not-both, or-left}
 use Rattle.direct_proof.proofs.shared.Backs.{silent}
 use Rattle.direct_proof.proofs.submits.Tables.{row-told}
@@ -58,8 +56,8 @@ pair-itself id n = ap (λ (b : Bool). both b (n == n)) (itself id) ∙ itself n
 of-debt : (P : Load → Type 0) (ds : List Debt) (id : ℕ) (l : Load) → count (λ (d : Debt). d.id == id) ds ≤ 1 → 1 ≤ count (λ (d : Debt). pair id (number l) d.id (number d.load)) ds → Each (λ (d : Debt). Agrees d id l) ds → Each (λ (d : Debt). P d.load) ds → P l
 of-debt P ds id l one some agree holds =
     let s = single (λ (d : Debt). d.id == id) (λ (d : Debt). number d.load == number l) ds one some in
-    let only : Each (λ (d : Debt). Agrees d id l) (s.0 ∷ []) = subst (Each (λ (d : Debt). Agrees d id l)) s.1 (each-filter (λ (d : Debt). Agrees d id l) (λ (d : Debt). d.id == id) ds agree) in
-    let has : Each (λ (d : Debt). P d.load) (s.0 ∷ []) = subst (Each (λ (d : Debt). P d.load)) s.1 (each-filter (λ (d : Debt). P d.load) (λ (d : Debt). d.id == id) ds holds) in
+    let only : Each (λ (d : Debt). Agrees d id l) (s.0 ∷ []) = subst (Each (λ (d : Debt). Agrees d id l)) s.1 (Each-filter (λ (d : Debt). Agrees d id l) (λ (d : Debt). d.id == id) ds agree) in
+    let has : Each (λ (d : Debt). P d.load) (s.0 ∷ []) = subst (Each (λ (d : Debt). P d.load)) s.1 (Each-filter (λ (d : Debt). P d.load) (λ (d : Debt). d.id == id) ds holds) in
     subst P (only.0 s.2) has.0
 
 owed-each : {X : Type 0} (id_of : X → ℕ) (load_of : X → Load) (P : Load → Type 0) (ds : List Debt) (xs : List X) → ((i : ℕ) → count (λ (d : Debt). d.id == i) ds ≤ 1) → ((i n : ℕ) → count (λ (x : X). pair i n (id_of x) (number (load_of x))) xs ≤ count (λ (d : Debt). pair i n d.id (number d.load)) ds) →
@@ -83,7 +81,7 @@ abbrev pub IsPlain : Load → Type 0
 IsPlain l = changes l.verdict ≡ false
 
 pub plain-debts : (ss : List Submission) → list_any (λ (s : Submission). changes s.verdict) ss ≡ false → Each (λ (d : Debt). IsPlain d.load) (debts_of ss)
-plain-debts ss h = mapped (filter (λ (s : Submission). goes_by_id s.verdict) ss) (each-filter (λ (s : Submission). changes s.verdict ≡ false) (λ (s : Submission). goes_by_id s.verdict) ss (any-none (λ (s : Submission). changes s.verdict) ss h))
+plain-debts ss h = mapped (filter (λ (s : Submission). goes_by_id s.verdict) ss) (Each-filter (λ (s : Submission). changes s.verdict ≡ false) (λ (s : Submission). goes_by_id s.verdict) ss (any-none (λ (s : Submission). changes s.verdict) ss h))
   where
     mapped : (xs : List Submission) → Each (λ (s : Submission). changes s.verdict ≡ false) xs → Each (λ (d : Debt). IsPlain d.load) (map (λ (s : Submission). record { id = s.id; load = record { request = s.request; verdict = s.verdict } }) xs)
     mapped [] k = tt

@@ -1,6 +1,6 @@
 -- The cancels of an unlink name what was asked back.
 use Rattle.std.proofs.Common.{◌≡◌, ℕ, ◌==◌, ◌||◌, ◌&&◌, Bool, true, false, cond, List, [], ◌∷◌, map, filter, is_none, refl, sym, ap, ◌∙◌, arith}
-use Rattle.redir_host.specs.state.Sound.{Each}
+use Rattle.std.specs.List.{AllByRecursion as Each}
 use Rattle.gate_history.specs.client.Verdict.{goes_by_id, is_wire}
 use Rattle.gate_history.specs.step.Marks.{Submission, Effect, Unlinks}
 use Rattle.gate_history.specs.client.Submits.{Pending}

@@ -1,5 +1,6 @@
 -- An unlink keeps what is shared: it takes back one that waits for a stream, or asks for one at the host.
 use Rattle.std.proofs.Common.{◌≡◌, ℕ, ◌≤◌, ◌==◌, ◌||◌, ◌&&◌, not, Bool, true, false, cond, suc, List, [], ◌∷◌, ◌++◌, map, filter, length, None, refl, sym, ap, ◌∙◌, subst, arith, append-nil}
+use Rattle.std.specs.List.{AllByRecursion as Each}
 use Rattle.usb_base.specs.declared.side.Side.TheVariants.{Client}
 use Rattle.usb_base.specs.declared.reason.Reason.TheVariants.{NotImported}
 use Rattle.usbip_urb.specs.declared.packet.Unlink.{Unlink as UrbUnlink}
@@ -9,7 +10,6 @@ use Rattle.redir_data.specs.declared.packet.RedirPacket.{RedirPacket}
 use Rattle.model_device.specs.Meaning.{Meaning}
 use Rattle.redir_host.specs.declared.request.Request.{Request as HostRequest}
 use Rattle.redir_host.specs.guest.Line.{Waiting as InLine}
-use Rattle.redir_host.specs.state.Sound.{Each}
 use Rattle.gate_history.specs.declared.item.Item.TheVariants.{Asked}
 use Rattle.gate_history.specs.step.Marks.{Submission, Mark}
 use Rattle.gate_history.specs.client.Submits.{Pending, is_waiting}
@@ -18,7 +18,7 @@ use Rattle.gate_history.specs.state.State.{State, submits, is_number as is_numbe
 use Rattle.gate_history.specs.state.Sound.{IsSound}
 use Rattle.gate_history.specs.step.Machine.{live_after}
 use Rattle.gate_history.specs.step.Meaning.{mark_as, mark_of, refused}
-use Rattle.gate_history.proofs.lemmas.Lists.{filter-all, filter-map, map-map}
+use Rattle.gate_history.proofs.lemmas.Lists.{filter-all, filter-map, map-map, Each-append}
 use Rattle.direct_run.specs.declared.submitted.Submitted.{Submitted}
 use Rattle.direct_run.specs.Moves.{World, ByClient}
 use Rattle.direct_device.specs.Direct.{Direct}
@@ -37,7 +37,6 @@ use Rattle.direct_proof.specs.Session.{down_in}
 use Rattle.direct_proof.specs.Running.{StartsFit, started_kind, called_endpoint}
 use Rattle.direct_proof.specs.Kinds.{StartOfKind, CallIsIn}
 use Rattle.direct_proof.proofs.lists.Counts.{Each-map}
-use Rattle.direct_proof.proofs.shared.Owed.{each-append}
 use Rattle.direct_proof.proofs.shared.Folds.{clash, lines-append}
 use Rattle.direct_proof.proofs.shared.Fits.{fits-nil, fits-map}
 use Rattle.direct_proof.proofs.shared.Streaming.{IsQuiet, quits-more, trails-more, starts-more, controls-more, fenced-more, calls-quiet-in}
@@ -117,7 +116,7 @@ keep-unlink {S = S} m w j place u rel sound inside = go w.gate.client_over refl
         half = rel.line.half;
         coming = coming;
         loads = subst (Each (λ (e : Entry). IsLoad e.load)) split (Each-map (λ (e : Entry). IsLoad e.load) f es rel.line.loads);
-        calls_in = each-append (λ (p : ℕ × RedirPacket). CallIsIn (called_endpoint p.1)) w.to_host qs rel.line.calls_in (calls-quiet-in qs quiet-qs);
+        calls_in = Each-append (λ (p : ℕ × RedirPacket). CallIsIn (called_endpoint p.1)) w.to_host qs rel.line.calls_in (calls-quiet-in qs quiet-qs);
         cancels = fits-nil j.half (map f j.held) w.to_host qs (map f j.coming) (rel.line.coming ∙ sym (line-ask f (λ e. refl) (λ e. refl) j.coming)) (fits-map f (still-asked target) j.held w.to_host j.coming rel.line.cancels) asked;
         behind = subst Behind split (behind-ask f (λ e. refl) (λ e. refl) es rel.line.behind);
       };
@@ -127,7 +126,7 @@ keep-unlink {S = S} m w j place u rel sound inside = go w.gate.client_over refl
       real = rel.real;
       runs_at_in = rel.runs_at_in;
       before = λ h. let e = before h in record { back = e.back; wire = e.wire; held = e.held; half = e.half; running = e.running };
-      asked = λ h. each-append (λ (p : ℕ × RedirPacket). IsAsking p.1) w.to_host qs (rel.asked h) (cancels-asking (filter (cancels (what by target)) st.live));
+      asked = λ h. Each-append (λ (p : ℕ × RedirPacket). IsAsking p.1) w.to_host qs (rel.asked h) (cancels-asking (filter (cancels (what by target)) st.live));
       meets = rel.meets;
       debts = λ h. (λ i. debts-unlinked st by target i ++ debts_of (filter-all st.abandoned i)) ∙ rel.debts h;
       controls = λ h. controls-more st.calls w.to_host qs j.back quiet-qs (rel.controls h);
@@ -141,7 +140,7 @@ keep-unlink {S = S} m w j place u rel sound inside = go w.gate.client_over refl
         trails = trails-more st.fence (down_in st.streams) w.to_host qs quiet-qs s.trails;
         starts = starts-more (m.table w.host.gadget) (any_change (map f j.held) || j.half) w.to_host qs quiet-qs (subst (λ (b : Bool). StartsFit (m.table w.host.gadget) (b || j.half) w.to_host) (sym (changes-ask f (λ e. refl) (λ e. refl) j.held)) s.starts);
         kinds = s.kinds;
-        start_kinds = each-append (λ (p : ℕ × RedirPacket). StartOfKind st.streams (started_kind p.1)) w.to_host qs s.start_kinds (no-starts qs quiet-qs);
+        start_kinds = Each-append (λ (p : ℕ × RedirPacket). StartOfKind st.streams (started_kind p.1)) w.to_host qs s.start_kinds (no-starts qs quiet-qs);
       };
       ups = rel.ups;
       down = rel.down;

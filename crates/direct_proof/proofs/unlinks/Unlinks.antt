@@ -1,10 +1,9 @@
 -- An unlink, as the gateway takes it.
 use Rattle.std.proofs.Common.{◌≡◌, ℕ, ◌≤◌, ◌==◌, ◌||◌, ◌&&◌, not, Bool, true, false, cond, List, [], ◌∷◌, ◌++◌, map, filter, length, Some, None, is_none, refl, sym, ap, ◌∙◌, arith, append-nil}
 use Rattle.std.specs.Prelude.{pos}
-use Rattle.std.specs.List.{list_any, flat_map}
+use Rattle.std.specs.List.{list_any, flat_map, AllByRecursion as Each}
 use Rattle.usbip_urb.specs.declared.client.ClientPacket.{ClientPacket}
 use Rattle.usbip_urb.specs.declared.client.ClientPacket.TheVariants.{Urb}
-use Rattle.redir_host.specs.state.Sound.{Each}
 use Rattle.gate_history.specs.declared.verdict.Verdict.{Verdict}
 use Rattle.gate_history.specs.declared.verdict.Verdict.TheVariants.{Wire, Routed}
 use Rattle.gate_history.specs.client.Verdict.{goes_by_id}
@@ -17,7 +16,7 @@ use Rattle.gate_history.specs.write.Notes.{is_by_answer, notes_of}
 use Rattle.gate_history.specs.state.State.{State, submits}
 use Rattle.gate_history.specs.step.Machine.{ask, live_after}
 use Rattle.gate_history.specs.step.Meaning.{mark_as}
-use Rattle.gate_history.proofs.lemmas.Lists.{Each as ListEach, every, filter-same, filter-none, filter-map, flat_map-same, flat_map-filter, list_any-map, map-map}
+use Rattle.gate_history.proofs.lemmas.Lists.{every, filter-same, filter-none, filter-map, flat_map-same, flat_map-filter, list_any-map, map-map}
 use Rattle.gate_history.specs.declared.note.Note.TheVariants as note
 use Rattle.direct_run.specs.Noted.{named}
 use Rattle.direct_device.specs.Direct.{Live, Direct}
@@ -132,11 +131,7 @@ module _ (st : State) (by target : ℕ) where
           on false k z rest = rest k z
 
       fails : (ps : List Pending) → Each (λ (p : Pending). gate_taken target p ≡ false) ps → filter (gate_taken target) ps ≡ []
-      fails ps h = filter-same (gate_taken target) (λ p. false) ps (turned ps h) ∙ filter-none ps
-        where
-          turned : (xs : List Pending) → Each (λ (p : Pending). gate_taken target p ≡ false) xs → ListEach (λ (p : Pending). gate_taken target p ≡ false) xs
-          turned [] k = tt
-          turned (x ∷ xs) k = (k.0, turned xs k.1)
+      fails ps h = filter-same (gate_taken target) (λ p. false) ps h ∙ filter-none ps
 
       go : (b : Bool) → list_any (gate_taken target) st.live ≡ b → (ts : List Pending) → filter (gate_taken target) st.live ≡ ts → length (filter (gate_taken target) st.live) ≤ 1 →
           replies ++ map Urb (flat_map (λ p. ret_unlink by ECONNRESET ∷ []) (filter (gate_taken target) st.live)) ≡ map Urb (cond (list_any (gate_taken target) st.live) (ret_unlink by ECONNRESET ∷ []) (cond (list_any (gate_target target) st.live) [] (ret_unlink by (pos 0) ∷ [])))

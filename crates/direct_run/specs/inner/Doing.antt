@@ -6,7 +6,7 @@ use Rattle.gate_history.specs.write.Notes.{notes_of}
 use Rattle.gate_core.specs.step.Stands.{Stands as GateStands}
 use Rattle.model_device.specs.Meaning.{Meaning}
 use Rattle.redir_host.specs.step.Acts.{Act}
-use Rattle.redir_host.specs.step.Stands.{Stands as HostStands}
+use Rattle.redir_host.specs.step.Stands.{HostStands}
 use Rattle.redir_host.specs.write.Output.{act_bytes}
 use Rattle.direct_run.specs.declared.told.Told.{Told}
 use Rattle.direct_run.specs.Kept.{SystemKept}

@@ -6,7 +6,7 @@ use Rattle.std.proofs.lemmas.List.{length-take}
 use Rattle.usb_base.specs.Endpoint.{is_in_endpoint}
 use Rattle.usb_base.specs.Number.{le, part}
 use Rattle.usb_base.specs.declared.transfer.Transfer.{Transfer}
-use Rattle.chapter9.specs.Standard.{success}
+use Rattle.chapter9.specs.Standard.{success, taken}
 use Rattle.model_device.specs.Gadget.{IsNamed}
 use Rattle.model_device.specs.Transfer.{IsTransfer, IsOutcome}
 use Rattle.model_device.specs.inner.Lawful.{stall_outcome}
@@ -17,21 +17,20 @@ use Rattle.disk_gadget.specs.declared.stage.Answer.TheVariants.{Text, Blocks}
 use Rattle.disk_gadget.specs.declared.stage.Stage.{Stage}
 use Rattle.disk_gadget.specs.declared.stage.Stage.TheVariants.{Waits, Gathers, Gives, Reports}
 use Rattle.disk_gadget.specs.declared.wrapper.Wrapper.{Wrapper}
-use Rattle.disk_gadget.specs.Accesses.{count_of}
+use Rattle.disk_gadget.specs.Accesses.{block_size, count_of}
 use Rattle.disk_gadget.specs.DiskStep.{DiskState, bulk_turn, on_blocks, outcome_in, turned}
-use Rattle.disk_gadget.specs.Reports.{status_bytes}
-use Rattle.disk_gadget.specs.Turns.{Turn, acted, answering, begun, gathered, gathering, given_by, given_of, left_of, refused, reported, taken, taken_by}
+use Rattle.disk_gadget.specs.Reports.{status_bytes, status_size}
+use Rattle.disk_gadget.specs.Turns.{Turn, acted, answering, begun, gathered, gathering, given_by, given_of, left_of, refused, reported, taken_by}
 use Rattle.disk_gadget.specs.Wrappers.{wrapper_of}
 
--- a status has 13 bytes
-pub status_length : (r : Report) → length (status_bytes r) ≡ 13
+pub status_length : (r : Report) → length (status_bytes r) ≡ status_size
 unfolding le
 status_length r = refl
 
 abbrev IsFine : List ℕ → Transfer → Option Turn → Type 0
 IsFine blocks t o = IfSome o (λ turn. IsOutcome t (outcome_in blocks turn.reply))
 
-taken_fine : (blocks : List ℕ) (t : Transfer) → IsTransfer t → is_in_endpoint t.ep ≡ false → IsOutcome t (outcome_in blocks (taken t.body))
+taken_fine : (blocks : List ℕ) (t : Transfer) → IsTransfer t → is_in_endpoint t.ep ≡ false → IsOutcome t (taken (length t.body))
 taken_fine blocks t it e = let wants = it.to_device e in record { done = omega arith; from_device = λ f. absurd (false≢true (sym e ∙ f)); to_device = λ f. refl }
 
 begun_fine : (blocks : List ℕ) (n : ℕ) (sense : Option Sense) (t : Transfer) (w : Option Wrapper) → IsTransfer t → is_in_endpoint t.ep ≡ false → IsOutcome t (outcome_in blocks (begun n sense t.body w).reply)
@@ -56,12 +55,12 @@ given_fine t bytes e h = record { done = h; from_device = λ f. refl; to_device 
 
 answer_fine : (blocks : List ℕ) (t : Transfer) (answer : Answer) (n : ℕ) → is_in_endpoint t.ep ≡ true → n ≤ t.wanted → IsOutcome t (outcome_in blocks (given_of n answer))
 answer_fine blocks t (Text rest) n e h = given_fine t (take n rest) e (omega (arith, length-take n rest))
-answer_fine blocks t (Blocks block given left) n e h = given_fine t (part (512 * block + given) n blocks) e (omega (arith, length-take n (drop (512 * block + given) blocks)))
+answer_fine blocks t (Blocks block given left) n e h = given_fine t (part (block_size * block + given) n blocks) e (omega (arith, length-take n (drop (block_size * block + given) blocks)))
 
 reported_fine : (blocks : List ℕ) (sense : Option Sense) (t : Transfer) (r : Report) → is_in_endpoint t.ep ≡ true → IsOutcome t (outcome_in blocks (reported sense t.wanted r).reply)
 reported_fine blocks sense t r e =
-    cond_both (nat_lt t.wanted 13) (refused _) _ (λ turn. IsOutcome t (outcome_in blocks turn.reply)) (λ h. stall_outcome t)
-    (λ h. let room = ltb-false t.wanted 13 h in given_fine t (status_bytes r) e (omega (arith, status_length r)))
+    cond_both (nat_lt t.wanted status_size) (refused _) _ (λ turn. IsOutcome t (outcome_in blocks turn.reply)) (λ h. stall_outcome t)
+    (λ h. let room = ltb-false t.wanted status_size h in given_fine t (status_bytes r) e (omega (arith, status_length r)))
 
 given_by_fine : (blocks : List ℕ) (sense : Option Sense) (t : Transfer) (stage : Stage) → is_in_endpoint t.ep ≡ true → IsFine blocks t (given_by sense t.wanted stage)
 given_by_fine blocks sense t Waits e = tt
@@ -106,7 +105,7 @@ answer_told blocks (Text rest) n = refl
 answer_told blocks (Blocks block given left) n = refl
 
 reported_told : (blocks : List ℕ) (sense : Option Sense) (wanted : ℕ) (r : Report) → IsNamed (outcome_in blocks (reported sense wanted r).reply).status
-reported_told blocks sense wanted r = cond_both (nat_lt wanted 13) (refused _) _ (λ turn. IsNamed (outcome_in blocks turn.reply).status) (λ h. refl) (λ h. refl)
+reported_told blocks sense wanted r = cond_both (nat_lt wanted status_size) (refused _) _ (λ turn. IsNamed (outcome_in blocks turn.reply).status) (λ h. refl) (λ h. refl)
 
 given_by_told : (blocks : List ℕ) (sense : Option Sense) (wanted : ℕ) (stage : Stage) → IsTold blocks (given_by sense wanted stage)
 given_by_told blocks sense wanted Waits = tt

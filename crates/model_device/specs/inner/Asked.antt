@@ -113,29 +113,29 @@ pub record SameSetting (old new : DevState) : Type 0 where
   pub configuration : new.configuration ≡ old.configuration
   pub alt : new.alt ≡ old.alt
 
-stays : (s : DevState) → SameSetting s s
-stays s = record { configuration = refl; alt = refl }
+same_as_before : (s : DevState) → SameSetting s s
+same_as_before s = record { configuration = refl; alt = refl }
 
 -- where a test holds only for a change, nothing is set otherwise
 set_only : (s new : DevState) (t : Bool) → (t ≡ true → ⊥) → SameSetting s (unwrap_or (cond t (Some new) None) s)
 set_only s new true h = absurd (h refl)
-set_only s new false h = stays s
+set_only s new false h = same_as_before s
 
 not_both : (b : Bool) → b ≡ false → b ≡ true → ⊥
 not_both b f t = false≢true (sym f ∙ t)
 
 halt_stays : (s : DevState) (ep : ℕ) (t : Bool) (new : DevState) → SameSetting s new → SameSetting s (unwrap_or (cond t (Some new) None) s)
 halt_stays s ep true new h = h
-halt_stays s ep false new h = stays s
+halt_stays s ep false new h = same_as_before s
 
 halted_stays : (s : DevState) (t : Bool) (new : DevState) → SameSetting s new → SameSetting s (cond t s new)
-halted_stays s true new h = stays s
+halted_stays s true new h = same_as_before s
 halted_stays s false new h = h
 
 written : (parts : List Part) (s : DevState) (r : Setup) (write : ControlWrite) → request_of r ≡ Some (Write write) → is_change (route_of r) ≡ false → SameSetting s (unwrap_or (changed_by parts s r write) s)
 written parts s r ClearHalt h c = halt_stays s r.index (is_endpoint parts s r.index) _ (record { configuration = refl; alt = refl })
 written parts s r SetHalt h c = halt_stays s r.index (is_endpoint parts s r.index) (halted s r.index) (halted_stays s _ _ (record { configuration = refl; alt = refl }))
-written parts s r SetAddress h c = halt_stays s r.index (r.length == 0) s (stays s)
+written parts s r SetAddress h c = halt_stays s r.index (r.length == 0) s (same_as_before s)
 written parts s r SetConfiguration h c = set_only s _ (r.length == 0 && nat_lt r.value 2) (λ t. not_both (is_change (route_of r)) c (set_configuration_changes r h t))
 written parts s r SetInterface h c =
     set_only s _ (r.length == 0 && is_configured s && r.index == 0 && is_setting parts r.value) (λ t.
@@ -147,8 +147,8 @@ written parts s r SetInterface h c =
 written parts s r ResetPort h c = set_only s unconfigured (r.length == 0) (λ t. not_both (is_change (route_of r)) c (reset_port_changes r h t))
 
 by_request : (parts : List Part) (s : DevState) (r : Setup) (x : Option Request) → request_of r ≡ x → is_change (route_of r) ≡ false → SameSetting s (state_by parts s r x)
-by_request parts s r None h c = stays s
-by_request parts s r (Some (Read read)) h c = stays s
+by_request parts s r None h c = same_as_before s
+by_request parts s r (Some (Read read)) h c = same_as_before s
 by_request parts s r (Some (Write write)) h c = written parts s r write h c
 
 -- what isn't a change keeps the configuration and the alternate setting

@@ -13,6 +13,7 @@ use Rattle.usb_base.specs.declared.transfer.Transfer.{Transfer}
 use Rattle.usb_base.specs.declared.transfer.Outcome.{Outcome}
 use Rattle.control_route.specs.Routes.{route_of}
 use Rattle.control_route.specs.Changes.{is_change}
+use Rattle.redir_wire.specs.declared.packet.TheConstants.{MAX_INTERFACES}
 use Rattle.chapter9.specs.declared.part.Part.{Part}
 use Rattle.chapter9.specs.declared.state.DevState.{DevState}
 use Rattle.chapter9.specs.declared.table.InterfaceClass.{InterfaceClass}
@@ -23,6 +24,7 @@ use Rattle.chapter9.specs.Requests.{request_of}
 use Rattle.chapter9.specs.State.{is_configured}
 use Rattle.chapter9.specs.Table.{class_of, table_of}
 use Rattle.chapter9.specs.Standard.{changed_by, given_by, outcome_by, read_outcome, stall, state_by, success, write_outcome}
+use Rattle.model_device.specs.declared.gadget.TheConstants.{MAX_STREAM_PACKET}
 use Rattle.model_device.specs.Transfer.{IsTransfer, IsOutcome, is_in_setup}
 use Rattle.model_device.specs.Gadget.{IsGadget, IsNamed, SameFacts, is_get_configuration, is_port_reset}
 use Rattle.model_device.specs.Function.{IsFunction}
@@ -133,12 +135,12 @@ refuses_by d s t (Some r) e c =
     let kept = keeps_unless d.first s.kept (is_change (route_of r) && is_success (outcome_by d.set (device_parts d) s.device r t.wanted (request_of r)).status) (and_right (is_change (route_of r)) (is_success (outcome_by d.set (device_parts d) s.device r t.wanted (request_of r)).status) (not_success (outcome_by d.set (device_parts d) s.device r t.wanted (request_of r)).status h)) in
     λ i. record { device = device i; kept = kept i })
 
-one_count : (c : Option InterfaceClass) → (one_interface c).count ≤ 32
+one_count : (c : Option InterfaceClass) → (one_interface c).count ≤ MAX_INTERFACES
 one_count None = omega arith
 one_count (Some c) = omega arith
 
-few_interfaces_by : (parts : List Part) (s : DevState) → (interfaces_of parts s).count ≤ 32
-few_interfaces_by parts s = cond_both (is_configured s) (one_interface (class_of s.alt parts)) _ (λ i. i.count ≤ 32) (λ e. one_count (class_of s.alt parts)) (λ e. omega arith)
+few_interfaces_by : (parts : List Part) (s : DevState) → (interfaces_of parts s).count ≤ MAX_INTERFACES
+few_interfaces_by parts s = cond_both (is_configured s) (one_interface (class_of s.alt parts)) _ (λ i. i.count ≤ MAX_INTERFACES) (λ e. one_count (class_of s.alt parts)) (λ e. omega arith)
 
 with_kept_second : {X A : Type 0} (s : DevState) (r : Option (X × A)) (P : A → Type 0) → IfSome r (λ done. P done.1) → IfSome (with_kept s r) (λ done. P done.1)
 with_kept_second s None P h = tt
@@ -151,10 +153,10 @@ outcomes_by d s t None own it e h =
     (λ r. with_kept_second s.device (d.transfer s.kept t) (IsOutcome t) (own.outcomes s.kept t it e)) (λ r. stall_outcome t))
 outcomes_by d s t (Some r) own it e h = rw (performed d s t r e) (request_outcome d.set (device_parts d) s.device r t (request_of r) refl h)
 
-packets_by : {X : Type 0} (d : Device X) (s : State X) (ep : ℕ) → IsFunction d → IfSome (offer d s ep) (λ sent. length sent.1.body ≤ 65535)
+packets_by : {X : Type 0} (d : Device X) (s : State X) (ep : ℕ) → IsFunction d → IfSome (offer d s ep) (λ sent. length sent.1.body ≤ MAX_STREAM_PACKET)
 packets_by d s ep own =
-    cond_both (is_running (device_parts d) s.device ep) (with_kept s.device (d.packet s.kept ep)) None (λ o. IfSome o (λ sent. length sent.1.body ≤ 65535))
-    (λ r. with_kept_second s.device (d.packet s.kept ep) (λ p. length p.body ≤ 65535) (own.packets s.kept ep)) (λ r. tt)
+    cond_both (is_running (device_parts d) s.device ep) (with_kept s.device (d.packet s.kept ep)) None (λ o. IfSome o (λ sent. length sent.1.body ≤ MAX_STREAM_PACKET))
+    (λ r. with_kept_second s.device (d.packet s.kept ep) (λ p. length p.body ≤ MAX_STREAM_PACKET) (own.packets s.kept ep)) (λ r. tt)
 
 -- ---- statuses
 

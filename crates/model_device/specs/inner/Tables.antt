@@ -12,7 +12,7 @@ use Rattle.chapter9.specs.declared.part.Part.{Part}
 use Rattle.chapter9.specs.declared.part.Part.TheVariants.{Config, Interface, Endpoint, Other}
 use Rattle.chapter9.specs.declared.state.DevState.{DevState}
 use Rattle.chapter9.specs.State.{is_configured}
-use Rattle.chapter9.specs.Table.{Placed, control_in, control_out, control_row, control_rows, endpoints_after, interface_after, placed, table_of, with_row, with_rows}
+use Rattle.chapter9.specs.Table.{EndpointRow, control_in, control_out, control_row, control_rows, endpoints_after, interface_after, endpoint_rows, table_of, with_row, with_rows}
 use Rattle.model_device.specs.Function.{is_fine, is_fine_part, is_iso, no_iso_out}
 
 -- rows of which none below 16 is isochronous
@@ -51,27 +51,27 @@ with_row_fine ep row rows f h =
     cond_both (endpoint_index ep % 16 == 0) rows (set rows (endpoint_index ep) row) Fine (λ e. h)
     (λ e. set_fine rows (endpoint_index ep) row (λ lt. not_iso row.kind (or_false (is_in_endpoint ep) (not (is_iso row.kind)) (to_device ep lt) f)) h)
 
-abbrev is_fine_placed : Placed → Bool
-is_fine_placed p = is_fine p.ep p.row.kind
+abbrev is_fine_endpoint : EndpointRow → Bool
+is_fine_endpoint p = is_fine p.ep p.row.kind
 
-with_rows_fine : (rows : List EpRow) (ps : List Placed) → list_all is_fine_placed ps ≡ true → Fine rows → Fine (with_rows rows ps)
+with_rows_fine : (rows : List EpRow) (ps : List EndpointRow) → list_all is_fine_endpoint ps ≡ true → Fine rows → Fine (with_rows rows ps)
 with_rows_fine rows [] f h = h
 with_rows_fine rows (p ∷ ps) f h =
-    let both = and_parts (is_fine_placed p) (list_all is_fine_placed ps) f in
+    let both = and_parts (is_fine_endpoint p) (list_all is_fine_endpoint ps) f in
     with_rows_fine (with_row p.ep p.row rows) ps both.1 (with_row_fine p.ep p.row rows both.0 h)
 
-placed_fine : (before : Option ℕ) (part : Part) (rest : List Placed) → is_fine_part part ≡ true → list_all is_fine_placed rest ≡ true → list_all is_fine_placed (placed part before ++ rest) ≡ true
-placed_fine before (Config value interfaces) rest f h = h
-placed_fine before (Interface number alt class subclass protocol) rest f h = h
-placed_fine (Some number) (Endpoint ep kind max_packet interval) rest f h = and_from (is_fine ep kind) (list_all is_fine_placed rest) f h
-placed_fine None (Endpoint ep kind max_packet interval) rest f h = h
-placed_fine before (Other kind) rest f h = h
+endpoint_rows_fine : (before : Option ℕ) (part : Part) (rest : List EndpointRow) → is_fine_part part ≡ true → list_all is_fine_endpoint rest ≡ true → list_all is_fine_endpoint (endpoint_rows part before ++ rest) ≡ true
+endpoint_rows_fine before (Config value interfaces) rest f h = h
+endpoint_rows_fine before (Interface number alt class subclass protocol) rest f h = h
+endpoint_rows_fine (Some number) (Endpoint ep kind max_packet interval) rest f h = and_from (is_fine ep kind) (list_all is_fine_endpoint rest) f h
+endpoint_rows_fine None (Endpoint ep kind max_packet interval) rest f h = h
+endpoint_rows_fine before (Other kind) rest f h = h
 
-endpoints_fine : (alt : ℕ) (before : Option ℕ) (parts : List Part) → no_iso_out parts ≡ true → list_all is_fine_placed (endpoints_after alt before parts) ≡ true
+endpoints_fine : (alt : ℕ) (before : Option ℕ) (parts : List Part) → no_iso_out parts ≡ true → list_all is_fine_endpoint (endpoints_after alt before parts) ≡ true
 endpoints_fine alt before [] f = refl
 endpoints_fine alt before (part ∷ parts) f =
     let both = and_parts (is_fine_part part) (no_iso_out parts) f in
-    placed_fine before part (endpoints_after alt (interface_after alt before part) parts) both.0 (endpoints_fine alt (interface_after alt before part) parts both.1)
+    endpoint_rows_fine before part (endpoints_after alt (interface_after alt before part) parts) both.0 (endpoints_fine alt (interface_after alt before part) parts both.1)
 
 none_fine : Fine no_endpoints.rows
 none_fine i lt e = not_iso Invalid refl (sym (ap (λ (r : EpRow). r.kind) (get_or-replicate 32 i no_endpoint no_endpoint (omega arith))) ∙ e)

@@ -8,22 +8,23 @@ use Rattle.usb_base.specs.Number.{le_at}
 use Rattle.usb_base.specs.declared.transfer.Transfer.{Transfer}
 use Rattle.chapter9.specs.Descriptors.{parts_of, wrong_place}
 use Rattle.chapter9.specs.declared.standard_requests.DescriptorSet.{DescriptorSet}
+use Rattle.model_device.specs.declared.gadget.TheConstants.{MAX_STREAM_PACKET}
 use Rattle.model_device.specs.Transfer.{IsTransfer, IsOutcome}
 use Rattle.model_device.specs.Gadget.{IsNamed}
 use Rattle.model_device.specs.Function.{IsFunction, no_iso_out}
 use Rattle.model_device.specs.InTurn.{in_turn}
-use Rattle.model_device.specs.Keyboard.{keyboard, report}
+use Rattle.model_device.specs.Keyboard.{key_count, keyboard, report}
 use Rattle.model_device.specs.Loopback.{given_back, limit, loopback, taken_in}
-use Rattle.model_device.specs.Tone.{samples, tone}
+use Rattle.model_device.specs.Tone.{packet_length, samples, tone}
 use Rattle.model_device.specs.inner.Lawful.{stall_outcome}
 
 -- ---- what only sends, where its packets are short
 
-in_turn_lawful : (count : ℕ) (body_of : ℕ → List ℕ) (set : DescriptorSet) → wrong_place set.config ≡ None → no_iso_out (parts_of set.config) ≡ true → ((offers : ℕ) → length (body_of offers) ≤ 65535) → IsFunction (in_turn count body_of set)
+in_turn_lawful : (count : ℕ) (body_of : ℕ → List ℕ) (set : DescriptorSet) → wrong_place set.config ≡ None → no_iso_out (parts_of set.config) ≡ true → ((offers : ℕ) → length (body_of offers) ≤ MAX_STREAM_PACKET) → IsFunction (in_turn count body_of set)
 in_turn_lawful count body_of set walks endpoints short = record {
   configuration = walks;
   outcomes = λ offers t it e. stall_outcome t;
-  packets = λ offers ep. cond_both (ep == 0x81) _ None (λ o. IfSome o (λ sent. length sent.1.body ≤ 65535)) (λ e. short offers) (λ e. tt);
+  packets = λ offers ep. cond_both (ep == 0x81) _ None (λ o. IfSome o (λ sent. length sent.1.body ≤ MAX_STREAM_PACKET)) (λ e. short offers) (λ e. tt);
   named = λ offers t. refl;
   packets_named = λ offers ep. cond_both (ep == 0x81) _ None (λ o. IfSome o (λ sent. IsNamed sent.1.status)) (λ e. refl) (λ e. tt);
   endpoints = endpoints;
@@ -64,7 +65,7 @@ loop_named held t = cond_both (is_in_endpoint t.ep) (given_back held t.wanted) (
 
 pub keyboard_lawful : IsFunction keyboard
 unfolding keyboard le_at
-keyboard_lawful = in_turn_lawful 26 report keyboard.set refl refl (λ key. omega arith)
+keyboard_lawful = in_turn_lawful key_count report keyboard.set refl refl (λ key. omega arith)
 
 pub loopback_lawful : IsFunction loopback
 unfolding loopback le_at
@@ -72,4 +73,4 @@ loopback_lawful = record { configuration = refl; outcomes = λ held t it e. loop
 
 pub tone_lawful : IsFunction tone
 unfolding tone samples le_at
-tone_lawful = in_turn_lawful 256 samples tone.set refl refl (λ sample. omega (arith, length-replicate 192 sample))
+tone_lawful = in_turn_lawful 256 samples tone.set refl refl (λ sample. omega (arith, length-replicate packet_length sample))

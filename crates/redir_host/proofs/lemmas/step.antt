@@ -1,6 +1,7 @@
 -- One item, one event, and all of them.
 pub mod Examples
 pub mod Acts
+pub mod Calls
 pub mod Makes
 pub mod Stands
 pub mod Wanted

@@ -59,14 +59,14 @@ cancel_move {S = S} h id (Some q) =
 
 -- ---- streams
 
-abbrev pub is_of : StreamKind → EpKind → Bool
-is_of Iso kind.Iso = true
-is_of Interrupt kind.Interrupt = true
-is_of _ _ = false
+abbrev pub is_kind_of : StreamKind → EpKind → Bool
+is_kind_of Iso kind.Iso = true
+is_kind_of Interrupt kind.Interrupt = true
+is_kind_of _ _ = false
 
 -- an IN endpoint of the stream's type
 abbrev pub can_start : EpTable → StreamKind → ℕ → Bool
-can_start table k ep = nat_lt (ep % 128) 16 && (is_in_endpoint ep && is_of k (row_of table ep).kind)
+can_start table k ep = nat_lt (ep % 128) 16 && (is_in_endpoint ep && is_kind_of k (row_of table ep).kind)
 
 abbrev pub runs_at : ℕ → Running → Bool
 runs_at ep s = s.ep == ep

@@ -26,7 +26,7 @@ abbrev pub HasRead : Stream RedirState → RedirState → Type 0
 HasRead kept guest = (bytes : List ℕ) × ((given : List (ℕ × (Header × RedirPacket))) × IsGiven kept guest bytes given)
 
 -- the host has taken these packets
-pub record Took {S : Type 0} (m : Meaning S) (old new : Host S) (old_notes new_notes : List HostNote) (more : List (ℕ × (Header × RedirPacket))) : Type 0 where
+pub record HasTaken {S : Type 0} (m : Meaning S) (old new : Host S) (old_notes new_notes : List HostNote) (more : List (ℕ × (Header × RedirPacket))) : Type 0 where
   pub host : new ≡ steps m old (map asked more)
   pub sound : IsSound new
   pub state : new.guest ≡ told_state old.guest more
@@ -56,6 +56,6 @@ OnRead (Err (Refused place reason)) P = P
 OnRead (Err (Memory memory)) P = Unit {0}
 
 -- the host was given these packets, and what they send was sent
-pub record TookPackets {T S : Type 0} (result : Result T ReadError) (m : Meaning S) (old new : Host S) (old_out new_out : List ℕ) (old_notes new_notes : List HostNote) (more : List (ℕ × (Header × RedirPacket))) : Type 0 where
+pub record TookAndSent {T S : Type 0} (result : Result T ReadError) (m : Meaning S) (old new : Host S) (old_out new_out : List ℕ) (old_notes new_notes : List HostNote) (more : List (ℕ × (Header × RedirPacket))) : Type 0 where
   pub sent : new_out ≡ old_out ++ given_by bytes_of m old (map asked more)
-  pub took : OnRead result (Took m old new old_notes new_notes more)
+  pub took : OnRead result (HasTaken m old new old_notes new_notes more)

@@ -1,5 +1,6 @@
 -- What is known of a host whatever its guest sends: its requests are transfers, and their answers can be written.
-use Rattle.std.specs.Prelude.{◌≡◌, ℕ, ◌<◌, ◌≤◌, ◌^◌, true, false, List, [], ◌∷◌}
+use Rattle.std.specs.Prelude.{◌≡◌, ℕ, ◌<◌, ◌≤◌, ◌^◌, true, false}
+use Rattle.std.specs.List.{AllByRecursion}
 use Rattle.usb_base.specs.Endpoint.{is_in_endpoint}
 use Rattle.redir_wire.specs.declared.packet.Caps.{Caps}
 use Rattle.redir_wire.specs.declared.packet.Way.TheVariants.{ToGuest}
@@ -18,10 +19,6 @@ use Rattle.redir_host.specs.declared.request.Form.{Form}
 use Rattle.redir_host.specs.declared.request.Form.TheVariants as form
 use Rattle.redir_host.specs.declared.request.Request.{Request}
 use Rattle.redir_host.specs.declared.running.Running.{Running}
-
-abbrev pub Each : {A : Type 0} → (A → Type 0) → List A → Type 0
-Each P [] = Unit {0}
-Each P (x ∷ xs) = P x × Each P xs
 
 -- the guest can be told this packet
 abbrev pub CanTell : Caps → ℕ → RedirPacket → Type 0
@@ -60,5 +57,5 @@ pub record IsRunning (guest : RedirState) (s : Running) : Type 0 where
   pub in_endpoint : is_in_endpoint s.ep ≡ true
 
 pub record IsSound {S : Type 0} (h : Host S) : Type 0 where
-  pub requests : Each (IsRequest h.guest) h.queue
-  pub streams : Each (IsRunning h.guest) h.running
+  pub requests : AllByRecursion (IsRequest h.guest) h.queue
+  pub streams : AllByRecursion (IsRunning h.guest) h.running

@@ -106,16 +106,16 @@ pub record Became : Type 0 where
   pub answered : List Answered
   pub dropped : List Placed
 
-abbrev pub stays : List Waiting → Became
-stays line = record { line = line; answered = []; dropped = [] }
+abbrev pub unchanged : List Waiting → Became
+unchanged line = record { line = line; answered = []; dropped = [] }
 
 -- the first of these, if there is one
 abbrev pub first_such : {A : Type 0} → (A → Bool) → List A → List A
 first_such test [] = []
 first_such test (x ∷ xs) = if test x then x ∷ [] else first_such test xs
 
-abbrev pub is_of : ℕ → Placed → Bool
-is_of ep p = queue_of p.ep == queue_of ep
+abbrev pub is_in_queue_of : ℕ → Placed → Bool
+is_in_queue_of ep p = queue_of p.ep == queue_of ep
 
 abbrev pub is_cancelled : ℕ → Placed → Bool
 is_cancelled id p = is_data p.form && (p.id == id)
@@ -127,8 +127,8 @@ at_once place id (Refuses f ep) = ends AtOnce (placed place id f ep) ∷ []
 at_once place id (Asks f t) = []
 
 -- what comes stands behind all others
-abbrev pub joins : List Waiting → List Waiting → List Answered → Became
-joins line new answered = record { line = line ++ new; answered = answered; dropped = [] }
+abbrev pub lines_up : List Waiting → List Waiting → List Answered → Became
+lines_up line new answered = record { line = line ++ new; answered = answered; dropped = [] }
 
 abbrev pub by_cancel : ℕ → List Waiting → Became
 by_cancel id line = record {
@@ -139,11 +139,11 @@ by_cancel id line = record {
 
 abbrev pub by_plain : ℕ → ℕ → RedirControl → List Waiting → Became
 by_plain place id plain.Cancel line = by_cancel id line
-by_plain place id p line = joins line (plain_line place id p) []
+by_plain place id p line = lines_up line (plain_line place id p) []
 
 abbrev pub by_packet : ℕ → ℕ → RedirPacket → List Waiting → Became
 by_packet place id (Plain p) line = by_plain place id p line
-by_packet place id (Carrying d) line = joins line (asked_line place id (asking_of d)) (at_once place id (asking_of d))
+by_packet place id (Carrying d) line = lines_up line (asked_line place id (asking_of d)) (at_once place id (asking_of d))
 
 -- changes flush, one after another, those of the endpoints that they touch
 abbrev pub is_flushed : Route → EpTable → Placed → Bool
@@ -172,17 +172,17 @@ outcome_of m s q = if q.reset then came_marked m s q q.form else came_of m (m.pe
 
 -- the first of its queue is answered behind those that its changes flush
 abbrev pub by_outcome : List (Route × EpTable) → ℕ → List Waiting → Option (ℕ × Outcome) → Became
-by_outcome changes ep line None = stays line
+by_outcome changes ep line None = unchanged line
 by_outcome changes ep line (Some o) = record {
   line = flushed_in changes (without_performed ep line);
   answered = map (ends ByChange) (flushed_of changes (without_performed ep line))
-      ++ map (ends (ByDevice o.0 o.1)) (first_such (is_of ep) (waiting_in line));
+      ++ map (ends (ByDevice o.0 o.1)) (first_such (is_in_queue_of ep) (waiting_in line));
   dropped = [];
 }
 
 -- of the first request of the host's queue, with its mark
 abbrev pub by_perform : {S : Type 0} → Meaning S → S → ℕ → List Waiting → Option Request → Became
-by_perform m s ep line None = stays line
+by_perform m s ep line None = unchanged line
 by_perform m s ep line (Some q) = by_outcome (all_changes m s q) ep line (outcome_of m s q)
 
 -- with the device all that wait are dropped, and so is each that comes later
@@ -190,12 +190,12 @@ abbrev pub becomes : {S : Type 0} → Meaning S → Host S → Bool → ℕ → 
 becomes m h gone place (Asked id p) line =
     if gone then record { line = line; answered = []; dropped = request_in place id (asking p) }
     else by_packet place id p line
-becomes m h gone place (Wrong from reason) line = stays line
+becomes m h gone place (Wrong from reason) line = unchanged line
 becomes m h gone place (Performs ep) line =
-    if gone then stays line else by_perform m h.gadget ep line (find (is_at ep) h.queue)
-becomes m h gone place (Offers ep) line = stays line
+    if gone then unchanged line else by_perform m h.gadget ep line (find (is_at ep) h.queue)
+becomes m h gone place (Offers ep) line = unchanged line
 becomes m h gone place Unplugs line =
-    if gone then stays line else record { line = []; answered = []; dropped = waiting_in line }
+    if gone then unchanged line else record { line = []; answered = []; dropped = waiting_in line }
 
 -- ---- behind all items
 

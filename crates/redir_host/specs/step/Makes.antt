@@ -1,6 +1,6 @@
 -- What calls make of a host and its output, and what they need.
 use Rattle.std.specs.Prelude.{◌≡◌, ℕ, ◌≤◌, false, List, ◌++◌, length, map, filter, Option}
-use Rattle.std.specs.List.{flat_map}
+use Rattle.std.specs.List.{flat_map, AllByRecursion}
 use Rattle.usb_base.specs.declared.endpoint.EpTable.{EpTable}
 use Rattle.usb_base.specs.declared.transfer.Outcome.{Outcome}
 use Rattle.redir_wire.specs.declared.packet.Caps.{Caps}
@@ -29,7 +29,7 @@ use Rattle.redir_host.specs.step.Machine.{told_bytes, bytes_of}
 use Rattle.redir_host.specs.step.Moves.{Move}
 use Rattle.redir_host.specs.device.Performing.{told_performed_by, perform_move_by}
 use Rattle.redir_host.specs.write.Readable.{InRange}
-use Rattle.redir_host.specs.state.Sound.{DoneFits, Each}
+use Rattle.redir_host.specs.state.Sound.{DoneFits}
 
 -- the host is that of the move, and the output gained its bytes
 pub record Makes {S : Type 0} (v : Move S) (new : Host S) (old_out new_out : List ℕ) : Type 0 where
@@ -39,7 +39,7 @@ pub record Makes {S : Type 0} (v : Move S) (new : Host S) (old_out new_out : Lis
 -- and what it sends of the device is in range
 pub record Tells {S : Type 0} (v : Move S) (new : Host S) (old_out new_out : List ℕ) : Type 0 where
   pub makes : Makes v new old_out new_out
-  pub in_range : Each InRange v.sent
+  pub in_range : AllByRecursion InRange v.sent
 
 -- and so are the notes
 pub record Takes {S : Type 0} (v : Move S) (new : Host S) (old_out new_out : List ℕ) (old_notes new_notes : List HostNote) : Type 0 where
@@ -47,7 +47,7 @@ pub record Takes {S : Type 0} (v : Move S) (new : Host S) (old_out new_out : Lis
   pub notes : new_notes ≡ old_notes ++ v.notes
 
 -- this was told of a request that was performed, or of none
-pub record Performs {S : Type 0} (o : Option (ℕ × Move S)) (old new : Host S) (answered : Performed) (old_out new_out : List ℕ) : Type 0 where
+pub record TellsPerformed {S : Type 0} (o : Option (ℕ × Move S)) (old new : Host S) (answered : Performed) (old_out new_out : List ℕ) : Type 0 where
   pub told : answered ≡ told_performed_by false o
   pub tells : Tells (perform_move_by old o) new old_out new_out
 

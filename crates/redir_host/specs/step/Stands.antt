@@ -41,7 +41,7 @@ pub record IsRead (kept : Stream RedirState) (bytes : List ℕ) : Type 0 where
   pub read : IsReadBy kept (guest_split bytes) kept.over
 
 -- the core works, and stands for these acts, whose device began in state s
-pub record Stands {S : Type 0} (m : Meaning S) (s : S) (k : HostKept S) (acts : List Act) : Type 0 where
+pub record HostStands {S : Type 0} (m : Meaning S) (s : S) (k : HostKept S) (acts : List Act) : Type 0 where
   pub works : k.failed ≡ false
   pub stream : IsRead k.stream (guest_bytes acts)
   pub host : k.host ≡ host_of m s acts
@@ -52,7 +52,7 @@ pub record Stands {S : Type 0} (m : Meaning S) (s : S) (k : HostKept S) (acts : 
 
 -- it stands for some acts
 abbrev pub HasPast : {S : Type 0} → Meaning S → HostKept S → Type 0
-HasPast {S = S} m k = (s : S) × ((acts : List Act) × Stands m s k acts)
+HasPast {S = S} m k = (s : S) × ((acts : List Act) × HostStands m s k acts)
 
 abbrev pub IsReady : {S : Type 0} → Meaning S → HostKept S → Type 0
 IsReady m k = k.failed ≡ false → HasPast m k
@@ -61,7 +61,7 @@ IsReady m k = k.failed ≡ false → HasPast m k
 
 -- it stands for the act too, and the output gained what that sends
 pub record DoesAct {S : Type 0} (m : Meaning S) (s : S) (new : HostKept S) (acts : List Act) (a : Act) (old_out new_out : List ℕ) : Type 0 where
-  pub stands : Stands m s new (a ∷ acts)
+  pub stands : HostStands m s new (a ∷ acts)
   pub sent : new_out ≡ old_out ++ act_bytes m s acts a
 
 -- and the notes what that tells
@@ -83,14 +83,14 @@ pub record Stops {S : Type 0} (m : Meaning S) (s : S) (acts : List Act) (a : Act
 
 -- an answer tells this of the host
 abbrev pub TellsOf : {S T : Type 0} → Meaning S → HostKept S → (Host S → T) → T → Type 0
-TellsOf {S = S} m old tells told = (s : S) (acts : List Act) → Stands m s old acts → told ≡ tells (host_of m s acts)
+TellsOf {S = S} m old tells told = (s : S) (acts : List Act) → HostStands m s old acts → told ≡ tells (host_of m s acts)
 
 abbrev pub Does : {S : Type 0} → Meaning S → Act → HostKept S → HostKept S → List ℕ → List ℕ → Type 0
-Does {S = S} m a old new old_out new_out = (s : S) (acts : List Act) → Stands m s old acts → DoesAct m s new acts a old_out new_out
+Does {S = S} m a old new old_out new_out = (s : S) (acts : List Act) → HostStands m s old acts → DoesAct m s new acts a old_out new_out
 
 abbrev pub TakesPiece : {S : Type 0} → Meaning S → List ℕ → HostKept S → HostKept S → List ℕ → List ℕ → List HostNote → List HostNote → Type 0
 TakesPiece {S = S} m piece old new old_out new_out old_notes new_notes =
-    (s : S) (acts : List Act) → Stands m s old acts → TakesAct m s new acts (Piece piece) old_out new_out old_notes new_notes
+    (s : S) (acts : List Act) → HostStands m s old acts → TakesAct m s new acts (Piece piece) old_out new_out old_notes new_notes
 
 abbrev pub StopsIn : {S : Type 0} → Meaning S → Act → HostKept S → List ℕ → List ℕ → Type 0
-StopsIn {S = S} m a old old_out new_out = (s : S) (acts : List Act) → Stands m s old acts → Stops m s acts a old_out new_out
+StopsIn {S = S} m a old old_out new_out = (s : S) (acts : List Act) → HostStands m s old acts → Stops m s acts a old_out new_out

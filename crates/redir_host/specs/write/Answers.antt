@@ -1,6 +1,6 @@
 -- How requests are answered: by the packet that they came by, with the status, the length and the data of what came
 -- of them, or by the status packet of their kind.
-use Rattle.std.specs.Prelude.{ℕ, [], if◌then◌else◌, slice_index}
+use Rattle.std.specs.Prelude.{ℕ, if◌then◌else◌, slice_index}
 use Rattle.usb_base.specs.Status.{status_byte, is_success}
 use Rattle.usb_base.specs.declared.status.UsbStatus.TheVariants.{Cancelled}
 use Rattle.usb_base.specs.declared.transfer.Outcome.{Outcome}

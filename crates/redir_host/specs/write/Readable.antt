@@ -1,5 +1,6 @@
 -- That what a host sends can be read by its guest.
 use Rattle.std.specs.Prelude.{◌≡◌, ℕ, Bool, true, false, List, []}
+use Rattle.std.specs.List.{AllByRecursion}
 use Rattle.redir_wire.specs.declared.packet.RedirControl.{RedirControl}
 use Rattle.redir_wire.specs.declared.packet.RedirControl.TheVariants as plain
 use Rattle.redir_wire.specs.declared.packet.Way.TheVariants.{ToGuest}
@@ -12,12 +13,11 @@ use Rattle.redir_data.specs.Streams.{advanced}
 use Rattle.model_device.specs.Meaning.{Meaning}
 use Rattle.redir_host.specs.declared.host.Host.{Host}
 use Rattle.redir_host.specs.guest.Packets.{greets}
-use Rattle.redir_host.specs.state.Sound.{Each}
 
 -- all that was sent can be read with the capabilities that are agreed; before the guest's hello nothing was
 pub record AreRead (guest : RedirState) (sent : List (ℕ × RedirPacket)) : Type 0 where
   pub none : guest.first ≡ true → sent ≡ []
-  pub read : Each (CanBeRead ToGuest guest.caps) sent
+  pub read : AllByRecursion (CanBeRead ToGuest guest.caps) sent
 
 -- ---- what isn't known but of a device that runs: its facts fit the fields of their packets
 
@@ -28,7 +28,7 @@ InRange (id, Carrying d) = Unit {0}
 
 -- the device is told of where this is the hello
 abbrev pub GreetsInRange : {S : Type 0} → Meaning S → Host S → RedirControl → Type 0
-GreetsInRange m h (plain.Hello x) = Each InRange (greets m h).sent
+GreetsInRange m h (plain.Hello x) = AllByRecursion InRange (greets m h).sent
 GreetsInRange m h _ = Unit {0}
 
 abbrev pub AnswersInRange : {S : Type 0} → Meaning S → Host S → RedirPacket → Type 0

@@ -11,7 +11,7 @@ use Rattle.redir_host.specs.declared.note.HostNote.{HostNote}
 use Rattle.redir_host.specs.declared.note.HostNote.TheVariants as note
 use Rattle.redir_host.specs.step.Acts.{Act, Piece}
 use Rattle.redir_host.specs.write.Output.{host_out, act_bytes, act_notes}
-use Rattle.redir_host.specs.step.Stands.{Stands, DoesAct, TakesAct}
+use Rattle.redir_host.specs.step.Stands.{HostStands, DoesAct, TakesAct}
 use Rattle.redir_host.proofs.lemmas.step.Acts.{act-out}
 use Rattle.bridge_run.specs.declared.lent.Lent.{Lent}
 use Rattle.bridge_run.specs.declared.sent.Sent.{Sent}
@@ -23,7 +23,7 @@ use Rattle.bridge_run.specs.inner.Lending.{is_refusal, Acts, IsLent}
 
 -- ---- acts
 
-pub no-act : {S : Type 0} (m : Meaning S) (s : S) (k : Core S) (acts : List Act) (out : List ℕ) → Stands m s k acts → Acts m s k acts acts out out
+pub no-act : {S : Type 0} (m : Meaning S) (s : S) (k : Core S) (acts : List Act) (out : List ℕ) → HostStands m s k acts → Acts m s k acts acts out out
 no-act m s k acts out stands = record { given = []; stands = stands; sends = sym (append-nil (host_out m s acts)); sent = sym (append-nil out) }
 
 pub one-act : {S : Type 0} (m : Meaning S) (s : S) (k : Core S) (acts : List Act) (a : Act) (old new : List ℕ) → DoesAct m s k acts a old new → Acts m s k acts (a ∷ acts) old new
@@ -43,7 +43,7 @@ pub record Midway {S : Type 0} (act : ℕ → Act) (m : Meaning S) (s : S) (k : 
   pub done : Acts m s k past acts old new
   pub same : each act left acts ≡ each act all past
 
-pub midway-none : {S : Type 0} (act : ℕ → Act) (m : Meaning S) (s : S) (k : Core S) (past : List Act) (all : List ℕ) (out : List ℕ) → Stands m s k past → Midway act m s k past all all out out
+pub midway-none : {S : Type 0} (act : ℕ → Act) (m : Meaning S) (s : S) (k : Core S) (past : List Act) (all : List ℕ) (out : List ℕ) → HostStands m s k past → Midway act m s k past all all out out
 midway-none act m s k past all out stands = record { acts = past; done = no-act m s k past out stands; same = refl }
 
 pub midway-more : {S : Type 0} (act : ℕ → Act) (m : Meaning S) (s : S) (j k : Core S) (past : List Act) (all left : List ℕ) (ep : ℕ) (rest old out new : List ℕ) → left ≡ ep ∷ rest → (x : Midway act m s j past all left old out)
@@ -118,7 +118,7 @@ pub lent-stands : {S : Type 0} (m : Meaning S) (s : S) (old mid new : Lent S) (p
 lent-stands m s old mid new past e lent acts came is =
     let come = came ∙ ap (λ (b : Bool). is_coming e || b) lent.came in
     record {
-      stands = subst (λ (l : Lent _). Stands m s l.core (acts_of m s (e ∷ past))) (sym is) acts.stands;
+      stands = subst (λ (l : Lent _). HostStands m s l.core (acts_of m s (e ∷ past))) (sym is) acts.stands;
       came = ap (λ (l : Lent _). l.has_come) is ∙ come;
       waiting = ap (λ (l : Lent _). l.waiting) is ∙ ap (λ (b : Bool). cond b [] mid.waiting) come
           ∙ waits-is (has_come past) (is_coming e) (host_out m s (acts_of m s past)) acts.given (host_out m s (acts_of m s (e ∷ past))) old.waiting mid.waiting acts.sends lent.waiting acts.sent;

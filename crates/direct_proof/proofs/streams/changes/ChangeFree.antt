@@ -1,19 +1,19 @@
 -- What a change sends, its stops ahead of it: none of the packets cancels, and the host refuses none.
 use Rattle.std.proofs.Common.{◌≡◌, ℕ, Bool, true, false, cond, List, [], ◌∷◌, ◌++◌, Option, Some, None, refl}
 use Rattle.std.specs.Prelude.{zip}
+use Rattle.std.specs.List.{AllByRecursion as Each}
 use Rattle.redir_wire.specs.declared.packet.RedirControl.TheVariants as plain
 use Rattle.redir_data.specs.declared.packet.RedirPacket.{RedirPacket}
 use Rattle.redir_data.specs.declared.packet.RedirPacket.TheVariants.{Plain}
 use Rattle.control_route.specs.declared.route.Route.{Route}
 use Rattle.control_route.specs.declared.route.Route.TheVariants as route
-use Rattle.redir_host.specs.state.Sound.{Each}
+use Rattle.gate_history.proofs.lemmas.Lists.{Each-append}
 use Rattle.gate_history.specs.write.Packets.{stops, stop_packet, route_packets}
 use Rattle.gate_history.specs.state.State.{State}
 use Rattle.gate_history.specs.state.Ups.{Up, is_ended}
 use Rattle.gate_history.specs.client.Verdict.{is_iso}
 use Rattle.direct_proof.specs.Requests.{Entry}
 use Rattle.direct_proof.specs.Cancels.{CancelsFit, IsAsking, begins, is_cancel, left, moved}
-use Rattle.direct_proof.proofs.shared.Owed.{each-append}
 use Rattle.direct_proof.proofs.shared.Folds.{clash}
 use Rattle.direct_proof.proofs.streams.changes.Changing.{change_ids, change_sent}
 
@@ -45,7 +45,7 @@ each-zip P (n ∷ ids) (p ∷ ps) h = (h.0, each-zip P ids ps h.1)
 
 pub change-free : (st : State) (x : Route) → Each (λ (z : ℕ × RedirPacket). IsFree z.1) (change_sent st x)
 change-free st x = each-zip IsFree (change_ids st x) (stops (is_ended (Some x)) st.streams ++ route_packets x)
-    (each-append IsFree (stops (is_ended (Some x)) st.streams) (route_packets x) (stops-free (is_ended (Some x)) st.streams) (route-free x))
+    (Each-append IsFree (stops (is_ended (Some x)) st.streams) (route_packets x) (stops-free (is_ended (Some x)) st.streams) (route-free x))
 
 pub asks-free : (ps : List (ℕ × RedirPacket)) → Each (λ (z : ℕ × RedirPacket). IsFree z.1) ps → Each (λ (z : ℕ × RedirPacket). IsAsking z.1) ps
 asks-free [] h = tt

@@ -1,7 +1,7 @@
 -- A change that the gateway accepts keeps what is shared.
 use Rattle.direct_proof.proofs.streams.changes.ChangeLists.{past, setup-alone, by-routed, debts-changer, new-debts, new-numbers, holds-front, zero-route, behind-more, clean-true, before-all, by_id}
 use Rattle.std.proofs.Common.{◌≡◌, ℕ, ◌==◌, ◌||◌, not, true, false, cond, List, [], ◌∷◌, ◌++◌, length, map, filter, Option, Some, None, is_some, refl, sym, ap, ◌∙◌, subst, append-nil, append_assoc}
-use Rattle.std.specs.List.{list_any}
+use Rattle.std.specs.List.{list_any, AllByRecursion as Each}
 use Rattle.std.proofs.lemmas.List.{length-map}
 use Rattle.usb_base.specs.declared.setup.Setup.{Setup}
 use Rattle.usbip_urb.specs.declared.packet.Submit.{Submit as UrbSubmit}
@@ -11,7 +11,6 @@ use Rattle.redir_data.specs.declared.packet.RedirPacket.{RedirPacket}
 use Rattle.control_route.specs.declared.route.Route.{Route}
 use Rattle.control_route.specs.Changes.{is_change}
 use Rattle.model_device.specs.Meaning.{Meaning}
-use Rattle.redir_host.specs.state.Sound.{Each}
 use Rattle.gate_history.specs.declared.request.Request.{Request}
 use Rattle.gate_history.specs.client.Requests.{request_of}
 use Rattle.gate_history.specs.declared.item.Item.TheVariants.{Asked}
@@ -28,7 +27,7 @@ use Rattle.gate_history.specs.state.State.{submits, has_number, is_number as has
 use Rattle.gate_history.specs.step.Meaning.{mark_as, by_stream, verdict_of}
 use Rattle.gate_history.specs.write.Answers.{without_packets}
 use Rattle.gate_history.specs.state.Ups.{stream_at, lower, is_ended}
-use Rattle.gate_history.proofs.lemmas.Lists.{list_any-map, filter-map, map-map}
+use Rattle.gate_history.proofs.lemmas.Lists.{list_any-map, filter-map, map-map, Each-append}
 use Rattle.direct_device.specs.Direct.{Live, Direct, is_number}
 use Rattle.direct_device.specs.Acting.{Submit, made_of}
 use Rattle.direct_run.specs.Moves.{World, ByClient}
@@ -46,7 +45,7 @@ use Rattle.direct_proof.specs.Calls.{Fenced}
 use Rattle.direct_proof.specs.Kinds.{StartOfKind}
 use Rattle.direct_proof.specs.Running.{started_kind}
 use Rattle.direct_proof.proofs.shared.Traces.{map-append}
-use Rattle.direct_proof.proofs.shared.Owed.{each-append, IsNewNumber, ids-submit}
+use Rattle.direct_proof.proofs.shared.Owed.{IsNewNumber, ids-submit}
 use Rattle.direct_proof.proofs.shared.Folds.{clash, or-left, or-right, any-append}
 use Rattle.direct_proof.proofs.shared.Fits.{fits-append}
 use Rattle.direct_proof.proofs.streams.wires.Folds.{starts-append}
@@ -111,7 +110,7 @@ module _ {S : Type 0} (m : Meaning S) (w : World S) (j : Shared) (place : ℕ) (
     trails = new-trails m w j r x change rel gate;
     starts = starts-append (m.table w.host.gadget) (any_change j.held || j.half) w.to_host (change_sent w.gate x) session.starts (starts-none (m.table w.host.gadget) _ (change_sent w.gate x) (none-started m w j r x change rel gate));
     kinds = kinds-lower (is_ended (Some x)) w.gate.streams w.host.running session.kinds;
-    start_kinds = each-append (λ (p : ℕ × RedirPacket). StartOfKind (lower (is_ended (Some x)) w.gate.streams) (started_kind p.1)) w.to_host (change_sent w.gate x) (starts-lower (is_ended (Some x)) w.gate.streams w.to_host session.start_kinds)
+    start_kinds = Each-append (λ (p : ℕ × RedirPacket). StartOfKind (lower (is_ended (Some x)) w.gate.streams) (started_kind p.1)) w.to_host (change_sent w.gate x) (starts-lower (is_ended (Some x)) w.gate.streams w.to_host session.start_kinds)
         (silents (change_sent w.gate x) (none-started m w j r x change rel gate));
   }
     where
@@ -125,7 +124,7 @@ module _ {S : Type 0} (m : Meaning S) (w : World S) (j : Shared) (place : ℕ) (
       held = rel.line.held;
       half = rel.line.half;
       coming = new-line m w j r x change rel gate;
-      loads = subst (Each (λ (e : Entry). IsLoad e.load)) joined (each-append (λ (e : Entry). IsLoad e.load) (j.held ++ j.coming) (entry ∷ []) rel.line.loads (load, tt));
+      loads = subst (Each (λ (e : Entry). IsLoad e.load)) joined (Each-append (λ (e : Entry). IsLoad e.load) (j.held ++ j.coming) (entry ∷ []) rel.line.loads (load, tt));
       calls_in = new-calls-in m w j r x change rel gate;
       cancels = fits-append j.half j.held w.to_host (change_sent w.gate x) j.coming (entry ∷ []) rel.line.coming rel.line.cancels
           (uncancelled-free (j.held ++ j.coming) (change_sent w.gate x) (entry ∷ []) (change-free w.gate x));
@@ -135,10 +134,10 @@ module _ {S : Type 0} (m : Meaning S) (w : World S) (j : Shared) (place : ℕ) (
     tagged = tagged-lower (is_ended (Some x)) w.gate.streams j.back rel.tagged;
     ids = subst (λ (es : List Entry). Ids later.debts (w.submits ++ record { seqnum = r.number; id = id } ∷ []) es (runs_in j.back)) joined
         (ids-submit j.debts w.submits (j.held ++ j.coming) (runs_in j.back) id (record { request = r; verdict = Routed x }) false rel.ids new-id (subst (IsNewNumber r.number) owed (new-numbers r.number (submits w.gate) new)));
-    real = each-append (λ (y : Debt). (y.id == 0) ≡ false) j.debts (debt ∷ []) rel.real ((change-id m w j r x change rel gate).1, tt);
+    real = Each-append (λ (y : Debt). (y.id == 0) ≡ false) j.debts (debt ∷ []) rel.real ((change-id m w j r x change rel gate).1, tt);
     runs_at_in = rel.runs_at_in;
     before = λ h. absurd (clash w.host.guest.first h (rel.meets.behind connect).2);
-    asked = λ h. each-append (λ (p : ℕ × RedirPacket). IsAsking p.1) w.to_host (change_sent w.gate x) (rel.asked h) (asks-free (change_sent w.gate x) (change-free w.gate x));
+    asked = λ h. Each-append (λ (p : ℕ × RedirPacket). IsAsking p.1) w.to_host (change_sent w.gate x) (rel.asked h) (asks-free (change_sent w.gate x) (change-free w.gate x));
     meets = rel.meets;
     debts = λ h. ap (λ (l : List Submission). debts_of (map (λ (p : Pending). p.submit) (staying x w.gate.live ++ fresh (changer w.gate r x) ∷ [])) ++ debts_of l) (rel.alone imported).0 ∙ append-nil _ ∙ debts-changer w.gate r x w.gate.live ∙ ap (λ (l : List Debt). l ++ debt ∷ []) owed;
     controls = λ h. new-controls m w j r x change rel gate there;

@@ -1,7 +1,7 @@
 -- A change's verdict, its debt, and its place behind the others.
 use Rattle.std.proofs.Common.{◌≡◌, ℕ, ◌<◌, ◌==◌, not, nat_le, Bool, true, false, cond, List, [], ◌∷◌, ◌++◌, map, filter, Option, Some, None, refl, sym, ap, ◌∙◌, arith}
 use Rattle.std.specs.Prelude.{ℤ}
-use Rattle.std.specs.List.{list_any, AllByRecursion}
+use Rattle.std.specs.List.{list_any, AllByRecursion as Each}
 use Rattle.usbip_urb.specs.declared.code.TheConstants.{MAX_LIVE}
 use Rattle.usb_base.specs.declared.setup.Setup.{Setup}
 use Rattle.usb_base.specs.declared.endpoint.EpTable.{EpTable}
@@ -9,7 +9,7 @@ use Rattle.control_route.specs.declared.route.Route.{Route}
 use Rattle.control_route.specs.declared.route.Route.TheVariants as route
 use Rattle.control_route.specs.Changes.{is_change}
 use Rattle.model_device.specs.Transfer.{is_control}
-use Rattle.redir_host.specs.state.Sound.{Each}
+use Rattle.gate_history.proofs.lemmas.Lists.{Each-append}
 use Rattle.gate_history.specs.declared.request.Request.{Request}
 use Rattle.gate_history.specs.declared.verdict.Verdict.{Verdict}
 use Rattle.gate_history.specs.declared.verdict.Verdict.TheVariants.{Now, Wire, Routed}
@@ -28,7 +28,7 @@ use Rattle.direct_proof.specs.Requests.{Entry, Debt, load_of, debts_of}
 use Rattle.direct_proof.specs.Tagged.{Tagged}
 use Rattle.direct_proof.specs.Cancels.{Behind}
 use Rattle.direct_proof.specs.Stale.{Clean}
-use Rattle.direct_proof.proofs.shared.Owed.{each-append, IsNewNumber}
+use Rattle.direct_proof.proofs.shared.Owed.{IsNewNumber}
 use Rattle.direct_proof.proofs.shared.Folds.{not-both, or-left, or-none, any-append}
 use Rattle.direct_proof.proofs.submits.Submitting.{AreBefore}
 use Rattle.direct_proof.proofs.streams.changes.Changing.{changer, touched, staying}
@@ -100,13 +100,13 @@ zero-route r _ h = absurd (not-both (sym h))
 
 pub behind-more : (es : List Entry) (e : Entry) → is_control (normal_of e.load).ep ≡ true → Behind es → Behind (es ++ e ∷ [])
 behind-more [] e h b = ((λ z. tt), tt)
-behind-more (y ∷ es) e h b = ((λ z. each-append (λ (q : Entry). is_control (normal_of q.load).ep ≡ true) es (e ∷ []) (b.0 z) (h, tt)), behind-more es e h b.1)
+behind-more (y ∷ es) e h b = ((λ z. Each-append (λ (q : Entry). is_control (normal_of q.load).ep ≡ true) es (e ∷ []) (b.0 z) (h, tt)), behind-more es e h b.1)
 
 pub clean-true : (fence : Option ℕ) (down : ℕ → Bool) (p : Bool) → p ≡ true → (bs : List Tagged) → Clean fence down p bs
 clean-true fence down p h [] = tt
 clean-true fence down p h (b ∷ bs) = ((λ s. or-left p _ h), clean-true fence down p h bs)
 
-pub before-all : (n : ℕ) (ps : List Pending) → AllByRecursion (λ (s : Submission). s.place < n) (map (λ (p : Pending). p.submit) ps) → AreBefore n ps
+pub before-all : (n : ℕ) (ps : List Pending) → Each (λ (s : Submission). s.place < n) (map (λ (p : Pending). p.submit) ps) → AreBefore n ps
 before-all n [] h = tt
 before-all n (p ∷ ps) h = (apart n p.submit.place h.0, before-all n ps h.1)
   where

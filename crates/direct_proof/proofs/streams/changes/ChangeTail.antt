@@ -1,12 +1,12 @@
 -- The packets of a change behind the stops: the last stops all that runs, and they stand in line as the entry does.
 use Rattle.std.proofs.Common.{◌≡◌, ℕ, ◌≤◌, ◌||◌, Bool, true, false, cond, List, [], ◌∷◌, ◌++◌, length, Option, None, is_some, refl, sym, ap, ◌∙◌, subst, arith, append-nil, append_assoc}
 use Rattle.std.specs.Prelude.{zip}
+use Rattle.std.specs.List.{AllByRecursion as Each}
 use Rattle.usb_base.specs.declared.endpoint.EpTable.{EpTable}
 use Rattle.redir_data.specs.declared.packet.RedirPacket.{RedirPacket}
 use Rattle.control_route.specs.declared.route.Route.{Route}
 use Rattle.control_route.specs.declared.route.Route.TheVariants as route
 use Rattle.control_route.specs.Changes.{is_change}
-use Rattle.redir_host.specs.state.Sound.{Each}
 use Rattle.gate_history.specs.state.Ids.{draws, last_of}
 use Rattle.gate_history.specs.write.Packets.{route_packets}
 use Rattle.gate_history.specs.declared.request.Request.{Request}
@@ -16,7 +16,7 @@ use Rattle.direct_proof.specs.Shared.{lines}
 use Rattle.direct_proof.specs.Stale.{asks}
 use Rattle.direct_proof.specs.Running.{called_endpoint, started_kind, passes, CanStart, Quits, Trails, StartsFit}
 use Rattle.direct_proof.specs.Calls.{calls_on}
-use Rattle.direct_proof.proofs.streams.wires.Sorts.{is_of}
+use Rattle.direct_proof.proofs.streams.wires.Sorts.{is_for_endpoint}
 use Rattle.direct_proof.proofs.shared.Folds.{not-both}
 use Rattle.direct_proof.proofs.streams.wires.Folds.{quits-more}
 
@@ -48,7 +48,7 @@ is-tail r _ m f last h = absurd (not-both (sym h))
 pub quits-mute : (fence : Option ℕ) (e : ℕ) (r : Bool) (ps qs : List (ℕ × RedirPacket)) → Each IsMute qs → Quits fence e r ps → Quits fence e r (ps ++ qs)
 quits-mute fence e r ps [] h k = subst (Quits fence e r) (sym (append-nil ps)) k
 quits-mute fence e r ps (q ∷ qs) h k =
-    subst (Quits fence e r) (append_assoc ps (q ∷ []) qs) (quits-mute fence e r (ps ++ q ∷ []) qs h.1 (quits-more fence e r ps q (ap (λ (o : Option ℕ). is_of e o) h.0.0) k))
+    subst (Quits fence e r) (append_assoc ps (q ∷ []) qs) (quits-mute fence e r (ps ++ q ∷ []) qs h.1 (quits-more fence e r ps q (ap (λ (o : Option ℕ). is_for_endpoint e o) h.0.0) k))
 
 pub trails-mute : (fence : Option ℕ) (down : ℕ → Bool) (qs : List (ℕ × RedirPacket)) → Each IsMute qs → Trails fence down qs
 trails-mute fence down [] h = tt

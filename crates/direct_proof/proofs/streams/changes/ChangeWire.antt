@@ -1,13 +1,14 @@
 -- A change that the gateway accepts: the wire to the host after it.
 use Rattle.std.proofs.Common.{◌≡◌, ℕ, ◌⊎◌, inl, inr, Bool, true, false, List, [], ◌∷◌, ◌++◌, length, Some, None, is_none, is_some, sym, ap, ◌∙◌, subst, append-nil, append_assoc}
 use Rattle.std.specs.Prelude.{zip, get_or}
+use Rattle.std.specs.List.{AllByRecursion as Each}
 use Rattle.usb_base.specs.Endpoint.{endpoint_index}
 use Rattle.redir_data.specs.declared.packet.RedirPacket.{RedirPacket}
 use Rattle.control_route.specs.declared.route.Route.{Route}
 use Rattle.control_route.specs.Changes.{is_change}
 use Rattle.redir_host.specs.guest.Line.{Waiting as InLine}
-use Rattle.redir_host.specs.state.Sound.{Each}
 use Rattle.model_device.specs.Meaning.{Meaning}
+use Rattle.gate_history.proofs.lemmas.Lists.{Each-append}
 use Rattle.gate_history.specs.declared.request.Request.{Request}
 use Rattle.gate_history.specs.state.Flight.{wide_ids}
 use Rattle.gate_history.specs.state.Ids.{AreFresh, greatest, draws, last_of}
@@ -24,10 +25,9 @@ use Rattle.direct_proof.specs.Related.{Related}
 use Rattle.direct_proof.specs.Session.{Session, down_in, runs}
 use Rattle.direct_proof.specs.Kinds.{CallIsIn}
 use Rattle.direct_proof.specs.Running.{called_endpoint, started_kind, Quits, Trails}
-use Rattle.direct_proof.proofs.shared.Owed.{each-append}
 use Rattle.direct_proof.proofs.shared.Folds.{lines-append}
 use Rattle.direct_proof.proofs.shared.Streaming.{trails-append}
-use Rattle.direct_proof.proofs.streams.wires.Sorts.{runs-same, is_of}
+use Rattle.direct_proof.proofs.streams.wires.Sorts.{runs-same, is_for_endpoint}
 use Rattle.direct_proof.proofs.streams.wires.Lowered.{WasUp, why-down}
 use Rattle.direct_proof.proofs.streams.changes.Stops.{StopsOne, stopping, each-stops, ups-in, runs_all, runs_all-append, stops-off, stops-quit, quits-ends, trails-ends, quits-end, stops-lines, stops-in}
 use Rattle.direct_proof.proofs.streams.changes.Changing.{change_ids, change_sent}
@@ -91,9 +91,9 @@ module _ {S : Type 0} (m : Meaning S) (w : World S) (j : Shared) (r : Request) (
       ∙ sym (at_hosts-more j.coming (entry_of (last_of 0 (change_ids w.gate x)) r x))
 
   pub new-calls-in : Each (λ (p : ℕ × RedirPacket). CallIsIn (called_endpoint p.1)) (w.to_host ++ change_sent w.gate x)
-  new-calls-in = each-append (λ (p : ℕ × RedirPacket). CallIsIn (called_endpoint p.1)) w.to_host (change_sent w.gate x) rel.line.calls_in
+  new-calls-in = Each-append (λ (p : ℕ × RedirPacket). CallIsIn (called_endpoint p.1)) w.to_host (change_sent w.gate x) rel.line.calls_in
       (subst (Each (λ (p : ℕ × RedirPacket). CallIsIn (called_endpoint p.1))) (sym sent-is)
-      (each-append (λ (p : ℕ × RedirPacket). CallIsIn (called_endpoint p.1)) zs cs (stops-in (is_ended (Some x)) zs each) (subst (Each (λ (p : ℕ × RedirPacket). CallIsIn (called_endpoint p.1))) (sym tail.are) (quiet tail.first tail.mute, quiets tail.rest tail.rest_mute))))
+      (Each-append (λ (p : ℕ × RedirPacket). CallIsIn (called_endpoint p.1)) zs cs (stops-in (is_ended (Some x)) zs each) (subst (Each (λ (p : ℕ × RedirPacket). CallIsIn (called_endpoint p.1))) (sym tail.are) (quiet tail.first tail.mute, quiets tail.rest tail.rest_mute))))
     where
       quiet : (p : ℕ × RedirPacket) → IsMute p → CallIsIn (called_endpoint p.1)
       quiet p h = subst CallIsIn (sym h.0) tt
@@ -115,7 +115,7 @@ module _ {S : Type 0} (m : Meaning S) (w : World S) (j : Shared) (r : Request) (
       (quits-mute w.gate.fence e (runs w.host e) ((w.to_host ++ zs) ++ tail.first ∷ []) tail.rest tail.rest_mute
       (quits-ends w.gate.fence e (runs w.host e) (w.to_host ++ zs) tail.first (tail.asks-it w.gate.fence)
       (runs_all-append e (w.to_host ++ zs) (tail.first ∷ []) (runs w.host e)
-      ∙ runs-same e tail.first.1 (runs_all e (w.to_host ++ zs) (runs w.host e)) (ap (is_of e) tail.mute.0)
+      ∙ runs-same e tail.first.1 (runs_all e (w.to_host ++ zs) (runs w.host e)) (ap (is_for_endpoint e) tail.mute.0)
       ∙ runs_all-append e w.to_host zs (runs w.host e)
       ∙ stopped (why-down (is_ended (Some x)) w.gate.streams rel.ups e d))))
     where
@@ -133,7 +133,7 @@ module _ {S : Type 0} (m : Meaning S) (w : World S) (j : Shared) (r : Request) (
 
   pub none-started : Each (λ (p : ℕ × RedirPacket). started_kind p.1 ≡ None) (change_sent w.gate x)
   none-started = subst (Each (λ (p : ℕ × RedirPacket). started_kind p.1 ≡ None)) (sym (sent-is ∙ ap (λ (l : List (ℕ × RedirPacket)). zs ++ l) tail.are))
-      (each-append (λ (p : ℕ × RedirPacket). started_kind p.1 ≡ None) zs (tail.first ∷ tail.rest) (of-stops zs each) (tail.mute.1, of-mute tail.rest tail.rest_mute))
+      (Each-append (λ (p : ℕ × RedirPacket). started_kind p.1 ≡ None) zs (tail.first ∷ tail.rest) (of-stops zs each) (tail.mute.1, of-mute tail.rest tail.rest_mute))
     where
       of-stops : (ps : List (ℕ × RedirPacket)) → Each (StopsOne (is_ended (Some x))) ps → Each (λ (p : ℕ × RedirPacket). started_kind p.1 ≡ None) ps
       of-stops [] h = tt

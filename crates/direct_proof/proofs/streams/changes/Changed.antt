@@ -1,12 +1,12 @@
 -- A change that the gateway accepts: its ids, and those of the stops ahead of it.
 use Rattle.std.proofs.Common.{◌≡◌, ℕ, zero, suc, ◌+◌, ◌≤◌, ◌==◌, true, false, List, [], ◌∷◌, ◌++◌, length, Option, Some, None, refl, sym, ap, ◌∙◌, subst, arith, append-nil}
 use Rattle.std.specs.Prelude.{get_or}
-use Rattle.std.specs.List.{AllByRecursion}
+use Rattle.std.specs.List.{AllByRecursion as Each}
 use Rattle.redir_data.specs.declared.packet.RedirPacket.{RedirPacket}
 use Rattle.control_route.specs.declared.route.Route.{Route}
 use Rattle.control_route.specs.Changes.{is_change}
-use Rattle.redir_host.specs.state.Sound.{Each}
 use Rattle.model_device.specs.Meaning.{Meaning}
+use Rattle.gate_history.proofs.lemmas.Lists.{Each-append}
 use Rattle.gate_history.specs.declared.request.Request.{Request}
 use Rattle.gate_history.specs.state.Calls.{Calls, call_ids, called}
 use Rattle.gate_history.specs.state.Flight.{ids_of}
@@ -22,7 +22,6 @@ use Rattle.direct_proof.specs.Related.{Related}
 use Rattle.direct_proof.specs.Calls.{Controls, IsKept, CallIsKept, StatusIsKept, calls_on, statuses_on}
 use Rattle.direct_proof.specs.Kinds.{UpFits}
 use Rattle.direct_proof.specs.Running.{called_endpoint}
-use Rattle.direct_proof.proofs.shared.Owed.{each-append}
 use Rattle.direct_proof.proofs.shared.Streaming.{calls-append}
 use Rattle.direct_proof.proofs.streams.submits.Starting.{no-calls, no-statuses}
 use Rattle.direct_proof.proofs.streams.submits.Drawn.{any-back, times-some, times-distinct}
@@ -59,9 +58,9 @@ module _ {S : Type 0} (m : Meaning S) (w : World S) (j : Shared) (r : Request) (
         let a = ap (times n) (calls-append w.to_host (change_sent w.gate x) ∙ ap (λ (l : List ℕ). calls_on w.to_host ++ l) calls-sent) ∙ times-append n (calls_on w.to_host) (calls_on (zs m w j r x change rel gate)) in
         let b = stops-times (is_ended (Some x)) n (ids1 m w j r x change rel gate) (stops (is_ended (Some x)) w.gate.streams) in
         few n (times n (ids1 m w j r x change rel gate)) refl o a b;
-    calls_kept = each-append (λ (p : ℕ × RedirPacket). CallIsKept (called (zs m w j r x change rel gate) w.gate.calls) p.0 (called_endpoint p.1)) w.to_host (change_sent w.gate x) (olds w.to_host c.calls_kept)
+    calls_kept = Each-append (λ (p : ℕ × RedirPacket). CallIsKept (called (zs m w j r x change rel gate) w.gate.calls) p.0 (called_endpoint p.1)) w.to_host (change_sent w.gate x) (olds w.to_host c.calls_kept)
         (subst (Each (λ (p : ℕ × RedirPacket). CallIsKept (called (zs m w j r x change rel gate) w.gate.calls) p.0 (called_endpoint p.1))) (sym ((sent-is m w j r x change rel gate) ∙ ap (λ (l : List (ℕ × RedirPacket)). (zs m w j r x change rel gate) ++ l) (tail m w j r x change rel gate).are))
-        (each-append (λ (p : ℕ × RedirPacket). CallIsKept (called (zs m w j r x change rel gate) w.gate.calls) p.0 (called_endpoint p.1)) (zs m w j r x change rel gate) ((tail m w j r x change rel gate).first ∷ (tail m w j r x change rel gate).rest) (stops-new (is_ended (Some x)) (ids1 m w j r x change rel gate) 0 w.gate.streams w.gate.calls stand) (mutes ((tail m w j r x change rel gate).first ∷ (tail m w j r x change rel gate).rest) ((tail m w j r x change rel gate).mute, (tail m w j r x change rel gate).rest_mute))));
+        (Each-append (λ (p : ℕ × RedirPacket). CallIsKept (called (zs m w j r x change rel gate) w.gate.calls) p.0 (called_endpoint p.1)) (zs m w j r x change rel gate) ((tail m w j r x change rel gate).first ∷ (tail m w j r x change rel gate).rest) (stops-new (is_ended (Some x)) (ids1 m w j r x change rel gate) 0 w.gate.streams w.gate.calls stand) (mutes ((tail m w j r x change rel gate).first ∷ (tail m w j r x change rel gate).rest) ((tail m w j r x change rel gate).mute, (tail m w j r x change rel gate).rest_mute))));
     statuses_kept = statuses j.back c.statuses_kept;
   })
     where
@@ -114,7 +113,7 @@ module _ {S : Type 0} (m : Meaning S) (w : World S) (j : Shared) (r : Request) (
           length-more [] ys = omega arith
           length-more (y ∷ xs) ys = let e = length-more xs ys in omega (arith, e)
 
-      of-last : (P : ℕ → Type 0) (ids : List ℕ) → 1 ≤ length ids → AllByRecursion P ids → (a : ℕ) → P (last_of a ids)
+      of-last : (P : ℕ → Type 0) (ids : List ℕ) → 1 ≤ length ids → Each P ids → (a : ℕ) → P (last_of a ids)
       of-last P [] h k a = absurd (omega (arith, h))
       of-last P (id ∷ []) h k a = k.0
       of-last P (id ∷ (i ∷ ids)) h k a = of-last P (i ∷ ids) (omega arith) k.1 id

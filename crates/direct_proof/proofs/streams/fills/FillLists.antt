@@ -1,8 +1,7 @@
 -- Lists, of which one in the middle is taken out.
 use Rattle.std.proofs.Common.{◌≡◌, ℕ, zero, suc, ◌≤◌, ◌&&◌, not, Bool, true, false, cond, List, [], ◌∷◌, ◌++◌, filter, Some, refl, ap, ◌∙◌, arith}
-use Rattle.std.specs.List.{find}
+use Rattle.std.specs.List.{find, AllByRecursion as Each}
 use Rattle.std.specs.Prelude.{slice_set}
-use Rattle.redir_host.specs.state.Sound.{Each}
 use Rattle.direct_device.specs.Direct.{Live, is_number}
 use Rattle.direct_proof.specs.Ids.{count}
 use Rattle.direct_proof.proofs.lists.Counts.{count-append, zero-count}
@@ -41,10 +40,6 @@ others p xs x ys few k =
 
 pub apart-middle : (xs : List Live) (x : Live) (ys : List Live) → AreApart (xs ++ x ∷ ys) → AreApart (xs ++ ys)
 apart-middle xs x ys h = λ n. let p : Live → Bool = λ l. is_number n l.load in let few = h n in omega (arith, few, count-append p xs (x ∷ ys), count-append p xs ys)
-
-pub each-end : {X : Type 0} (P : X → Type 0) (xs : List X) (x : X) → Each P xs → P x → Each P (xs ++ x ∷ [])
-each-end P [] x h k = (k, tt)
-each-end P (y ∷ xs) x h k = (h.0, each-end P xs x h.1 k)
 
 pub and-parts : (a b : Bool) → (a && b) ≡ true → (a ≡ true) × (b ≡ true)
 and-parts true b h = (refl, h)

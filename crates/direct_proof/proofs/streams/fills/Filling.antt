@@ -1,6 +1,6 @@
 -- What is held of a stream fills those that wait for it: at the device attached directly that is one answer after another.
 use Rattle.std.proofs.Common.{◌≡◌, ℕ, ◌<◌, ◌==◌, Bool, true, false, cond, List, [], ◌∷◌, ◌++◌, length, map, Option, Some, None, is_some, refl, sym, ap, ◌∙◌, subst, arith, append-nil, append_assoc}
-use Rattle.std.specs.List.{find}
+use Rattle.std.specs.List.{find, AllByRecursion as Each}
 use Rattle.std.specs.Prelude.{slice_set, slice_get, drop, option_and_then, IsSomeAnd, IsSome}
 use Rattle.std.proofs.lemmas.List.{get_or-set_same, length-set, set-get_or}
 use Rattle.usb_base.specs.Endpoint.{endpoint_index}
@@ -11,17 +11,17 @@ use Rattle.usbip_urb.specs.declared.client.ClientPacket.TheVariants.{Urb}
 use Rattle.usb_base.specs.declared.transfer.StreamPacket.{StreamPacket}
 use Rattle.stream_buffers.specs.Cuts.{Cut}
 use Rattle.model_device.specs.Meaning.{Meaning}
+use Rattle.redir_host.proofs.lemmas.state.Each.{each_appended}
 use Rattle.gate_history.specs.host.Fillings.{Given, cut_of}
 use Rattle.gate_history.specs.client.Submits.{waits_at, is_waiting}
 use Rattle.gate_history.specs.write.Answers.{with_given}
 use Rattle.gate_history.specs.state.Ups.{Up, stream_at, hold}
-use Rattle.redir_host.specs.state.Sound.{Each}
 use Rattle.direct_device.specs.Direct.{Live, Direct, number, is_number, as_submission}
 use Rattle.direct_device.specs.Acting.{Deed, Answer, answers, answered_by, answers_of, filled_by as fills, filled_answers, cut_for, without_number, ran_answers}
 use Rattle.direct_device.specs.Legal.{CanAnswerBy}
 use Rattle.direct_proof.proofs.lists.Counts.{itself}
 use Rattle.direct_proof.proofs.streams.Keeping.{Does, does-nothing, does-then}
-use Rattle.direct_proof.proofs.streams.fills.FillLists.{AreApart, set-twice, find-middle, filter-middle, others, apart-middle, each-end, and-parts}
+use Rattle.direct_proof.proofs.streams.fills.FillLists.{AreApart, set-twice, find-middle, filter-middle, others, apart-middle, and-parts}
 
 -- ---- what comes of those that wait, in their order
 
@@ -161,7 +161,7 @@ module _ {S : Type 0} (m : Meaning S) (ep max : ℕ) where
           Goal (fill_one b max l ls held (fill_all max ep ls))
       go false e skip rest =
           subst (λ (xs : List Live). Does m d (filled_deeds (fill_all max ep ls held)) (record d { live = xs; streams = hold ep (fill_all max ep ls held).left d.streams }) (filled_outs (fill_all max ep ls held))) (joined (fill_all max ep ls held).live)
-          (skip (live ∙ sym (joined ls)) (subst AreApart (sym (joined ls)) apart) (each-end (λ y. waits ep y ≡ false) kept l ahead e) holds)
+          (skip (live ∙ sym (joined ls)) (subst AreApart (sym (joined ls)) apart) (each_appended (λ y. waits ep y ≡ false) kept l ahead e) holds)
       go true e skip rest = by (cut_of max l.load.request held) refl
         where
           by : (o : Option (Cut Given)) → cut_of max l.load.request held ≡ o → Goal (fill_by l ls held o (fill_all max ep ls))

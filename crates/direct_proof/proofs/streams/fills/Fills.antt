@@ -1,6 +1,6 @@
 -- What packets fill at the gateway is what they fill at the device attached directly.
 use Rattle.std.proofs.Common.{◌≡◌, ℕ, ◌≤◌, ◌==◌, Bool, true, false, cond, List, [], ◌∷◌, ◌++◌, map, filter, Option, Some, None, is_none, refl, ap, ◌∙◌, arith}
-use Rattle.std.specs.List.{flat_map}
+use Rattle.std.specs.List.{flat_map, AllByRecursion as Each}
 use Rattle.std.specs.Option.{option_map}
 use Rattle.usbip_urb.specs.declared.packet.UrbPacket.{UrbPacket}
 use Rattle.usb_base.specs.declared.transfer.StreamPacket.{StreamPacket}
@@ -10,7 +10,6 @@ use Rattle.gate_history.specs.host.Fillings.{Given, Fill, Filling, fill, filled_
 use Rattle.gate_history.specs.client.Submits.{Pending, End, ByPackets, waits_at, packets_end}
 use Rattle.gate_history.specs.write.Answers.{answers_at, with_given}
 use Rattle.gate_history.specs.write.Notes.{is_by_answer}
-use Rattle.redir_host.specs.state.Sound.{Each}
 use Rattle.direct_device.specs.Direct.{Live}
 use Rattle.direct_proof.specs.Requests.{live_of}
 use Rattle.direct_proof.specs.Ids.{count}

@@ -3,7 +3,7 @@ use Rattle.std.proofs.Common.{◌≡◌, ℕ, ◌||◌, Bool, true, false, List,
 use Rattle.redir_data.specs.declared.packet.RedirPacket.{RedirPacket}
 use Rattle.model_device.specs.Meaning.{Meaning}
 use Rattle.redir_host.specs.guest.Line.{Waiting as InLine}
-use Rattle.redir_host.specs.state.Sound.{Each}
+use Rattle.gate_history.proofs.lemmas.Lists.{Each-append}
 use Rattle.gate_history.specs.write.Bytes.{gateway_hello}
 use Rattle.direct_run.specs.Moves.{World, HostReads}
 use Rattle.direct_proof.specs.Shared.{Shared, lines, half_line, at_hosts, in_line, view}
@@ -18,7 +18,7 @@ use Rattle.direct_proof.proofs.streams.wires.Sorts.{IsCall, Calls_or, is-call, a
 use Rattle.direct_proof.proofs.shared.Folds.{clash, or-false, not-both, or-left, or-right}
 use Rattle.direct_proof.proofs.streams.hears.Calling.{HostCalls, host-calls}
 use Rattle.direct_proof.proofs.streams.hears.CalledFence.{called_world, called-moved, unheard-moved, unfenced, stays-clean, fenced-called}
-use Rattle.std.specs.List.{list_any}
+use Rattle.std.specs.List.{list_any, AllByRecursion as Each}
 use Rattle.redir_data.specs.Streams.{advanced}
 use Rattle.redir_host.specs.declared.running.Running.{Running}
 use Rattle.redir_host.specs.guest.Packets.{runs_at}
@@ -32,7 +32,6 @@ use Rattle.direct_proof.specs.Requests.{ran_of}
 use Rattle.direct_proof.specs.Ids.{Ids}
 use Rattle.direct_proof.specs.Stale.{asks, is_fence}
 use Rattle.direct_proof.proofs.shared.Traces.{map-append}
-use Rattle.direct_proof.proofs.shared.Owed.{each-append}
 use Rattle.direct_proof.proofs.shared.Keeps.{Keeps, keeps-quiet}
 use Rattle.direct_proof.proofs.streams.wires.SortsMore.{call-stays}
 use Rattle.direct_proof.proofs.streams.wires.Folds.{or-either, quits-off}
@@ -163,7 +162,7 @@ module _ {S : Type 0} (m : Meaning S) (w : World S) (j : Shared) (rel : Related 
     related = record {
       line = queued;
       answers = ap (λ (l : List (ℕ × RedirPacket)). l ++ on_wire b ∷ []) rel.answers ∙ sym (map-append on_wire j.back (b ∷ []));
-      tagged = each-append (TaggedOfKind w.gate.streams) j.back (b ∷ []) rel.tagged ((c.is_in.low, c.is_in.high, refl), tt);
+      tagged = Each-append (TaggedOfKind w.gate.streams) j.back (b ∷ []) rel.tagged ((c.is_in.low, c.is_in.high, refl), tt);
       ids = subst (Ids j.debts w.submits (j.held ++ j.coming)) (sym (runs-last j.back b refl)) rel.ids;
       real = rel.real;
       runs_at_in = c.ins;
@@ -174,7 +173,7 @@ module _ {S : Type 0} (m : Meaning S) (w : World S) (j : Shared) (rel : Related 
       controls = λ h. record {
         once = λ id. let o = controls.once id in let a = times-append id (call_id q) (calls_on ps) ∙ ap (λ (l : List ℕ). times id l + times id (calls_on ps)) is_call.id in let z = ap (times id) statuses ∙ times-append id (statuses_on j.back) (q.0 ∷ []) in omega (arith, o, a, z);
         calls_kept = controls.calls_kept.1;
-        statuses_kept = each-append (StatusIsKept w.gate.calls) j.back (b ∷ []) controls.statuses_kept (subst (CallIsKept w.gate.calls q.0) c.at controls.calls_kept.0, tt);
+        statuses_kept = Each-append (StatusIsKept w.gate.calls) j.back (b ∷ []) controls.statuses_kept (subst (CallIsKept w.gate.calls q.0) c.at controls.calls_kept.0, tt);
       };
       fenced = λ h. new-fenced;
       alone = rel.alone;

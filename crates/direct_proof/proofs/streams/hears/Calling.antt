@@ -1,6 +1,6 @@
 -- The host reads a start or a stop: its streams run as the packet says, and it tells of a success.
 use Rattle.std.proofs.Common.{◌≡◌, ℕ, ◌==◌, ◌||◌, not, Bool, true, false, cond, List, [], ◌∷◌, ◌++◌, Option, Some, None, refl, sym, ap, ◌∙◌, arith}
-use Rattle.std.specs.List.{list_any}
+use Rattle.std.specs.List.{list_any, AllByRecursion as Each}
 use Rattle.redir_wire.specs.declared.packet.RedirControl.TheVariants as plain
 use Rattle.redir_data.specs.declared.packet.RedirPacket.{RedirPacket}
 use Rattle.redir_data.specs.declared.packet.RedirPacket.TheVariants.{Plain, Carrying}
@@ -12,12 +12,11 @@ use Rattle.redir_host.specs.declared.running.StreamKind.{StreamKind}
 use Rattle.redir_host.specs.declared.running.StreamKind.TheVariants.{Iso, Interrupt}
 use Rattle.redir_host.specs.step.Moves.{replies}
 use Rattle.redir_host.specs.guest.Packets.{packet_move_by, runs_at, started, stopped, start_move}
-use Rattle.redir_host.specs.state.Sound.{Each}
+use Rattle.gate_history.proofs.lemmas.Lists.{Each-append, Each-filter}
 use Rattle.gate_history.specs.state.Ups.{Up, stream_of}
 use Rattle.direct_proof.specs.Tagged.{Stated, on_wire}
 use Rattle.direct_proof.specs.Kinds.{IsIn, OfKind, StartOfKind, CallIsIn}
 use Rattle.direct_proof.specs.Running.{CanStart, called_endpoint, started_kind, runs_after}
-use Rattle.direct_proof.proofs.shared.Owed.{each-append, each-filter}
 
 -- ---- those that run
 
@@ -94,8 +93,8 @@ module _ {S : Type 0} (m : Meaning S) (h : Host S) (ups : List (Option Up)) (kin
     moved = moved;
     same = same;
     runs-are = λ e. started-runs k ep e h.running ∙ runs e (list_any (runs_at e) h.running);
-    kinds = each-append (λ (s : Running). OfKind (stream_of ups s.ep) s.kind) (stopped ep h.running) (record { ep = ep; kind = k } ∷ []) (each-filter (λ (s : Running). OfKind (stream_of ups s.ep) s.kind) (λ s. not (runs_at ep s)) h.running kinds) (kind, tt);
-    ins = each-append (λ (s : Running). IsIn s.ep) (stopped ep h.running) (record { ep = ep; kind = k } ∷ []) (each-filter (λ (s : Running). IsIn s.ep) (λ s. not (runs_at ep s)) h.running ins) (is_in, tt);
+    kinds = Each-append (λ (s : Running). OfKind (stream_of ups s.ep) s.kind) (stopped ep h.running) (record { ep = ep; kind = k } ∷ []) (Each-filter (λ (s : Running). OfKind (stream_of ups s.ep) s.kind) (λ s. not (runs_at ep s)) h.running kinds) (kind, tt);
+    ins = Each-append (λ (s : Running). IsIn s.ep) (stopped ep h.running) (record { ep = ep; kind = k } ∷ []) (Each-filter (λ (s : Running). IsIn s.ep) (λ s. not (runs_at ep s)) h.running ins) (is_in, tt);
   }
 
   stopping : (id ep : ℕ) (k : StreamKind) (p : RedirPacket) → called_endpoint p ≡ Some ep → IsIn ep →
@@ -110,8 +109,8 @@ module _ {S : Type 0} (m : Meaning S) (h : Host S) (ups : List (Option Up)) (kin
     moved = moved;
     same = same;
     runs-are = λ e. stopped-runs ep e h.running ∙ runs e (list_any (runs_at e) h.running);
-    kinds = each-filter (λ (s : Running). OfKind (stream_of ups s.ep) s.kind) (λ s. not (runs_at ep s)) h.running kinds;
-    ins = each-filter (λ (s : Running). IsIn s.ep) (λ s. not (runs_at ep s)) h.running ins;
+    kinds = Each-filter (λ (s : Running). OfKind (stream_of ups s.ep) s.kind) (λ s. not (runs_at ep s)) h.running kinds;
+    ins = Each-filter (λ (s : Running). IsIn s.ep) (λ s. not (runs_at ep s)) h.running ins;
   }
 
   pub host-calls : (q : ℕ × RedirPacket) (x : ℕ) → called_endpoint q.1 ≡ Some x → CallIsIn (called_endpoint q.1) → (changing : Bool) → CanStart (m.table h.gadget) changing (started_kind q.1) → StartOfKind ups (started_kind q.1) → HostCalls m h ups q

@@ -12,6 +12,8 @@ use Rattle.redir_host.specs.declared.running.Running.{Running}
 use Rattle.redir_host.specs.device.Facts.{ep_info_of}
 use Rattle.redir_host.specs.device.Offering.{stream_packet}
 use Rattle.redir_host.specs.guest.Packets.{runs_at}
+use Rattle.redir_host.proofs.lemmas.state.Each.{each_found}
+use Rattle.gate_history.proofs.lemmas.Lists.{Each-append}
 use Rattle.gate_history.specs.state.Ups.{stream_of}
 use Rattle.gate_history.specs.declared.facts.Facts.{Facts}
 use Rattle.direct_device.specs.Acting.{Offer, offered_by}
@@ -29,13 +31,12 @@ use Rattle.direct_proof.specs.Meets.{is_announced}
 use Rattle.direct_proof.specs.Cancels.{any_change}
 use Rattle.direct_proof.specs.Running.{StartsFit, Quits}
 use Rattle.direct_proof.proofs.shared.Traces.{map-append}
-use Rattle.direct_proof.proofs.shared.Owed.{each-append}
 use Rattle.direct_proof.proofs.shared.Keeps.{Keeps, keeps-quiet}
 use Rattle.direct_proof.proofs.streams.Keeping.{Does, keeps-made}
 use Rattle.direct_proof.proofs.shared.Folds.{clash, or-left}
 use Rattle.direct_proof.proofs.shared.Backs.{clean-append}
 use Rattle.direct_proof.proofs.streams.wires.Folds.{quits-runs}
-use Rattle.direct_proof.proofs.streams.wires.Growing.{found-each, found-any, runs-last, told-last, no-fact, way-offered}
+use Rattle.direct_proof.proofs.streams.wires.Growing.{found-any, runs-last, told-last, no-fact, way-offered}
 use Rattle.direct_proof.proofs.shared.Sending.{meets-sent, farewell-sent}
 use Rattle.direct_proof.proofs.shared.Streaming.{controls-sent, fenced-sent}
 use Rattle.direct_proof.proofs.streams.wires.Pending.{asked-pending}
@@ -81,13 +82,13 @@ module _ {S : Type 0} (m : Meaning S) (laws : IsGadget m) (w : World S) (j : Sha
   facts = subst (λ (o : Option (S × StreamPacket)). IfSome o (λ x. SameFacts m w.host.gadget x.0)) ready (laws.offer_keeps w.host.gadget ep)
 
   at : s.ep ≡ ep
-  at = let e = (found-each (λ (x : Running). IsIn x.ep) (runs_at ep) w.host.running s rel.runs_at_in found).1 in grind (arith, e)
+  at = let e = (each_found (λ (x : Running). IsIn x.ep) (runs_at ep) w.host.running s rel.runs_at_in found).1 in grind (arith, e)
 
   is-in : IsIn ep
-  is-in = subst IsIn at (found-each (λ (x : Running). IsIn x.ep) (runs_at ep) w.host.running s rel.runs_at_in found).0
+  is-in = subst IsIn at (each_found (λ (x : Running). IsIn x.ep) (runs_at ep) w.host.running s rel.runs_at_in found).0
 
   kind : OfKind (stream_of w.gate.streams ep) s.kind
-  kind = subst (λ (e : ℕ). OfKind (stream_of w.gate.streams e) s.kind) at (found-each (λ (x : Running). OfKind (stream_of w.gate.streams x.ep) x.kind) (runs_at ep) w.host.running s session.kinds found).0
+  kind = subst (λ (e : ℕ). OfKind (stream_of w.gate.streams e) s.kind) at (each_found (λ (x : Running). OfKind (stream_of w.gate.streams x.ep) x.kind) (runs_at ep) w.host.running s session.kinds found).0
 
   came : TaggedOfKind w.gate.streams (Packed s.kind ep sent.1)
   came = (is-in.low, is-in.high, subst (λ (o : Option (S × StreamPacket)). IfSome o (λ x. IsNamed x.1.status)) ready (laws.offer_named w.host.gadget ep), kind)
@@ -119,7 +120,7 @@ module _ {S : Type 0} (m : Meaning S) (laws : IsGadget m) (w : World S) (j : Sha
   related = record {
     line = rel.line;
     answers = ap (λ (l : List (ℕ × RedirPacket)). l ++ stream_packet s.kind ep sent.1 ∷ []) rel.answers ∙ sym (map-append on_wire j.back (Packed s.kind ep sent.1 ∷ []));
-    tagged = each-append (TaggedOfKind w.gate.streams) j.back (Packed s.kind ep sent.1 ∷ []) rel.tagged (came, tt);
+    tagged = Each-append (TaggedOfKind w.gate.streams) j.back (Packed s.kind ep sent.1 ∷ []) rel.tagged (came, tt);
     ids = subst (Ids j.debts w.submits (j.held ++ j.coming)) (sym (runs-last j.back (Packed s.kind ep sent.1) refl)) rel.ids;
     real = rel.real;
     runs_at_in = rel.runs_at_in;

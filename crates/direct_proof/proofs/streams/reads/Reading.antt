@@ -1,9 +1,8 @@
 -- The gateway reads a packet that is neither an answer nor a fact: what is shared is kept, whatever it makes of streams, of those
 -- that wait for them, and of the fence.
 use Rattle.std.proofs.Common.{◌≡◌, ℕ, ◌||◌, Bool, true, false, List, [], ◌∷◌, ◌++◌, map, Option, None, is_some, refl, sym, ap, ◌∙◌, subst, arith}
-use Rattle.std.specs.List.{list_any}
+use Rattle.std.specs.List.{list_any, AllByRecursion as Each}
 use Rattle.model_device.specs.Meaning.{Meaning}
-use Rattle.redir_host.specs.state.Sound.{Each}
 use Rattle.usb_base.specs.declared.transfer.StreamPacket.{StreamPacket}
 use Rattle.redir_host.specs.declared.running.StreamKind.{StreamKind}
 use Rattle.gate_history.specs.state.Facts.{tell}

@@ -1,6 +1,7 @@
 -- What the gateway's laws say where it accepts a submit that waits: its id is free, and its number differs.
 use Rattle.direct_proof.proofs.streams.submits.Drawn.{any-back}
 use Rattle.std.proofs.Common.{◌≡◌, ℕ, ◌≤◌, ◌==◌, Bool, true, false, List, [], ◌∷◌, ◌++◌, map, refl, ap, subst, arith}
+use Rattle.std.specs.List.{AllByRecursion as Each}
 use Rattle.usb_base.specs.declared.endpoint.EpRow.{EpRow}
 use Rattle.gate_history.specs.declared.request.Request.{Request}
 use Rattle.gate_history.specs.state.Flight.{wide_ids, ids_of}
@@ -9,7 +10,6 @@ use Rattle.gate_history.specs.state.Calls.{call_ids}
 use Rattle.gate_history.specs.step.Marks.{Submission}
 use Rattle.gate_history.specs.client.Submits.{Pending}
 use Rattle.gate_history.specs.write.Output.{fresh}
-use Rattle.redir_host.specs.state.Sound.{Each}
 use Rattle.gate_history.specs.state.Sound.{IsSound}
 use Rattle.gate_history.specs.state.State.{State, submits, flying, next_ids, has_number, is_number as has_seq}
 use Rattle.gate_history.proofs.lemmas.state.Calls.{AreLong}

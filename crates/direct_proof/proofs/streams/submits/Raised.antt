@@ -1,15 +1,15 @@
 -- A stream that is down goes up: nothing of it is under way, and its start is.
 use Rattle.direct_proof.proofs.streams.submits.RaisedLists.{packets-none, none-runs}
 use Rattle.std.proofs.Common.{◌≡◌, ℕ, ◌+◌, ◌≤◌, ◌==◌, ◌||◌, ◌⊎◌, Bool, true, false, cond, List, [], ◌∷◌, ◌++◌, Option, Some, None, is_none, refl, sym, ap, ◌∙◌, subst, arith, append-nil}
-use Rattle.std.specs.List.{list_any}
+use Rattle.std.specs.List.{list_any, AllByRecursion as Each}
 use Rattle.usb_base.specs.Endpoint.{row_of}
 use Rattle.usb_base.specs.declared.endpoint.EpKind.TheVariants as kind
 use Rattle.usb_base.specs.declared.endpoint.EpRow.{EpRow}
 use Rattle.redir_wire.specs.declared.packet.RedirControl.TheVariants as plain
 use Rattle.redir_data.specs.declared.packet.RedirPacket.{RedirPacket}
 use Rattle.redir_host.specs.guest.Line.{Waiting as InLine}
-use Rattle.redir_host.specs.state.Sound.{Each}
 use Rattle.model_device.specs.Meaning.{Meaning}
+use Rattle.gate_history.proofs.lemmas.Lists.{Each-append}
 use Rattle.gate_history.specs.state.Calls.{call_ids, started}
 use Rattle.gate_history.specs.state.Ids.{times, holds}
 use Rattle.gate_history.specs.write.Packets.{start_packet}
@@ -27,13 +27,12 @@ use Rattle.direct_proof.specs.Kinds.{IsIn, OfKind, TaggedOfKind, StartOfKind, Ca
 use Rattle.direct_proof.specs.Running.{CanStart, called_endpoint, started_kind, passes}
 use Rattle.direct_proof.specs.Cancels.{IsAsking, any_change, is_change}
 use Rattle.direct_proof.specs.Stale.{is_stale, asks}
-use Rattle.direct_proof.proofs.shared.Owed.{each-append}
 use Rattle.direct_proof.proofs.streams.fills.FillLists.{weight}
 use Rattle.direct_proof.proofs.streams.submits.Still.{IsStill}
 use Rattle.direct_proof.proofs.shared.Folds.{clash, or-none, any-append, lines-append}
 use Rattle.direct_proof.proofs.shared.Streaming.{calls-append, trails-append}
 use Rattle.direct_proof.proofs.streams.wires.Folds.{clean-weaker, quits-more, trails-weaker, starts-append, cancels-more}
-use Rattle.direct_proof.proofs.streams.wires.Sorts.{is_of as is_at}
+use Rattle.direct_proof.proofs.streams.wires.Sorts.{is_for_endpoint as is_at}
 use Rattle.direct_proof.proofs.streams.wires.UpRows.{fits-set}
 use Rattle.direct_proof.proofs.streams.submits.Starting.{can-start, kept-new, kept-other, no-calls, no-statuses}
 use Rattle.direct_proof.proofs.streams.submits.Waited.{AfterWait, streams_world}
@@ -64,7 +63,7 @@ module _ {S : Type 0} (m : Meaning S) (w : World S) (j : Shared) (ep id : ℕ) (
   controls : Controls (started ep id w.gate.calls) (ps m w j ep id row rel s h kinds same-row down long free) j.back
   controls = let c = rel.controls s.there in record {
     once = λ n. go n (n == id) refl c;
-    calls_kept = each-append (λ (p : ℕ × RedirPacket). CallIsKept (started ep id w.gate.calls) p.0 (called_endpoint p.1)) w.to_host ((q m w j ep id row rel s h kinds same-row down long free) ∷ []) (calls-kept w.to_host (none-called m w j ep id row rel s h kinds same-row down long free) rel.line.calls_in c.calls_kept)
+    calls_kept = Each-append (λ (p : ℕ × RedirPacket). CallIsKept (started ep id w.gate.calls) p.0 (called_endpoint p.1)) w.to_host ((q m w j ep id row rel s h kinds same-row down long free) ∷ []) (calls-kept w.to_host (none-called m w j ep id row rel s h kinds same-row down long free) rel.line.calls_in c.calls_kept)
         (subst (CallIsKept (started ep id w.gate.calls) id) (sym (start m w j ep id row rel s h kinds same-row down long free).called) (kept-new w.gate.calls id ep long h), tt);
     statuses_kept = statuses-kept j.back s.fresh rel.tagged c.statuses_kept;
   }
@@ -104,7 +103,7 @@ module _ {S : Type 0} (m : Meaning S) (w : World S) (j : Shared) (ep id : ℕ) (
         ((λ d. absurd (clash (down_in (ups m w j ep id row rel s h kinds same-row down long free) ep) (sym (ap (passes (down_in (ups m w j ep id row rel s h kinds same-row down long free))) (start m w j ep id row rel s h kinds same-row down long free).called) ∙ d) (ap is_none (up-here m w j ep id row rel s h kinds same-row down long free)))), tt);
     starts = starts-append (m.table w.host.gadget) (any_change j.held || j.half) w.to_host ((q m w j ep id row rel s h kinds same-row down long free) ∷ []) s.session.starts (can, tt);
     kinds = (running-kinds m w j ep id row rel s h kinds same-row down long free) w.host.running (none-runs ep w.host.running (runs-not m w j ep id row rel s h kinds same-row down long free)) s.session.kinds;
-    start_kinds = each-append (λ (p : ℕ × RedirPacket). StartOfKind (ups m w j ep id row rel s h kinds same-row down long free) (started_kind p.1)) w.to_host ((q m w j ep id row rel s h kinds same-row down long free) ∷ []) ((start-kinds m w j ep id row rel s h kinds same-row down long free) w.to_host (none-called m w j ep id row rel s h kinds same-row down long free) s.session.start_kinds)
+    start_kinds = Each-append (λ (p : ℕ × RedirPacket). StartOfKind (ups m w j ep id row rel s h kinds same-row down long free) (started_kind p.1)) w.to_host ((q m w j ep id row rel s h kinds same-row down long free) ∷ []) ((start-kinds m w j ep id row rel s h kinds same-row down long free) w.to_host (none-called m w j ep id row rel s h kinds same-row down long free) s.session.start_kinds)
         (subst (StartOfKind (ups m w j ep id row rel s h kinds same-row down long free)) (sym (start m w j ep id row rel s h kinds same-row down long free).started-is) (subst (λ (o : Option Up). OfKind o (start m w j ep id row rel s h kinds same-row down long free).kind) (sym (up-here m w j ep id row rel s h kinds same-row down long free)) (start m w j ep id row rel s h kinds same-row down long free).right), tt);
   }
     where
@@ -114,11 +113,11 @@ module _ {S : Type 0} (m : Meaning S) (w : World S) (j : Shared) (ep id : ℕ) (
   pub after-raised : AfterWait m w j (ps m w j ep id row rel s h kinds same-row down long free) (started ep id w.gate.calls) (ups m w j ep id row rel s h kinds same-row down long free)
   after-raised = record {
     tagged = (tagged m w j ep id row rel s h kinds same-row down long free) j.back s.fresh rel.tagged;
-    calls_in = each-append (λ (p : ℕ × RedirPacket). CallIsIn (called_endpoint p.1)) w.to_host ((q m w j ep id row rel s h kinds same-row down long free) ∷ []) rel.line.calls_in (subst CallIsIn (sym (start m w j ep id row rel s h kinds same-row down long free).called) h, tt);
+    calls_in = Each-append (λ (p : ℕ × RedirPacket). CallIsIn (called_endpoint p.1)) w.to_host ((q m w j ep id row rel s h kinds same-row down long free) ∷ []) rel.line.calls_in (subst CallIsIn (sym (start m w j ep id row rel s h kinds same-row down long free).called) h, tt);
     line = ap (λ (l : List InLine). half_line j.half ++ l) (lines-append w.to_host ((q m w j ep id row rel s h kinds same-row down long free) ∷ []) ∙ ap (λ (l : List InLine). lines w.to_host ++ (l ++ [])) (call m w j ep id row rel s h kinds same-row down long free).line ∙ append-nil (lines w.to_host)) ∙ rel.line.coming;
     controls = controls;
     fenced-is = subst (λ (f : Option ℕ). Fenced f j.fenced (ps m w j ep id row rel s h kinds same-row down long free) j.back) (sym s.no_fence) s.fenced-is;
-    asked = λ first. each-append (λ (p : ℕ × RedirPacket). IsAsking p.1) w.to_host ((q m w j ep id row rel s h kinds same-row down long free) ∷ []) (rel.asked first) (asks-start (is_iso row.kind), tt);
+    asked = λ first. Each-append (λ (p : ℕ × RedirPacket). IsAsking p.1) w.to_host ((q m w j ep id row rel s h kinds same-row down long free) ∷ []) (rel.asked first) (asks-start (is_iso row.kind), tt);
     cancels = cancels-more j.held w.to_host (q m w j ep id row rel s h kinds same-row down long free) j.coming (call m w j ep id row rel s h kinds same-row down long free).no_cancel rel.line.cancels;
     session = new-session;
     fits = fits-set w.gate.streams ep (Some (up m w j ep id row rel s h kinds same-row down long free)) h (h, refl, kinds) rel.ups;

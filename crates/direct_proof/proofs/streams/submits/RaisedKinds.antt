@@ -1,14 +1,13 @@
 -- A stream that is down goes up: nothing of it is under way, and what is of others stays of their kinds.
 use Rattle.std.proofs.Common.{◌≡◌, ℕ, ◌==◌, ◌⊎◌, Bool, true, false, List, [], ◌∷◌, ◌++◌, Option, Some, None, is_none, refl, sym, ap, ◌∙◌, subst, arith}
 use Rattle.std.specs.Prelude.{slice_set}
-use Rattle.std.specs.List.{list_any}
+use Rattle.std.specs.List.{list_any, AllByRecursion as Each}
 use Rattle.usb_base.specs.Endpoint.{endpoint_index, row_of}
 use Rattle.usb_base.specs.declared.endpoint.EpKind.TheVariants as kind
 use Rattle.usb_base.specs.declared.endpoint.EpRow.{EpRow}
 use Rattle.redir_data.specs.declared.packet.RedirPacket.{RedirPacket}
 use Rattle.redir_host.specs.declared.running.Running.{Running}
 use Rattle.redir_host.specs.declared.running.StreamKind.{StreamKind}
-use Rattle.redir_host.specs.state.Sound.{Each}
 use Rattle.model_device.specs.Meaning.{Meaning}
 use Rattle.gate_history.specs.state.Calls.{call_ids}
 use Rattle.gate_history.specs.state.Ids.{holds}

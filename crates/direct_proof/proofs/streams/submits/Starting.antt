@@ -1,7 +1,7 @@
 -- A start: what its packet is, and the ids of starts and stops with it.
 use Rattle.std.proofs.Common.{◌≡◌, ℕ, zero, suc, ◌+◌, ◌≤◌, ◌<◌, ◌%◌, ◌==◌, ◌&&◌, ◌||◌, ◌⊎◌, inl, inr, nat_lt, not, Bool, true, false, cond, List, [], ◌∷◌, Option, Some, None, is_some, refl, sym, ap, ◌∙◌, subst, arith}
 use Rattle.std.specs.Prelude.{get_or, slice_set}
-use Rattle.std.specs.List.{list_any, flat_map}
+use Rattle.std.specs.List.{list_any, flat_map, AllByRecursion as Each}
 use Rattle.std.specs.Option.{option_to_list}
 use Rattle.std.proofs.lemmas.List.{get_or-set_same, get_or-set_other}
 use Rattle.usb_base.specs.Endpoint.{endpoint_index, is_in_endpoint, row_of}
@@ -14,8 +14,7 @@ use Rattle.redir_data.specs.declared.packet.RedirPacket.{RedirPacket}
 use Rattle.redir_data.specs.declared.packet.RedirPacket.TheVariants.{Plain}
 use Rattle.redir_host.specs.declared.running.StreamKind.{StreamKind}
 use Rattle.redir_host.specs.declared.running.StreamKind.TheVariants.{Iso, Interrupt}
-use Rattle.redir_host.specs.guest.Packets.{can_start, is_of}
-use Rattle.redir_host.specs.state.Sound.{Each}
+use Rattle.redir_host.specs.guest.Packets.{can_start, is_kind_of}
 use Rattle.gate_history.specs.state.Calls.{Calls, call_ids, started}
 use Rattle.gate_history.specs.state.Ids.{times, holds}
 use Rattle.gate_history.specs.write.Packets.{start_packet}
@@ -37,7 +36,7 @@ pub record IsStart (ep : ℕ) (row : EpRow) (p : RedirPacket) : Type 0 where
   pub called : called_endpoint p ≡ Some ep
   pub started-is : started_kind p ≡ Some (kind, ep)
   pub right : is_kind kind (is_iso row.kind) ≡ true
-  pub fits : is_of kind row.kind ≡ true
+  pub fits : is_kind_of kind row.kind ≡ true
 
 start-iso : (ep : ℕ) (row : EpRow) → row.kind ≡ kind.Iso → IsStart ep row (start_packet ep row)
 start-iso ep row h = record {
@@ -45,7 +44,7 @@ start-iso ep row h = record {
   called = ap (λ (k : EpKind). called_endpoint (Plain (cond (is_iso k) (plain.StartIso ep 8 4) (plain.StartInterrupt ep)))) h;
   started-is = ap (λ (k : EpKind). started_kind (Plain (cond (is_iso k) (plain.StartIso ep 8 4) (plain.StartInterrupt ep)))) h;
   right = ap is_iso h;
-  fits = ap (is_of Iso) h;
+  fits = ap (is_kind_of Iso) h;
 }
 
 start-interrupt : (ep : ℕ) (row : EpRow) → row.kind ≡ kind.Interrupt → IsStart ep row (start_packet ep row)
@@ -54,15 +53,15 @@ start-interrupt ep row h = record {
   called = ap (λ (k : EpKind). called_endpoint (Plain (cond (is_iso k) (plain.StartIso ep 8 4) (plain.StartInterrupt ep)))) h;
   started-is = ap (λ (k : EpKind). started_kind (Plain (cond (is_iso k) (plain.StartIso ep 8 4) (plain.StartInterrupt ep)))) h;
   right = ap (λ (k : EpKind). not (is_iso k)) h;
-  fits = ap (is_of Interrupt) h;
+  fits = ap (is_kind_of Interrupt) h;
 }
 
 pub is-start : (ep : ℕ) (row : EpRow) → (row.kind ≡ kind.Iso) ⊎ (row.kind ≡ kind.Interrupt) → IsStart ep row (start_packet ep row)
 is-start ep row (inl h) = start-iso ep row h
 is-start ep row (inr h) = start-interrupt ep row h
 
-pub can-start : (table : EpTable) (k : StreamKind) (ep : ℕ) (row : EpRow) → IsIn ep → row ≡ row_of table ep → is_of k row.kind ≡ true → can_start table k ep ≡ true
-can-start table k ep row h same fits = λ i. small ep h i && (in-byte ep h i && (ap (λ (r : EpRow). is_of k r.kind) (sym same) ∙ fits) i)
+pub can-start : (table : EpTable) (k : StreamKind) (ep : ℕ) (row : EpRow) → IsIn ep → row ≡ row_of table ep → is_kind_of k row.kind ≡ true → can_start table k ep ≡ true
+can-start table k ep row h same fits = λ i. small ep h i && (in-byte ep h i && (ap (λ (r : EpRow). is_kind_of k r.kind) (sym same) ∙ fits) i)
   where
     small : (n : ℕ) → IsIn n → nat_lt (n % 128) 16 ≡ true
     small n k = grind (arith, k.low, k.high)

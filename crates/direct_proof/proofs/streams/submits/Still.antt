@@ -1,9 +1,8 @@
 -- Where a client has imported and no change of it is live, nothing is stale on the wires, and none is to come.
 use Rattle.std.proofs.Common.{◌≡◌, ℕ, ◌||◌, Bool, true, false, List, [], ◌∷◌, ◌++◌, Option, None, refl, sym, ap, ◌∙◌, subst}
-use Rattle.std.specs.List.{list_any}
+use Rattle.std.specs.List.{list_any, AllByRecursion as Each}
 use Rattle.model_device.specs.Meaning.{Meaning}
 use Rattle.redir_host.specs.guest.Line.{Reset}
-use Rattle.redir_host.specs.state.Sound.{Each}
 use Rattle.gate_history.specs.state.State.{change_waits}
 use Rattle.direct_run.specs.Moves.{World}
 use Rattle.direct_proof.specs.Calls.{Fenced}

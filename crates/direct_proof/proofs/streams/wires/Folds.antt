@@ -1,15 +1,14 @@
 -- The folds over the wires: how they grow at the end and lose their first, and what they say where no change is under way.
 use Rattle.std.proofs.Common.{◌≡◌, ℕ, ◌||◌, ◌⊎◌, inl, inr, Bool, true, false, List, [], ◌∷◌, ◌++◌, Option, Some, None, refl, sym, ap, ◌∙◌, subst}
-use Rattle.std.specs.List.{list_any}
+use Rattle.std.specs.List.{list_any, AllByRecursion as Each}
 use Rattle.usb_base.specs.declared.endpoint.EpTable.{EpTable}
 use Rattle.redir_data.specs.declared.packet.RedirPacket.{RedirPacket}
-use Rattle.redir_host.specs.state.Sound.{Each}
 use Rattle.direct_proof.specs.Requests.{Entry}
 use Rattle.direct_proof.specs.Tagged.{Tagged}
 use Rattle.direct_proof.specs.Stale.{Clean, asks, ends, is_stale}
 use Rattle.direct_proof.specs.Running.{Quits, Trails, StartsFit, runs_after, called_endpoint, passes}
 use Rattle.direct_proof.specs.Cancels.{CancelsFit, moved, left, begins, is_cancel}
-use Rattle.direct_proof.proofs.streams.wires.Sorts.{runs-less, runs-same, is_of}
+use Rattle.direct_proof.proofs.streams.wires.Sorts.{runs-less, runs-same, is_for_endpoint}
 use Rattle.direct_proof.proofs.shared.Folds.{any-append, clash, not-both, or-assoc, or-false, or-left, or-none}
 
 -- ---- tests
@@ -58,7 +57,7 @@ quits-off fence ep true ps h = quits-low fence ep ps h
 quits-off fence ep false ps h = h
 
 -- one packet more, of another endpoint
-pub quits-more : (fence : Option ℕ) (ep : ℕ) (r : Bool) (ps : List (ℕ × RedirPacket)) (q : ℕ × RedirPacket) → is_of ep (called_endpoint q.1) ≡ false → Quits fence ep r ps → Quits fence ep r (ps ++ q ∷ [])
+pub quits-more : (fence : Option ℕ) (ep : ℕ) (r : Bool) (ps : List (ℕ × RedirPacket)) (q : ℕ × RedirPacket) → is_for_endpoint ep (called_endpoint q.1) ≡ false → Quits fence ep r ps → Quits fence ep r (ps ++ q ∷ [])
 quits-more fence ep true [] q k h = absurd (not-both h)
 quits-more fence ep false [] q k h = ((λ e. absurd (not-both (sym e))), runs-same ep q.1 false k)
 quits-more fence ep r (p ∷ ps) q k h = (

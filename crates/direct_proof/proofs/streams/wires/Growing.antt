@@ -6,7 +6,6 @@ use Rattle.redir_data.specs.declared.packet.RedirPacket.{RedirPacket}
 use Rattle.redir_host.specs.declared.running.StreamKind.{StreamKind}
 use Rattle.redir_host.specs.declared.running.StreamKind.TheVariants.{Iso, Interrupt}
 use Rattle.redir_host.specs.device.Offering.{stream_packet}
-use Rattle.redir_host.specs.state.Sound.{Each}
 use Rattle.gate_history.specs.state.Ids.{times}
 use Rattle.gate_history.specs.state.Facts.{tell}
 use Rattle.gate_history.specs.step.Meaning.{fact_of}
@@ -23,14 +22,6 @@ use Rattle.direct_proof.proofs.shared.Backs.{told-append}
 use Rattle.direct_proof.proofs.shared.WireBack.{runs_in-append, packets_in-append}
 
 -- what a search finds
-pub found-each : {X : Type 0} (P : X → Type 0) (p : X → Bool) (xs : List X) (x : X) → Each P xs → find p xs ≡ Some x → P x × (p x ≡ true)
-found-each P p [] x h e = absurd (cc)
-found-each {X = X} P p (y ∷ ys) x h e = go (p y) refl e (found-each P p ys x h.1)
-  where
-    go : (b : Bool) → p y ≡ b → cond b (Some y) (find p ys) ≡ Some x → (find p ys ≡ Some x → P x × (p x ≡ true)) → P x × (p x ≡ true)
-    go true i z rest = let same : y ≡ x = cc in (subst P same h.0, ap p (sym same) ∙ i)
-    go false i z rest = rest z
-
 pub found-any : {X : Type 0} (p : X → Bool) (xs : List X) (x : X) → find p xs ≡ Some x → list_any p xs ≡ true
 found-any p [] x e = absurd (cc)
 found-any {X = X} p (y ∷ ys) x e = go (p y) e (found-any p ys x)

@@ -79,11 +79,11 @@ runs-less ep (Plain _) h = refl
 runs-less ep (Carrying d) h = refl
 
 -- a packet of another endpoint, or of none, leaves a stream as it is
-abbrev pub is_of : ℕ → Option ℕ → Bool
-is_of ep None = false
-is_of ep (Some e) = e == ep
+abbrev pub is_for_endpoint : ℕ → Option ℕ → Bool
+is_for_endpoint ep None = false
+is_for_endpoint ep (Some e) = e == ep
 
-pub runs-same : (ep : ℕ) (p : RedirPacket) (r : Bool) → is_of ep (called_endpoint p) ≡ false → runs_after ep p r ≡ r
+pub runs-same : (ep : ℕ) (p : RedirPacket) (r : Bool) → is_for_endpoint ep (called_endpoint p) ≡ false → runs_after ep p r ≡ r
 runs-same ep (Plain (plain.StartIso e n k)) r h = ap (λ (b : Bool). cond b true r) h
 runs-same ep (Plain (plain.StopIso e)) r h = ap (λ (b : Bool). cond b false r) h
 runs-same ep (Plain (plain.StartInterrupt e)) r h = ap (λ (b : Bool). cond b true r) h

@@ -1,12 +1,12 @@
 -- More of what a packet on the wire to the host is: capabilities, the fence, and what is started.
 use Rattle.std.proofs.Common.{◌≡◌, ℕ, ◌+◌, ◌==◌, Bool, true, false, List, [], ◌∷◌, Option, Some, None, refl, ap, arith}
+use Rattle.std.specs.List.{AllByRecursion as Each}
 use Rattle.redir_wire.specs.declared.packet.RedirControl.TheVariants as plain
 use Rattle.redir_data.specs.declared.packet.RedirPacket.{RedirPacket}
 use Rattle.redir_data.specs.declared.packet.RedirPacket.TheVariants.{Plain, Carrying}
 use Rattle.redir_data.specs.declared.state.RedirState.{RedirState}
 use Rattle.redir_data.specs.Streams.{advanced}
 use Rattle.redir_host.specs.declared.running.StreamKind.{StreamKind}
-use Rattle.redir_host.specs.state.Sound.{Each}
 use Rattle.gate_history.specs.state.Ids.{times}
 use Rattle.gate_history.proofs.lemmas.state.Calls.{times-append}
 use Rattle.direct_proof.specs.Tagged.{Tagged, Stated}

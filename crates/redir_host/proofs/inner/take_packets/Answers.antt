@@ -2,7 +2,7 @@ use Rattle.std.proofs.Common.{Ok, ap, ◌∙◌}
 use Rattle.packet_stream.proofs.Loops.{goes-more, goes-none, takes-all, takes-err, takes-memory, takes-weaker}
 use Rattle.redir_data.specs.Packets.{takes_memory}
 use Rattle.redir_host.specs.guest.Guest.{guest_reader}
-use Rattle.redir_host.specs.guest.Takings.{TookPackets}
+use Rattle.redir_host.specs.guest.Takings.{TookAndSent}
 use Rattle.redir_host.proofs.lemmas.guest.Pieces.{Going, going-none, going-one, going-given, going-ended, going-stopped, leaves-read, leaves-taken, leaves-wanted, next-taken}
 use Rattle.redir_host.proofs.inner.take_packets.Goals as goal
 
@@ -11,7 +11,7 @@ returns-in_err-header-clause-takes g c =
     let m = g.G.Gadget.meaning in
     let l = c.loop-header in
     let r = c.from_residual.result in
-    takes-weaker guest_reader c.args.stream.now c.next.new.self (Going m c.args.host.now l.host c.args.out.now l.out c.args.notes.now l.notes) (TookPackets r m c.args.host.now l.host c.args.out.now l.out c.args.notes.now l.notes) r
+    takes-weaker guest_reader c.args.stream.now c.next.new.self (Going m c.args.host.now l.host c.args.out.now l.out c.args.notes.now l.notes) (TookAndSent r m c.args.host.now l.host c.args.out.now l.out c.args.notes.now l.notes) r
     (λ more went. going-ended r m c.args.host.now l.host c.args.out.now l.out c.args.notes.now l.notes more went)
     (takes-err guest_reader takes_memory c.args.stream.now l.stream c.next.new.self (Going m c.args.host.now l.host c.args.out.now l.out c.args.notes.now l.notes) c.next.result c.in_err-header.field-0.0 r l.invariant c.next.ensures.changes c.next.ensures.follows c.in_err-header.was c.from_residual.ensures.1)
 
@@ -45,7 +45,7 @@ returns-in_err-take-clause-takes g c =
     let l = c.loop-header in
     let r = c.from_residual-in_err-take.result in
     let on = c.from_residual-in_err-take.ensures.1 in
-    takes-weaker guest_reader c.args.stream.now c.next.new.self (Going m c.args.host.now l.host c.args.out.now l.out c.args.notes.now l.notes) (TookPackets r m c.args.host.now c.take.new.self c.args.out.now c.take.new.out c.args.notes.now c.take.new.notes) r
+    takes-weaker guest_reader c.args.stream.now c.next.new.self (Going m c.args.host.now l.host c.args.out.now l.out c.args.notes.now l.notes) (TookAndSent r m c.args.host.now c.take.new.self c.args.out.now c.take.new.out c.args.notes.now c.take.new.notes) r
     (going-stopped r m c.args.host.now l.host c.take.new.self c.args.out.now l.out c.take.new.out c.args.notes.now l.notes c.take.new.notes on c.in_err-take.ensures.err)
     (takes-memory guest_reader c.args.stream.now l.stream c.next.new.self (Going m c.args.host.now l.host c.args.out.now l.out c.args.notes.now l.notes) c.next.result (c.in-Some.field-0-0, (c.in-Some.header, c.in-Some.packet)) r l.invariant c.next.ensures.changes (c.in_ok-header.was ∙ ap (λ o. Ok o) c.in-Some.is) on)
 

@@ -28,8 +28,8 @@ use Rattle.redir_host.specs.step.History.{history}
 use Rattle.redir_host.specs.step.Items.{Item, Wrong}
 use Rattle.redir_host.specs.step.Machine.{all_given, bytes_of, notes_of, steps, given_by}
 use Rattle.redir_host.specs.write.Readable.{AreRead}
-use Rattle.redir_host.specs.step.Stands.{told_state, IsRead, IsReadBy, Stands, TakesAct, Stops}
-use Rattle.redir_host.specs.guest.Takings.{LeavesOne, LeavesWanted, Took, TookPackets}
+use Rattle.redir_host.specs.step.Stands.{told_state, IsRead, IsReadBy, HostStands, TakesAct, Stops}
+use Rattle.redir_host.specs.guest.Takings.{LeavesOne, LeavesWanted, HasTaken, TookAndSent}
 use Rattle.redir_host.specs.step.Wants.{Wants}
 use Rattle.redir_host.proofs.lemmas.guest.Pieces.{Found, guest-steady, side, before, state-all, host-all, given-all, read-given, sent_of}
 use Rattle.redir_host.proofs.lemmas.step.Acts.{steps-append, given-append}
@@ -50,7 +50,7 @@ none-added bytes piece same =
     ∙ ap (drop (length xs)) (sym (append-nil xs))
     ∙ drop_at xs [] (length xs) refl
 
-pub over-piece : {S : Type 0} (m : Meaning S) (s : S) (k : HostKept S) (acts : List Act) (piece o : List ℕ) (n : List HostNote) → AreBytes piece → Stands m s k acts → k.stream.over ≡ true → TakesAct m s k acts (Piece piece) o o n n
+pub over-piece : {S : Type 0} (m : Meaning S) (s : S) (k : HostKept S) (acts : List Act) (piece o : List ℕ) (n : List HostNote) → AreBytes piece → HostStands m s k acts → k.stream.over ≡ true → TakesAct m s k acts (Piece piece) o o n n
 over-piece {S = S} m s k acts piece o n are stands over =
     let bytes = guest_bytes acts in
     let x = guest_split bytes in
@@ -82,9 +82,9 @@ record IsDone {S : Type 0} (m : Meaning S) (s : S) (old new : HostKept S) (acts 
   pub parts : added (guest_bytes acts) piece ≡ xs
   pub more : List Found
   pub packets : (guest_split (guest_bytes acts ++ piece)).packets ≡ (guest_split (guest_bytes acts)).packets ++ more
-  pub took : Took m old.host new.host n0 n1 more
+  pub took : HasTaken m old.host new.host n0 n1 more
 
-done : {S : Type 0} (m : Meaning S) (s : S) (old new : HostKept S) (acts : List Act) (piece o0 o1 : List ℕ) (n0 n1 n2 : List HostNote) (xs : List Item) → Stands m s old acts → (d : IsDone m s old new acts piece o0 o1 n0 n1 xs) →
+done : {S : Type 0} (m : Meaning S) (s : S) (old new : HostKept S) (acts : List Act) (piece o0 o1 : List ℕ) (n0 n1 n2 : List HostNote) (xs : List Item) → HostStands m s old acts → (d : IsDone m s old new acts piece o0 o1 n0 n1 xs) →
     new.host ≡ steps m old.host xs → o1 ≡ o0 ++ given_by bytes_of m old.host xs → n2 ≡ n0 ++ given_by notes_of m old.host xs → AreRead new.host.guest (all_given sent_of m s (history acts) ++ given_by sent_of m old.host xs) → TakesAct m s new acts (Piece piece) o0 o1 n0 n2
 done m s old new acts piece o0 o1 n0 n1 n2 xs stands d host sent told read = record {
   does = record {
@@ -101,8 +101,8 @@ done m s old new acts piece o0 o1 n0 n1 n2 xs stands d host sent told read = rec
   told = given-all notes_of m s old acts xs (added (guest_bytes acts) piece) n0 n2 stands told d.parts;
 }
 
-pub all-taken : {S : Type 0} (m : Meaning S) (s : S) (old new : HostKept S) (stream : Stream RedirState) (acts : List Act) (piece o0 o1 : List ℕ) (n0 n1 : List HostNote) → AreBytes piece → Stands m s old acts → old.stream.over ≡ false → stream ≡ after_piece old.stream piece → Puts guest_reader piece old.stream stream → new.failed ≡ old.failed →
-    TakesPackets {T = Unit {0}} guest_reader (Ok tt) stream new.stream (TookPackets {T = Unit {0}} (Ok tt) m old.host new.host o0 o1 n0 n1) → TakesAct m s new acts (Piece piece) o0 o1 n0 n1
+pub all-taken : {S : Type 0} (m : Meaning S) (s : S) (old new : HostKept S) (stream : Stream RedirState) (acts : List Act) (piece o0 o1 : List ℕ) (n0 n1 : List HostNote) → AreBytes piece → HostStands m s old acts → old.stream.over ≡ false → stream ≡ after_piece old.stream piece → Puts guest_reader piece old.stream stream → new.failed ≡ old.failed →
+    TakesPackets {T = Unit {0}} guest_reader (Ok tt) stream new.stream (TookAndSent {T = Unit {0}} (Ok tt) m old.host new.host o0 o1 n0 n1) → TakesAct m s new acts (Piece piece) o0 o1 n0 n1
 all-taken {S = S} m s old new stream acts piece o0 o1 n0 n1 are stands going is puts failed takes =
     let bytes = guest_bytes acts in
     let x = guest_split bytes in
@@ -122,14 +122,14 @@ all-taken {S = S} m s old new stream acts piece o0 o1 n0 n1 are stands going is 
 
 -- what the packets made, by the error that ended them
 abbrev pub EndedBy : {S : Type 0} → ReadError → Meaning S → Host S → Host S → Stream RedirState → Stream RedirState → List ℕ → List ℕ → List HostNote → List HostNote → Type 0
-EndedBy e m h host stream new o0 o1 n0 n1 = TakesPackets {T = Unit {0}} guest_reader (Err e) stream new (TookPackets {T = Unit {0}} (Err e) m h host o0 o1 n0 n1)
+EndedBy e m h host stream new o0 o1 n0 n1 = TakesPackets {T = Unit {0}} guest_reader (Err e) stream new (TookAndSent {T = Unit {0}} (Err e) m h host o0 o1 n0 n1)
 
 ended-by : {S : Type 0} (e f : ReadError) (m : Meaning S) (h host : Host S) (stream new : Stream RedirState) (o0 o1 : List ℕ) (n0 n1 : List HostNote) → e ≡ f → EndedBy e m h host stream new o0 o1 n0 n1 → EndedBy f m h host stream new o0 o1 n0 n1
 ended-by e f m h host stream new o0 o1 n0 n1 same takes = subst (λ (x : ReadError). EndedBy x m h host stream new o0 o1 n0 n1) same takes
 
 -- ---- all before the wrong place
 
-pub wrong-told : {S : Type 0} (m : Meaning S) (s : S) (old new : HostKept S) (stream : Stream RedirState) (acts : List Act) (piece o0 o1 : List ℕ) (n0 n1 n2 : List HostNote) (place : ℕ) (why : Reason) → AreBytes piece → Stands m s old acts → old.stream.over ≡ false → stream ≡ after_piece old.stream piece → Puts guest_reader piece old.stream stream → new.failed ≡ old.failed →
+pub wrong-told : {S : Type 0} (m : Meaning S) (s : S) (old new : HostKept S) (stream : Stream RedirState) (acts : List Act) (piece o0 o1 : List ℕ) (n0 n1 n2 : List HostNote) (place : ℕ) (why : Reason) → AreBytes piece → HostStands m s old acts → old.stream.over ≡ false → stream ≡ after_piece old.stream piece → Puts guest_reader piece old.stream stream → new.failed ≡ old.failed →
     (e : ReadError) → e ≡ IsRefused place why → EndedBy e m old.host new.host stream new.stream o0 o1 n0 n1 → n2 ≡ n1 ++ Refused place why ∷ [] → TakesAct m s new acts (Piece piece) o0 o1 n0 n2
 wrong-told {S = S} m s old new stream acts piece o0 o1 n0 n1 n2 place why are stands going is puts failed e same ended pushed =
     let bytes = guest_bytes acts in
@@ -159,14 +159,14 @@ wrong-told {S = S} m s old new stream acts piece o0 o1 n0 n1 n2 place why are st
 -- ---- memory ran out
 
 -- to hold the piece
-pub stops-first : {S : Type 0} (m : Meaning S) (s : S) (old : HostKept S) (acts : List Act) (piece o : List ℕ) → Stands m s old acts → (0 < length piece) × (old.stream.over ≡ false) → Stops m s acts (Piece piece) o o
+pub stops-first : {S : Type 0} (m : Meaning S) (s : S) (old : HostKept S) (acts : List Act) (piece o : List ℕ) → HostStands m s old acts → (0 < length piece) × (old.stream.over ≡ false) → Stops m s acts (Piece piece) o o
 stops-first m s old acts piece o stands wants =
     let x = guest_split (guest_bytes acts) in
     let d : Drained old.stream x x.packets = subst (IsReadBy old.stream x) wants.1 stands.stream.read in
     record { taken = []; later = added (guest_bytes acts) piece; parts = refl; sent = sym (append-nil o); wanted = inl (refl, (wants.0, d.right)) }
 
 -- for a packet
-pub stops-packet : {S : Type 0} (m : Meaning S) (s : S) (old : HostKept S) (stream : Stream RedirState) (acts : List Act) (piece o0 o1 : List ℕ) → AreBytes piece → Stands m s old acts → old.stream.over ≡ false → stream ≡ after_piece old.stream piece → Puts guest_reader piece old.stream stream →
+pub stops-packet : {S : Type 0} (m : Meaning S) (s : S) (old : HostKept S) (stream : Stream RedirState) (acts : List Act) (piece o0 o1 : List ℕ) → AreBytes piece → HostStands m s old acts → old.stream.over ≡ false → stream ≡ after_piece old.stream piece → Puts guest_reader piece old.stream stream →
     (e : ReadError) (memory : NoMemory) → e ≡ Memory memory → LeavesWanted {T = Unit {0}} (Err e) m stream old.host o0 o1 → Stops m s acts (Piece piece) o0 o1
 stops-packet {S = S} m s old stream acts piece o0 o1 are stands going is puts e memory same leaves =
     let bytes = guest_bytes acts in
@@ -183,7 +183,7 @@ stops-packet {S = S} m s old stream acts piece o0 o1 are stands going is puts e 
     }
 
 -- for the note of the wrong place
-pub stops-note : {S : Type 0} (m : Meaning S) (s : S) (old : HostKept S) (host : Host S) (stream new : Stream RedirState) (acts : List Act) (piece o0 o1 : List ℕ) (n0 n1 : List HostNote) (place : ℕ) (why : Reason) → AreBytes piece → Stands m s old acts → old.stream.over ≡ false → stream ≡ after_piece old.stream piece → Puts guest_reader piece old.stream stream →
+pub stops-note : {S : Type 0} (m : Meaning S) (s : S) (old : HostKept S) (host : Host S) (stream new : Stream RedirState) (acts : List Act) (piece o0 o1 : List ℕ) (n0 n1 : List HostNote) (place : ℕ) (why : Reason) → AreBytes piece → HostStands m s old acts → old.stream.over ≡ false → stream ≡ after_piece old.stream piece → Puts guest_reader piece old.stream stream →
     (e : ReadError) → e ≡ IsRefused place why → EndedBy e m old.host host stream new o0 o1 n0 n1 → Stops m s acts (Piece piece) o0 o1
 stops-note {S = S} m s old host stream new acts piece o0 o1 n0 n1 place why are stands going is puts e same ended =
     let bytes = guest_bytes acts in

@@ -40,8 +40,8 @@ use Rattle.redir_host.specs.write.Output.{host_of}
 use Rattle.redir_host.specs.guest.Packets.{packet_move}
 use Rattle.redir_host.specs.write.Readable.{AreRead, TakesInRange}
 use Rattle.redir_host.specs.state.Sound.{IsSound}
-use Rattle.redir_host.specs.step.Stands.{told_state, IsReadBy, Stands}
-use Rattle.redir_host.specs.guest.Takings.{IsGiven, LeavesOne, LeavesWanted, OnRead, Took, TookPackets}
+use Rattle.redir_host.specs.step.Stands.{told_state, IsReadBy, HostStands}
+use Rattle.redir_host.specs.guest.Takings.{IsGiven, LeavesOne, LeavesWanted, OnRead, HasTaken, TookAndSent}
 use Rattle.redir_host.specs.step.Wants.{GivesSome, takes_memory}
 use Rattle.redir_host.proofs.lemmas.guest.Sound.{keeps-packet}
 use Rattle.redir_host.proofs.lemmas.write.Replies.{packet-read}
@@ -83,7 +83,7 @@ abbrev pub sent_of : {S : Type 0} → Move S → List (ℕ × RedirPacket)
 sent_of v = v.sent
 
 abbrev pub Going : {S : Type 0} → Meaning S → Host S → Host S → List ℕ → List ℕ → List HostNote → List HostNote → List Found → Type 0
-Going m old new o0 o1 n0 n1 more = TookPackets {T = Unit {0}} (Ok tt) m old new o0 o1 n0 n1 more
+Going m old new o0 o1 n0 n1 more = TookAndSent {T = Unit {0}} (Ok tt) m old new o0 o1 n0 n1 more
 
 pub going-none : {S : Type 0} (m : Meaning S) (h : Host S) (o : List ℕ) (n : List HostNote) → IsSound h → Going m h h o o n n []
 going-none m h o n sound = record { sent = sym (append-nil o); took = record { host = refl; sound = sound; state = refl; reads = λ xs before. subst (AreRead h.guest) (sym (append-nil xs)) before; told = sym (append-nil n) } }
@@ -138,8 +138,8 @@ took-any (Ok v) P p = p
 took-any (Err (IsRefused place reason)) P p = p
 took-any (Err (Memory memory)) P p = tt
 
-pub going-ended : {S : Type 0} (r : Result (Unit {0}) ReadError) (m : Meaning S) (old new : Host S) (o0 o1 : List ℕ) (n0 n1 : List HostNote) (more : List Found) → Going m old new o0 o1 n0 n1 more → TookPackets r m old new o0 o1 n0 n1 more
-going-ended r m old new o0 o1 n0 n1 more g = record { sent = g.sent; took = took-any r (Took m old new n0 n1 more) g.took }
+pub going-ended : {S : Type 0} (r : Result (Unit {0}) ReadError) (m : Meaning S) (old new : Host S) (o0 o1 : List ℕ) (n0 n1 : List HostNote) (more : List Found) → Going m old new o0 o1 n0 n1 more → TookAndSent r m old new o0 o1 n0 n1 more
+going-ended r m old new o0 o1 n0 n1 more g = record { sent = g.sent; took = took-any r (HasTaken m old new n0 n1 more) g.took }
 
 no-memory : {T : Type 0} {memory : NoMemory} (r : Result T ReadError) (P : Type 0) → IsErrAnd r (λ y. y ≡ Memory memory) → OnRead r P
 no-memory (Ok v) P is = absurd is
@@ -148,8 +148,8 @@ no-memory (Err (Memory memory)) P is = tt
 
 -- memory ran out for a packet, and the output was cut to what was there before it
 pub going-stopped : {S : Type 0} {memory : NoMemory} (r : Result (Unit {0}) ReadError) (m : Meaning S) (old mid new : Host S) (o0 o1 o2 : List ℕ) (n0 n1 n2 : List HostNote) → IsErrAnd r (λ y. y ≡ Memory memory) → o2 ≡ o1 →
-    (more : List Found) → Going m old mid o0 o1 n0 n1 more → TookPackets r m old new o0 o2 n0 n2 more
-going-stopped r m old mid new o0 o1 o2 n0 n1 n2 is cut more g = record { sent = cut ∙ g.sent; took = no-memory r (Took m old new n0 n2 more) is }
+    (more : List Found) → Going m old mid o0 o1 n0 n1 more → TookAndSent r m old new o0 o2 n0 n2 more
+going-stopped r m old mid new o0 o1 o2 n0 n1 n2 is cut more g = record { sent = cut ∙ g.sent; took = no-memory r (HasTaken m old new n0 n2 more) is }
 
 -- ---- where memory ran out
 
@@ -202,7 +202,7 @@ pub record Before {S : Type 0} (old : HostKept S) (stream : Stream RedirState) (
   pub over : stream.over ≡ false
   pub follows : Follows guest_reader guest_start stream (bytes ++ piece) (guest_split bytes).packets
 
-pub before : {S : Type 0} (m : Meaning S) (s : S) (old : HostKept S) (stream : Stream RedirState) (acts : List Act) (piece : List ℕ) → AreBytes piece → Stands m s old acts → old.stream.over ≡ false → stream ≡ after_piece old.stream piece → Puts guest_reader piece old.stream stream →
+pub before : {S : Type 0} (m : Meaning S) (s : S) (old : HostKept S) (stream : Stream RedirState) (acts : List Act) (piece : List ℕ) → AreBytes piece → HostStands m s old acts → old.stream.over ≡ false → stream ≡ after_piece old.stream piece → Puts guest_reader piece old.stream stream →
     Before old stream (guest_bytes acts) piece
 before m s old stream acts piece are stands going is puts =
     let bytes = guest_bytes acts in
@@ -216,24 +216,24 @@ before m s old stream acts piece are stands going is puts =
     }
 
 -- the state behind all packets
-pub state-all : {S : Type 0} (m : Meaning S) (s : S) (old : HostKept S) (new : Host S) (acts : List Act) (n0 n1 : List HostNote) (more : List Found) (ps : List Found) → Stands m s old acts → Took m old.host new n0 n1 more → ps ≡ (guest_split (guest_bytes acts)).packets ++ more → new.guest ≡ told_state start ps
+pub state-all : {S : Type 0} (m : Meaning S) (s : S) (old : HostKept S) (new : Host S) (acts : List Act) (n0 n1 : List HostNote) (more : List Found) (ps : List Found) → HostStands m s old acts → HasTaken m old.host new n0 n1 more → ps ≡ (guest_split (guest_bytes acts)).packets ++ more → new.guest ≡ told_state start ps
 state-all m s old new acts n0 n1 more ps stands took is =
     took.state
     ∙ ap (λ (g : RedirState). told_state g more) stands.state
     ∙ sym (state-append start (guest_split (guest_bytes acts)).packets more)
     ∙ ap (told_state start) (sym is)
 
-pub host-all : {S : Type 0} (m : Meaning S) (s : S) (old : HostKept S) (new : Host S) (acts : List Act) (a : Act) (xs : List Item) → Stands m s old acts → new ≡ steps m old.host xs → brought acts a ≡ xs → new ≡ host_of m s (a ∷ acts)
+pub host-all : {S : Type 0} (m : Meaning S) (s : S) (old : HostKept S) (new : Host S) (acts : List Act) (a : Act) (xs : List Item) → HostStands m s old acts → new ≡ steps m old.host xs → brought acts a ≡ xs → new ≡ host_of m s (a ∷ acts)
 host-all {S = S} m s old new acts a xs stands is parts =
     is
     ∙ (λ i. steps m (stands.host i) (sym parts i))
     ∙ sym (act-host m s acts a)
 
-pub given-all : {S A : Type 0} (gives : Move S → List A) (m : Meaning S) (s : S) (old : HostKept S) (acts : List Act) (xs ys : List Item) (l0 l1 : List A) → Stands m s old acts → l1 ≡ l0 ++ given_by gives m old.host xs → ys ≡ xs → l1 ≡ l0 ++ given_by gives m (host_of m s acts) ys
+pub given-all : {S A : Type 0} (gives : Move S → List A) (m : Meaning S) (s : S) (old : HostKept S) (acts : List Act) (xs ys : List Item) (l0 l1 : List A) → HostStands m s old acts → l1 ≡ l0 ++ given_by gives m old.host xs → ys ≡ xs → l1 ≡ l0 ++ given_by gives m (host_of m s acts) ys
 given-all gives m s old acts xs ys l0 l1 stands is parts = is ∙ (λ i. l0 ++ given_by gives m (stands.host i) (sym parts i))
 
 -- all that was sent, and this piece's
-pub read-given : {S : Type 0} (m : Meaning S) (s : S) (old : HostKept S) (new : Host S) (acts : List Act) (a : Act) (xs : List Item) → Stands m s old acts → brought acts a ≡ xs → AreRead new.guest (all_given sent_of m s (history acts) ++ given_by sent_of m old.host xs) →
+pub read-given : {S : Type 0} (m : Meaning S) (s : S) (old : HostKept S) (new : Host S) (acts : List Act) (a : Act) (xs : List Item) → HostStands m s old acts → brought acts a ≡ xs → AreRead new.guest (all_given sent_of m s (history acts) ++ given_by sent_of m old.host xs) →
     AreRead new.guest (all_given sent_of m s (history (a ∷ acts)))
 read-given m s old new acts a xs stands parts read =
     subst (AreRead new.guest) ((λ i. all_given sent_of m s (history acts) ++ given_by sent_of m (stands.host i) (sym parts i)) ∙ sym (act-gives sent_of m s acts a)) read

@@ -10,7 +10,7 @@ use Rattle.redir_host.specs.guest.Asking.{asking_plain}
 use Rattle.redir_host.specs.guest.Line.{Placed, Waiting, Reset, Waits, placed, plain_line, stays_in, waiting_in, without_cancelled, without_performed}
 use Rattle.usb_base.specs.Firsts.{without_first}
 use Rattle.redir_host.specs.state.Queues.{is_data, queue_of}
-use Rattle.redir_host.specs.step.Answered.{is_cancelled, is_flushed, is_of, request_in}
+use Rattle.redir_host.specs.step.Answered.{is_cancelled, is_flushed, is_in_queue_of, request_in}
 
 pub placed-append : (l k : List Waiting) → waiting_in (l ++ k) ≡ waiting_in l ++ waiting_in k
 placed-append [] k = refl
@@ -36,16 +36,16 @@ placed-cancelled id (Waits p i f t ∷ l) =
       | false ↦ ap (λ (ps : List Placed). placed p i f t.ep ∷ ps) (placed-cancelled id l)
     ]
 
-pub placed-performed : (ep : ℕ) (l : List Waiting) → waiting_in (without_performed ep l) ≡ without_first (is_of ep) (waiting_in l)
+pub placed-performed : (ep : ℕ) (l : List Waiting) → waiting_in (without_performed ep l) ≡ without_first (is_in_queue_of ep) (waiting_in l)
 placed-performed ep [] = refl
 placed-performed ep (Reset ∷ l) =
-    let left = without_first (is_of ep) (waiting_in l) in
+    let left = without_first (is_in_queue_of ep) (waiting_in l) in
     elim (is_control ep) as (λ (b : Bool). waiting_in (cond b (without_performed ep l) (Reset ∷ without_performed ep l)) ≡ left) [
       | true ↦ placed-performed ep l
       | false ↦ placed-performed ep l
     ]
 placed-performed ep (Waits p i f t ∷ l) =
-    let left = without_first (is_of ep) (waiting_in l) in
+    let left = without_first (is_in_queue_of ep) (waiting_in l) in
     elim (queue_of t.ep == queue_of ep) as (λ (b : Bool). waiting_in (cond b l (Waits p i f t ∷ without_performed ep l)) ≡ cond b (waiting_in l) (placed p i f t.ep ∷ left)) [
       | true ↦ refl
       | false ↦ ap (λ (ps : List Placed). placed p i f t.ep ∷ ps) (placed-performed ep l)

@@ -1,7 +1,7 @@
 -- What is known of a host stays known as packets come that its guest can send.
 use Rattle.std.proofs.Common.{◌≡◌, ℕ, ◌<◌, ◌%◌, ◌^◌, Bool, true, false, cond, not, ◌&&◌, ◌==◌, List, [], ◌∷◌, length, Some, None, refl, sym, ap, subst, ◌∙◌, arith, lit<}
 use Rattle.std.specs.Prelude.{Option, nat_lt, nat_le}
-use Rattle.std.specs.List.{find}
+use Rattle.std.specs.List.{find, AllByRecursion as Each}
 use Rattle.std.proofs.lemmas.Bool.{and_parts, eqb-true, not-true, ltb-true, leb-true, true≢false}
 use Rattle.usb_base.specs.Endpoint.{is_in_endpoint, row_of}
 use Rattle.usb_base.specs.declared.endpoint.EpTable.{EpTable}
@@ -35,9 +35,9 @@ use Rattle.redir_host.specs.declared.running.StreamKind.TheVariants.{Iso, Interr
 use Rattle.redir_host.specs.guest.Asking.{greatest, is_other, asked_if, asking_of, routed}
 use Rattle.redir_host.specs.step.Makes.{IsTaken}
 use Rattle.redir_host.specs.step.Moves.{Move, quiet}
-use Rattle.redir_host.specs.guest.Packets.{can_start, cancel_move, data_move, is_of, packet_move, packet_move_by, queued, request, runs_at, start_move, stop_move, stopped}
+use Rattle.redir_host.specs.guest.Packets.{can_start, cancel_move, data_move, is_kind_of, packet_move, packet_move_by, queued, request, runs_at, start_move, stop_move, stopped}
 use Rattle.redir_host.specs.state.Queues.{is_first_queue, is_cancelled_by, marked, with_first_marked, after_cancel}
-use Rattle.redir_host.specs.state.Sound.{Each, FormFits, IsRequest, IsRunning, IsSound, WantedFits}
+use Rattle.redir_host.specs.state.Sound.{FormFits, IsRequest, IsRunning, IsSound, WantedFits}
 use Rattle.redir_host.proofs.lemmas.state.Sound.{Keeps}
 use Rattle.redir_host.proofs.lemmas.state.Each.{each_appended, each_filtered, each_weaker}
 
@@ -194,7 +194,7 @@ stop-keeps : {S : Type 0} (h : Host S) (id : ℕ) (k : StreamKind) (ep : ℕ) �
 stop-keeps h id k ep sound = record { guest = refl; sound = record { requests = sound.requests; streams = each_filtered (IsRunning h.guest) (λ s. not (runs_at ep s)) h.running sound.streams } }
 
 pub started-in : (table : EpTable) (k : StreamKind) (ep : ℕ) → can_start table k ep ≡ true → is_in_endpoint ep ≡ true
-started-in table k ep can = (and_parts (is_in_endpoint ep) (is_of k (row_of table ep).kind) (and_parts (nat_lt (ep % 128) 16) (is_in_endpoint ep && is_of k (row_of table ep).kind) can).1).0
+started-in table k ep can = (and_parts (is_in_endpoint ep) (is_kind_of k (row_of table ep).kind) (and_parts (nat_lt (ep % 128) 16) (is_in_endpoint ep && is_kind_of k (row_of table ep).kind) can).1).0
 
 -- ---- packets that move no data
 

@@ -7,7 +7,7 @@ use Rattle.std.specs.Option.{option_map}
 use Rattle.std.proofs.lemmas.Bool.{cases_Bool, eqb-true, le-leb, leb-true}
 use Rattle.model_device.specs.Transfer.{is_control}
 use Rattle.redir_host.specs.declared.request.Request.{Request}
-use Rattle.redir_host.specs.guest.Cancels.{Took}
+use Rattle.redir_host.specs.guest.Cancels.{CancelsOne}
 use Rattle.redir_host.specs.inner.Waiting.{is_cancelled_in, is_from, marked_from}
 use Rattle.redir_host.specs.state.Queues.{after_cancel, is_cancelled_by, is_first_queue, leaves_mark, marked, queue_of, with_first_marked}
 use Rattle.redir_host.proofs.lemmas.state.Numbered.{Above, Sorted, at, find_value, found_above, head_above, removed_behind, removed_here, tail_sorted}
@@ -88,7 +88,7 @@ leaves_is id (x ∷ es) e s is =
 
 -- what was taken out is what the cancel is for, and its mark went on
 pub took_cancelled : (id : ℕ) (es : List (ℕ × Request)) (e : ℕ × Request) (ys : List (ℕ × Request)) (left : Bool) → Sorted es → find (is_cancelled_in id) es ≡ Some e → ys ≡ left_of e es → left ≡ leaves_of e es →
-    Took (record { request = e.1; leaves_mark = left }) id (values_of es) (values_of ys)
+    CancelsOne (record { request = e.1; leaves_mark = left }) id (values_of es) (values_of ys)
 took_cancelled id es e ys left s is rest leaves = record {
   request = find_value (is_cancelled_by id) es ∙ ap (option_map (λ (x : ℕ × Request). x.1)) is;
   leaves = leaves ∙ sym (leaves_is id es e s is);

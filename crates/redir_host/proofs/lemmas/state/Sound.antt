@@ -1,7 +1,7 @@
 -- What is known of a host stays known, whatever comes: performs, offers and the end keep it.
 use Rattle.std.proofs.Common.{◌≡◌, ℕ, Bool, true, false, cond, List, [], ◌∷◌, Some, None, refl, sym, subst, ◌∙◌}
 use Rattle.std.specs.Prelude.{Option, option_map}
-use Rattle.std.specs.List.{find}
+use Rattle.std.specs.List.{find, AllByRecursion as Each}
 use Rattle.redir_host.proofs.lemmas.state.Each.{each_found}
 use Rattle.usb_base.specs.Status.{is_success}
 use Rattle.usb_base.specs.declared.endpoint.EpTable.{EpTable}
@@ -24,7 +24,7 @@ use Rattle.redir_host.specs.guest.Packets.{runs_at}
 use Rattle.redir_host.specs.device.Performing.{done_by, does, performs, resets, performs_marked, performs_any, with_id, first_performed, performed, perform_move, perform_move_by}
 use Rattle.usb_base.specs.Firsts.{without_first}
 use Rattle.redir_host.specs.state.Queues.{is_at}
-use Rattle.redir_host.specs.state.Sound.{Each, IsRequest, IsSound}
+use Rattle.redir_host.specs.state.Sound.{IsRequest, IsSound}
 use Rattle.redir_host.proofs.lemmas.step.Makes.{changed_guest, cleared_sound}
 
 -- the host after it reads as before, and is sound

@@ -21,7 +21,7 @@ use Rattle.redir_host.specs.guest.Asking.{asking, asking_of, asking_plain}
 use Rattle.redir_host.specs.guest.Line.{Placed, Waiting, placed, plain_line, asked_line, waiting_in, without_performed, stays_in, flushed_in, all_changes}
 use Rattle.usb_base.specs.Firsts.{without_first}
 use Rattle.redir_host.specs.state.Queues.{is_at}
-use Rattle.redir_host.specs.step.Answered.{Answered, End, ByDevice, ByCancel, ByChange, Became, packets, request_in, requests, ends, stays, joins, at_once, first_such, is_of, is_cancelled, is_placed, by_cancel, by_plain, by_packet, is_flushed, flushed_of, outcome_of, by_outcome, by_perform, becomes, is_gone, line, waiting, answered, dropped, requests_of}
+use Rattle.redir_host.specs.step.Answered.{Answered, End, ByDevice, ByCancel, ByChange, Became, packets, request_in, requests, ends, unchanged, lines_up, at_once, first_such, is_in_queue_of, is_cancelled, is_placed, by_cancel, by_plain, by_packet, is_flushed, flushed_of, outcome_of, by_outcome, by_perform, becomes, is_gone, line, waiting, answered, dropped, requests_of}
 use Rattle.redir_host.specs.step.Items.{Item, Asked, Wrong, Performs, Offers, Unplugs}
 use Rattle.redir_host.specs.step.Machine.{run}
 use Rattle.redir_host.proofs.lemmas.guest.Placed.{placed-append, placed-cancelled, placed-left, placed-performed, placed-plain}
@@ -69,7 +69,7 @@ requests-append xs ys = map-append (λ (a : Answered). a.request) xs ys
 abbrev Counts : (Placed → Bool) → Became → List Waiting → List Placed → Type 0
 Counts test b before new = many test (requests_of b.answered) + many test (waiting_in b.line) + many test b.dropped ≡ many test (waiting_in before) + many test new
 
-counts-joins : (test : Placed → Bool) (l comes : List Waiting) (answered : List Answered) (new : List Placed) → many test (requests_of answered) + many test (waiting_in comes) ≡ many test new → Counts test (joins l comes answered) l new
+counts-joins : (test : Placed → Bool) (l comes : List Waiting) (answered : List Answered) (new : List Placed) → many test (requests_of answered) + many test (waiting_in comes) ≡ many test new → Counts test (lines_up l comes answered) l new
 counts-joins test l comes answered new told =
     let both = ap (many test) (placed-append l comes) ∙ many-append test (waiting_in l) (waiting_in comes) in
     omega (arith, told, both)
@@ -112,12 +112,12 @@ counts-outcome test cs ep l None = omega arith
 counts-outcome test cs ep l (Some o) =
     let behind = without_performed ep l in
     let flushed = flushed_of cs behind in
-    let first = first_such (is_of ep) (waiting_in l) in
+    let first = first_such (is_in_queue_of ep) (waiting_in l) in
     let e : requests_of (map (ends ByChange) flushed ++ map (ends (ByDevice o.0 o.1)) first) ≡ flushed ++ first =
     requests-append (map (ends ByChange) flushed) (map (ends (ByDevice o.0 o.1)) first) ∙ (λ i. requests-ends ByChange flushed i ++ requests-ends (ByDevice o.0 o.1) first i) in
     let told = ap (many test) e in
     let both = many-append test flushed first in
-    let one = many-first test (is_of ep) (waiting_in l) in
+    let one = many-first test (is_in_queue_of ep) (waiting_in l) in
     let left = ap (many test) (placed-performed ep l) in
     let rest = many-flushed test cs behind in
     omega (arith, told, both, one, left, rest)
@@ -138,14 +138,14 @@ counts-item test m h out place (Asked id p) l =
     elim out as (λ (b : Bool). Counts test (cond b gone (by_packet place id p l)) l new) [ true ↦ omega arith | false ↦ counts-packet test place id p l ]
 counts-item test m h out place (Wrong from reason) l = omega arith
 counts-item test m h out place (Performs ep) l =
-    elim out as (λ (b : Bool). Counts test (cond b (stays l) (by_perform m h.gadget ep l (find (is_at ep) h.queue))) l []) [
+    elim out as (λ (b : Bool). Counts test (cond b (unchanged l) (by_perform m h.gadget ep l (find (is_at ep) h.queue))) l []) [
       | true ↦ omega arith
       | false ↦ counts-perform test m h.gadget ep l (find (is_at ep) h.queue)
     ]
 counts-item test m h out place (Offers ep) l = omega arith
 counts-item test m h out place Unplugs l =
     let gone : Became = record { line = []; answered = []; dropped = waiting_in l } in
-    elim out as (λ (b : Bool). Counts test (cond b (stays l) gone) l []) [ true ↦ omega arith | false ↦ omega arith ]
+    elim out as (λ (b : Bool). Counts test (cond b (unchanged l) gone) l []) [ true ↦ omega arith | false ↦ omega arith ]
 
 -- ---- all items
 

@@ -16,14 +16,14 @@ use Rattle.redir_host.specs.declared.host.Host.{Host}
 use Rattle.redir_host.specs.declared.request.Form.{Form}
 use Rattle.redir_host.specs.declared.request.Form.TheVariants as form
 use Rattle.redir_host.specs.declared.request.Request.{Request}
-use Rattle.redir_host.specs.device.Changes.{change_of, changed, touched, runs_on, stays as stays_on}
+use Rattle.redir_host.specs.device.Changes.{change_of, changed, touched, runs_on, stays}
 use Rattle.redir_host.specs.device.Facts.{facts_of}
 use Rattle.redir_host.specs.device.Performing.{done_by, does, performs, resets, performs_marked, performs_any, with_id, first_performed, perform_move_by}
 use Rattle.redir_host.specs.guest.Asking.{routed}
 use Rattle.redir_host.specs.guest.Line.{Placed, Waiting, waiting_in, without_performed, stays_in, flushed_in, changes_by, changes_of, request_changes, reset_changes, marked_changes, all_changes}
 use Rattle.usb_base.specs.Firsts.{without_first}
 use Rattle.redir_host.specs.state.Queues.{is_at}
-use Rattle.redir_host.specs.step.Answered.{Answered, ByDevice, ByChange, ends, stays, first_such, is_of, is_answer, answer_of, is_flushed, flushed_of, came_of, came_behind, came_marked, outcome_of, by_outcome, by_perform}
+use Rattle.redir_host.specs.step.Answered.{Answered, ByDevice, ByChange, ends, unchanged, first_such, is_in_queue_of, is_answer, answer_of, is_flushed, flushed_of, came_of, came_behind, came_marked, outcome_of, by_outcome, by_perform}
 use Rattle.redir_host.specs.step.Moves.{Move, behind}
 use Rattle.redir_host.specs.write.Answers.{answer, cancelled}
 use Rattle.redir_host.proofs.lemmas.guest.Lines.{flush-stays, performed-leaves}
@@ -64,7 +64,7 @@ changed-flushes {out = out} m r table status h l is = by (is_success status)
         gone = is.gone;
         in_line =
             let f = flush-stays r table l false in
-            record { queue = ap (λ (qs : List Request). filter (stays_on r table) qs) is.in_line.queue ∙ sym f.0; reset = is.in_line.reset ∙ sym f.1 };
+            record { queue = ap (λ (qs : List Request). filter (stays r table) qs) is.in_line.queue ∙ sym f.0; reset = is.in_line.reset ∙ sym f.1 };
       };
       sent = filter-append is_answer (map cancelled (filter (touched r table) h.queue)) (facts_of h.guest.caps m h.gadget)
           ∙ append-nil (filter is_answer (map cancelled (filter (touched r table) h.queue)))
@@ -163,7 +163,7 @@ any-finishes {out = out} m h l q answers is =
       | false ↦ does-finishes m h l q (change_of q.form) (m.perform h.gadget q.transfer) answers is
     ]
 
-first-finishes : {S : Type 0} {out : Bool} (h : Host S) (l : List Waiting) (ep : ℕ) (q : Request) (cs : List (Route × EpTable)) (o : Option (ℕ × Outcome)) (v : Option (Move S)) → FirstOf (Some q) (first_such (is_of ep) (waiting_in l)) → Tied h out l →
+first-finishes : {S : Type 0} {out : Bool} (h : Host S) (l : List Waiting) (ep : ℕ) (q : Request) (cs : List (Route × EpTable)) (o : Option (ℕ × Outcome)) (v : Option (Move S)) → FirstOf (Some q) (first_such (is_in_queue_of ep) (waiting_in l)) → Tied h out l →
     Finishes out (without_performed ep l) q cs o v → Gives out (perform_move_by h (with_id q v)) (by_outcome cs ep l o)
 first-finishes h l ep q cs None None first is then = record { tied = is; sent = refl }
 first-finishes h l ep q cs None (Some v) first is then = absurd then
@@ -176,21 +176,21 @@ first-finishes h l ep q cs (Some o) (Some v) first is then =
       sent = then.sent
           ∙ ap (λ (x : ℕ × RedirPacket). told_flushed flushed ++ x ∷ []) (same-answer q first.0 first.1.1 o.0 o.1)
           ∙ ap (λ (ps : List Placed). told_flushed flushed ++ map answer_of (map by ps)) (sym first.1.0)
-          ∙ sym (map-append answer_of (map (ends ByChange) flushed) (map by (first_such (is_of ep) (waiting_in l))));
+          ∙ sym (map-append answer_of (map (ends ByChange) flushed) (map by (first_such (is_in_queue_of ep) (waiting_in l))));
     }
 
-found-gives : {S : Type 0} {out : Bool} (m : Meaning S) (h : Host S) (l : List Waiting) (ep : ℕ) (o : Option Request) → find (is_at ep) h.queue ≡ o → FirstOf o (first_such (is_of ep) (waiting_in l)) → Tied h out l → Gives out (perform_move_by h (first_performed m h ep o)) (by_perform m h.gadget ep l o)
+found-gives : {S : Type 0} {out : Bool} (m : Meaning S) (h : Host S) (l : List Waiting) (ep : ℕ) (o : Option Request) → find (is_at ep) h.queue ≡ o → FirstOf o (first_such (is_in_queue_of ep) (waiting_in l)) → Tied h out l → Gives out (perform_move_by h (first_performed m h ep o)) (by_perform m h.gadget ep l o)
 found-gives m h l ep None none first is = record { tied = is; sent = refl }
 found-gives {S = S} {out = out} m h l ep (Some q) found first is =
     let g : Host S = record h { queue = without_first (is_at ep) h.queue } in
     let left = without_performed ep l in
     let leaves = performed-leaves ep l q (ap (λ (qs : List Request). find (is_at ep) qs) (sym is.in_line.queue) ∙ found) in
     let still : IsInLine g left = record { queue = ap (λ (qs : List Request). without_first (is_at ep) qs) is.in_line.queue ∙ sym leaves.0; reset = is.in_line.reset ∙ sym leaves.1 } in
-    let rest = zip-without (is_at ep) (is_of ep) (same-at ep) h.queue (waiting_in l) is.queue in
+    let rest = zip-without (is_at ep) (is_in_queue_of ep) (same-at ep) h.queue (waiting_in l) is.queue in
     let tied : Tied g out left = record { queue = subst (λ (ps : List Placed). AllZip Same g.queue ps) (sym (placed-performed ep l)) rest; running = is.running; gone = is.gone; in_line = still } in
     first-finishes h l ep q (all_changes m h.gadget q) (outcome_of m h.gadget q) (performs_any m g q) first is (any-finishes m g left q (queue-answers q first.0 first.1.1) tied)
 
 pub performed-gives : {S : Type 0} {out : Bool} (m : Meaning S) (h : Host S) (l : List Waiting) (ep : ℕ) (b : Bool) → Tied h out l →
-    Gives out (perform_move_by h (cond b None (first_performed m h ep (find (is_at ep) h.queue)))) (cond b (stays l) (by_perform m h.gadget ep l (find (is_at ep) h.queue)))
+    Gives out (perform_move_by h (cond b None (first_performed m h ep (find (is_at ep) h.queue)))) (cond b (unchanged l) (by_perform m h.gadget ep l (find (is_at ep) h.queue)))
 performed-gives m h l ep true is = record { tied = is; sent = refl }
-performed-gives m h l ep false is = found-gives m h l ep (find (is_at ep) h.queue) refl (zip-first (is_at ep) (is_of ep) (same-at ep) h.queue (waiting_in l) is.queue) is
+performed-gives m h l ep false is = found-gives m h l ep (find (is_at ep) h.queue) refl (zip-first (is_at ep) (is_in_queue_of ep) (same-at ep) h.queue (waiting_in l) is.queue) is

@@ -1,7 +1,7 @@
 -- What the calls of a host make, put together.
 use Rattle.std.proofs.Common.{◌≡◌, Bor, ℕ, Bool, true, false, List, [], ◌∷◌, ◌++◌, Some, None, length, filter, map, if◌then◌else◌, refl, sym, ap, subst, ◌∙◌, append_assoc, arith, lit<}
 use Rattle.std.specs.Prelude.{Option, option_map, Result, Ok, Err, IfOk, IfSome, OnOk}
-use Rattle.std.specs.List.{find, flat_map}
+use Rattle.std.specs.List.{find, flat_map, AllByRecursion as Each}
 use Rattle.std.specs.Option.{option_copied}
 use Rattle.std.proofs.lemmas.List.{append-nil}
 use Rattle.usb_base.specs.Status.{is_success}
@@ -27,7 +27,7 @@ use Rattle.redir_host.specs.write.Answers.{answer, answer_by, cancelled}
 use Rattle.redir_host.specs.device.Changes.{change_of, cleared, changed, runs_on, stays, touched}
 use Rattle.redir_host.specs.device.Facts.{facts_of}
 use Rattle.redir_host.specs.step.Machine.{told_bytes, bytes_of}
-use Rattle.redir_host.specs.step.Makes.{Makes, Performs, Tells}
+use Rattle.redir_host.specs.step.Makes.{Makes, TellsPerformed, Tells}
 use Rattle.redir_host.specs.step.Moves.{Move, behind, then_sends}
 use Rattle.redir_host.specs.device.Performing.{done_by, does, performs, performs_marked, resets, performed, first_performed, with_id, perform_move, perform_move_by, told_performed, told_performed_by}
 use Rattle.usb_base.specs.Firsts.{without_first}
@@ -35,7 +35,7 @@ use Rattle.redir_host.specs.state.Queues.{is_at}
 use Rattle.redir_host.specs.guest.Asking.{routed}
 use Rattle.redir_host.specs.device.Resets.{PerformsNow, ResetsTo}
 use Rattle.redir_host.specs.write.Readable.{InRange}
-use Rattle.redir_host.specs.state.Sound.{Each, IsRequest, IsRunning, IsSound}
+use Rattle.redir_host.specs.state.Sound.{IsRequest, IsRunning, IsSound}
 use Rattle.redir_host.proofs.lemmas.write.Flushes.{flat_map-append}
 use Rattle.redir_host.proofs.lemmas.state.Each.{each_appended, each_filtered, each_joined, given_if}
 
@@ -132,16 +132,16 @@ outcome_is m lawful s t o is came = given_if (IsOutcome t) (m.perform s t) o cam
 
 pub performs_done : {S : Type 0} (m : Meaning S) (h new : Host S) (q : Request) (rest : List Request) (t : EpTable) (r : Option Route) (s : S) (o : Outcome) (o0 o1 : List ℕ) →
     m.perform h.gadget q.transfer ≡ Some (s, o) → t ≡ m.table h.gadget → r ≡ change_of q.form → Tells (done_by m t (record h { gadget = s; queue = rest }) q r o) new o0 o1 →
-    Performs (with_id q (performs m (record h { queue = rest }) q)) h new (Done q.id) o0 o1
+    TellsPerformed (with_id q (performs m (record h { queue = rest }) q)) h new (Done q.id) o0 o1
 performs_done {S = S} m h new q rest t r s o o0 o1 performed table change made =
     let g : Host S = record h { gadget = s; queue = rest } in
     let made' : Tells (done_by m (m.table h.gadget) g q (change_of q.form) o) new o0 o1 =
     subst (λ (y : Option Route). Tells (done_by m (m.table h.gadget) g q y o) new o0 o1) change (subst (λ (x : EpTable). Tells (done_by m x g q r o) new o0 o1) table made) in
-    let Says : Option (S × Outcome) → Type 0 = λ x. Performs (with_id q (does m (record h { queue = rest }) q (change_of q.form) x)) h new (Done q.id) o0 o1 in
+    let Says : Option (S × Outcome) → Type 0 = λ x. TellsPerformed (with_id q (does m (record h { queue = rest }) q (change_of q.form) x)) h new (Done q.id) o0 o1 in
     subst Says (sym performed) (record { told = refl; tells = made' })
 
 -- it was performed at once
-pub performs_now : {S : Type 0} (h new : Host S) (q : Request) (v : Option (Move S)) (o0 o1 : List ℕ) → PerformsNow v new o0 o1 → Performs (with_id q v) h new (Done q.id) o0 o1
+pub performs_now : {S : Type 0} (h new : Host S) (q : Request) (v : Option (Move S)) (o0 o1 : List ℕ) → PerformsNow v new o0 o1 → TellsPerformed (with_id q v) h new (Done q.id) o0 o1
 performs_now h new q None o0 o1 now = absurd now
 performs_now h new q (Some v) o0 o1 now = record { told = refl; tells = now }
 
@@ -149,7 +149,7 @@ performs_now h new q (Some v) o0 o1 now = record { told = refl; tells = now }
 
 -- the one that was found, by its mark
 pub first_done : {S : Type 0} (m : Meaning S) (h new : Host S) (ep : ℕ) (q : Request) (marks : Bool) (told : Performed) (o0 o1 : List ℕ) → h.unplugged ≡ false → find (is_at ep) h.queue ≡ Some q → q.reset ≡ marks →
-    Performs (with_id q (if marks then performs_marked m (record h { queue = without_first (is_at ep) h.queue }) q q.form else performs m (record h { queue = without_first (is_at ep) h.queue }) q)) h new told o0 o1 →
+    TellsPerformed (with_id q (if marks then performs_marked m (record h { queue = without_first (is_at ep) h.queue }) q q.form else performs m (record h { queue = without_first (is_at ep) h.queue }) q)) h new told o0 o1 →
     (told ≡ told_performed m h ep) × Tells (perform_move m h ep) new o0 o1
 first_done {S = S} m h new ep q marks told o0 o1 plugged found mark done =
     let rest = without_first (is_at ep) h.queue in
@@ -165,9 +165,9 @@ pub some_same : {A : Type 0} (o : Option A) (x y : A) → o ≡ Some x → o ≡
 some_same o x y e f = let g : Some x ≡ Some y = sym e ∙ f in cc
 
 -- the device isn't ready for it
-pub performs_none : {S : Type 0} (m : Meaning S) (h new : Host S) (q : Request) (rest : List Request) (o0 : List ℕ) → m.perform h.gadget q.transfer ≡ None → new ≡ h → Performs (with_id q (performs m (record h { queue = rest }) q)) h new NotReady o0 o0
+pub performs_none : {S : Type 0} (m : Meaning S) (h new : Host S) (q : Request) (rest : List Request) (o0 : List ℕ) → m.perform h.gadget q.transfer ≡ None → new ≡ h → TellsPerformed (with_id q (performs m (record h { queue = rest }) q)) h new NotReady o0 o0
 performs_none {S = S} m h new q rest o0 none same =
-    let Says : Option (S × Outcome) → Type 0 = λ x. Performs (with_id q (does m (record h { queue = rest }) q (change_of q.form) x)) h new NotReady o0 o0 in
+    let Says : Option (S × Outcome) → Type 0 = λ x. TellsPerformed (with_id q (does m (record h { queue = rest }) q (change_of q.form) x)) h new NotReady o0 o0 in
     subst Says (sym none) (record { told = refl; tells = record { makes = record { host = same; sent = sym (append-nil o0) }; in_range = tt } })
 
 -- nothing came of it, and the device is as it was
@@ -275,7 +275,7 @@ reset_outcome {S = S} m lawful h after t o reset =
     nothing_moved t o (subst Says reset.performed (lawful.outcomes h.gadget (routed route.Reset) reset_transfer))
 
 -- and then it was performed
-pub performed_now : {S : Type 0} (o : Option (Move S)) (h new : Host S) (q : Request) (o0 o1 : List ℕ) → PerformsNow o new o0 o1 → Performs (with_id q o) h new (Done q.id) o0 o1
+pub performed_now : {S : Type 0} (o : Option (Move S)) (h new : Host S) (q : Request) (o0 o1 : List ℕ) → PerformsNow o new o0 o1 → TellsPerformed (with_id q o) h new (Done q.id) o0 o1
 performed_now None h new q o0 o1 now = absurd now
 performed_now (Some v) h new q o0 o1 now = record { told = refl; tells = now }
 

@@ -1,7 +1,7 @@
 -- What is sent is an answer, a status of a stream, or has id 0.
 use Rattle.std.proofs.Common.{◌≡◌, ℕ, Bool, true, false, cond, List, [], ◌∷◌, filter, map, Some, None, refl, inl, inr}
 use Rattle.std.specs.Prelude.{Option}
-use Rattle.std.specs.List.{find, AllZip}
+use Rattle.std.specs.List.{find, AllZip, AllByRecursion as Each}
 use Rattle.usb_base.specs.Status.{is_success}
 use Rattle.usb_base.specs.declared.endpoint.EpTable.{EpTable}
 use Rattle.usb_base.specs.declared.status.UsbStatus.TheVariants as status
@@ -27,7 +27,6 @@ use Rattle.redir_host.specs.device.Performing.{done_by}
 use Rattle.redir_host.specs.guest.Asking.{asking_of}
 use Rattle.redir_host.specs.guest.Packets.{can_start, cancel_move, data_move, packet_move_by, start_move}
 use Rattle.redir_host.specs.state.Queues.{is_at, is_cancelled_by}
-use Rattle.redir_host.specs.state.Sound.{Each}
 use Rattle.redir_host.specs.guest.Line.{Placed}
 use Rattle.redir_host.specs.step.Answered.{IsKnown, waiting}
 use Rattle.redir_host.specs.step.Items.{Item, Asked, Wrong, Performs, Offers, Unplugs}

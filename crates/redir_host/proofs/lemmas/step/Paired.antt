@@ -1,7 +1,7 @@
 -- A request of the queue and one that waits, and what is so of lists of them.
-use Rattle.std.proofs.Common.{◌≡◌, ℕ, ◌==◌, Bool, true, false, cond, ◌&&◌, List, [], ◌∷◌, ◌++◌, filter, map, Some, None, refl, sym, ap, subst, ◌∙◌}
+use Rattle.std.proofs.Common.{◌≡◌, ℕ, ◌==◌, Bool, true, false, cond, ◌&&◌, List, [], ◌∷◌, ◌++◌, filter, map, Some, None, refl, ap, subst, ◌∙◌}
 use Rattle.std.specs.Prelude.{Option}
-use Rattle.std.specs.List.{find, AllZip}
+use Rattle.std.specs.List.{find, AllZip, AllByRecursion as Each}
 use Rattle.usb_base.specs.Endpoint.{is_in_endpoint}
 use Rattle.usb_base.specs.declared.endpoint.EpTable.{EpTable}
 use Rattle.usb_base.specs.declared.status.UsbStatus.TheVariants as status
@@ -16,8 +16,7 @@ use Rattle.redir_host.specs.device.Changes.{is_touched, touched}
 use Rattle.redir_host.specs.guest.Line.{Placed, Waiting, queue_in, reset_in, waiting_in}
 use Rattle.usb_base.specs.Firsts.{without_first}
 use Rattle.redir_host.specs.state.Queues.{after_cancel, is_at, is_cancelled_by, is_data, is_first_queue, queue_of, with_first_marked}
-use Rattle.redir_host.specs.state.Sound.{Each}
-use Rattle.redir_host.specs.step.Answered.{ByChange, Became, ends, first_such, is_of, is_answer, is_cancelled, answer_of, is_flushed, told_request, told_placed}
+use Rattle.redir_host.specs.step.Answered.{ByChange, Became, ends, first_such, is_in_queue_of, is_answer, is_cancelled, answer_of, is_flushed, told_request, told_placed}
 use Rattle.redir_host.specs.step.Moves.{Move}
 use Rattle.chapter9.specs.Standard.{ended}
 use Rattle.redir_host.specs.write.Answers.{answer, answer_by, cancelled}
@@ -133,7 +132,7 @@ zip-flushed =
 pub zip-told : (qs : List Request) (ws : List Placed) → AllZip Same qs ws → map told_request qs ≡ map told_placed ws
 zip-told = zip-all (λ qs ws. map told_request qs ≡ map told_placed ws) refl (λ q qs p ws same zip rest. λ i. (same.id i, same.form i, same.ep i) ∷ rest i)
 
-pub same-at : (ep : ℕ) → Agree (is_at ep) (is_of ep)
+pub same-at : (ep : ℕ) → Agree (is_at ep) (is_in_queue_of ep)
 same-at ep q p same = λ i. queue_of (same.ep i) == queue_of ep
 
 pub same-touched : (r : Route) (table : EpTable) → Agree (touched r table) (is_flushed r table)

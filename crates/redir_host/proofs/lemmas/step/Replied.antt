@@ -34,7 +34,7 @@ use Rattle.redir_host.specs.guest.Asking.{asking, asking_of, asking_plain, asked
 use Rattle.redir_host.specs.guest.Line.{Placed, Waiting, Reset, Waits, placed, asked_line, waiting_in, without_cancelled}
 use Rattle.redir_host.specs.guest.Packets.{can_start, cancel_move, data_move, packet_move_by, queued, runs_at, start_move, stop_move, stopped}
 use Rattle.redir_host.specs.state.Queues.{after_cancel, is_at, is_cancelled_by, is_first_queue, leaves_mark}
-use Rattle.redir_host.specs.step.Answered.{ByCancel, packets, request_in, ends, stays, joins, at_once, first_such, is_answer, is_cancelled, answer_of, answers_sent, by_cancel, by_plain, by_packet, by_perform, becomes, is_gone, line, waiting, answered, told_request, told_placed}
+use Rattle.redir_host.specs.step.Answered.{ByCancel, packets, request_in, ends, unchanged, lines_up, at_once, first_such, is_answer, is_cancelled, answer_of, answers_sent, by_cancel, by_plain, by_packet, by_perform, becomes, is_gone, line, waiting, answered, told_request, told_placed}
 use Rattle.redir_host.specs.step.Items.{Item, Asked, Wrong, Performs, Offers, Unplugs}
 use Rattle.redir_host.specs.step.Machine.{move, run, all_given}
 use Rattle.redir_host.specs.step.Moves.{quiet}
@@ -89,7 +89,7 @@ joins-line h l place id f t is = record {
   reset = ap (λ (b : Bool). not (is_control t.ep) && b) is.reset ∙ sym (reset-joined false l place id f t);
 }
 
-asked-gives : {S : Type 0} {out : Bool} (h : Host S) (l : List Waiting) (place id : ℕ) (a : Asking) → AsksAnswers a → Tied h out l → Gives out (data_move h id a) (joins l (asked_line place id a) (at_once place id a))
+asked-gives : {S : Type 0} {out : Bool} (h : Host S) (l : List Waiting) (place id : ℕ) (a : Asking) → AsksAnswers a → Tied h out l → Gives out (data_move h id a) (lines_up l (asked_line place id a) (at_once place id a))
 asked-gives h l place id Nothing answers is = record { tied = same-line h l is; sent = refl }
 asked-gives h l place id (Refuses f ep) answers is = record { tied = same-line h l is; sent = kept-first (id, answer_by 0 f ep (ended status.Inval)) [] (answers id 0 (ended status.Inval)) }
 asked-gives h l place id (Asks f t) answers is =
@@ -130,7 +130,7 @@ cancel-gives {out = out} h l id o e first is = by o e first
           ∙ sym (ap (λ (ps : List Placed). map answer_of (map (ends ByCancel) ps)) first.1.0);
     }
 
-start-gives : {S : Type 0} {out : Bool} (h : Host S) (l : List Waiting) (id : ℕ) (k : StreamKind) (ep : ℕ) (b : Bool) → (b ≡ true → is_in_endpoint ep ≡ true) → Tied h out l → Gives out (start_move b h id k ep) (stays l)
+start-gives : {S : Type 0} {out : Bool} (h : Host S) (l : List Waiting) (id : ℕ) (k : StreamKind) (ep : ℕ) (b : Bool) → (b ≡ true → is_in_endpoint ep ≡ true) → Tied h out l → Gives out (start_move b h id k ep) (unchanged l)
 start-gives h l id k ep true into is = record {
   tied = record { queue = is.queue; running = each_appended IsIn (stopped ep h.running) (record { ep = ep; kind = k }) (each_filtered IsIn (λ s. not (runs_at ep s)) h.running is.running) (into refl); gone = is.gone; in_line = record { queue = is.in_line.queue; reset = is.in_line.reset } };
   sent = elim k as (λ (k : StreamKind). filter is_answer ((start_move true h id k ep).sent) ≡ []) [ Iso ↦ refl | Interrupt ↦ refl ];
@@ -170,7 +170,7 @@ packet-gives m g l new place id p false is = any-gives m g l place id p is
 
 -- ---- offers, and the end
 
-given-gives : {S : Type 0} {out : Bool} (h : Host S) (l : List Waiting) (ep : ℕ) (k : StreamKind) (o : Option (S × StreamPacket)) → is_in_endpoint ep ≡ true → Tied h out l → Gives out (offered_by h ep k o) (stays l)
+given-gives : {S : Type 0} {out : Bool} (h : Host S) (l : List Waiting) (ep : ℕ) (k : StreamKind) (o : Option (S × StreamPacket)) → is_in_endpoint ep ≡ true → Tied h out l → Gives out (offered_by h ep k o) (unchanged l)
 given-gives h l ep k None into is = record { tied = is; sent = refl }
 given-gives h l ep Iso (Some sent) into is = record { tied = record { queue = is.queue; running = is.running; gone = is.gone; in_line = record { queue = is.in_line.queue; reset = is.in_line.reset } }; sent = refl }
 given-gives h l ep Interrupt (Some sent) into is = record {
@@ -178,17 +178,17 @@ given-gives h l ep Interrupt (Some sent) into is = record {
   sent = ap (λ (b : Bool). cond (not b) ((offered_by h ep Interrupt (Some sent)).sent) []) into;
 }
 
-offered-gives : {S : Type 0} {out : Bool} (m : Meaning S) (h : Host S) (l : List Waiting) (ep : ℕ) (o : Option Running) → find (runs_at ep) h.running ≡ o → Tied h out l → Gives out (offered_on m h ep o) (stays l)
+offered-gives : {S : Type 0} {out : Bool} (m : Meaning S) (h : Host S) (l : List Waiting) (ep : ℕ) (o : Option Running) → find (runs_at ep) h.running ≡ o → Tied h out l → Gives out (offered_on m h ep o) (unchanged l)
 offered-gives m h l ep None none is = record { tied = is; sent = refl }
 offered-gives m h l ep (Some s) found is =
     let e = each_found IsIn (runs_at ep) h.running s is.running found in
     given-gives h l ep s.kind (m.offer h.gadget ep) (subst (λ (n : ℕ). is_in_endpoint n ≡ true) (eqb-true s.ep ep e.1) e.0) is
 
-offer-gives : {S : Type 0} {out : Bool} (m : Meaning S) (h : Host S) (l : List Waiting) (ep : ℕ) (b : Bool) → Tied h out l → Gives out (cond b (quiet h) (offered_on m h ep (find (runs_at ep) h.running))) (stays l)
+offer-gives : {S : Type 0} {out : Bool} (m : Meaning S) (h : Host S) (l : List Waiting) (ep : ℕ) (b : Bool) → Tied h out l → Gives out (cond b (quiet h) (offered_on m h ep (find (runs_at ep) h.running))) (unchanged l)
 offer-gives m h l ep true is = record { tied = is; sent = refl }
 offer-gives m h l ep false is = offered-gives m h l ep (find (runs_at ep) h.running) refl is
 
-unplug-gives : {S : Type 0} (h : Host S) (l : List Waiting) (b : Bool) → Tied h b l → Gives true (unplugged-by h b) (cond b (stays l) (record { line = []; answered = []; dropped = waiting_in l }))
+unplug-gives : {S : Type 0} (h : Host S) (l : List Waiting) (b : Bool) → Tied h b l → Gives true (unplugged-by h b) (cond b (unchanged l) (record { line = []; answered = []; dropped = waiting_in l }))
 unplug-gives h l true is = record { tied = is; sent = refl }
 unplug-gives h l false is = record {
   tied = record { queue = tt; running = tt; gone = refl; in_line = record { queue = refl; reset = refl } };
@@ -208,11 +208,11 @@ step-gives m h l place (Wrong from reason) xs is = record { tied = is; sent = re
 step-gives m h l place (Performs ep) xs is =
     let out = is_gone xs in
     let first = find (is_at ep) h.queue in
-    subst (λ (b : Bool). Gives out (perform_move_by h (cond b None (first_performed m h ep first))) (cond out (stays l) (by_perform m h.gadget ep l first))) (sym is.gone) (performed-gives m h l ep out is)
+    subst (λ (b : Bool). Gives out (perform_move_by h (cond b None (first_performed m h ep first))) (cond out (unchanged l) (by_perform m h.gadget ep l first))) (sym is.gone) (performed-gives m h l ep out is)
 step-gives m h l place (Offers ep) xs is = offer-gives m h l ep h.unplugged is
 step-gives m h l place Unplugs xs is =
     let out = is_gone xs in
-    subst (λ (b : Bool). Gives true (unplugged-by h b) (cond out (stays l) (record { line = []; answered = []; dropped = waiting_in l }))) (sym is.gone) (unplug-gives h l out is)
+    subst (λ (b : Bool). Gives true (unplugged-by h b) (cond out (unchanged l) (record { line = []; answered = []; dropped = waiting_in l }))) (sym is.gone) (unplug-gives h l out is)
 
 run-tied : {S : Type 0} (m : Meaning S) (s : S) (xs : List Item) → Tied (run m s xs) (is_gone xs) (line m s xs)
 run-tied m s [] = record { queue = tt; running = tt; gone = refl; in_line = record { queue = refl; reset = refl } }

@@ -29,7 +29,7 @@ use Rattle.redir_host.specs.step.History.{brought, history}
 use Rattle.redir_host.specs.step.Items.{Item, Performs, Offers, Unplugs}
 use Rattle.redir_host.specs.write.Readable.{AreRead}
 use Rattle.redir_host.specs.state.Sound.{IsSound}
-use Rattle.redir_host.specs.step.Stands.{told_state, IsRead, Stands, DoesAct}
+use Rattle.redir_host.specs.step.Stands.{told_state, IsRead, HostStands, DoesAct}
 use Rattle.redir_host.proofs.lemmas.state.Sound.{Keeps, keeps-perform, keeps-offer, keeps-unplug}
 use Rattle.redir_host.proofs.lemmas.write.Readable.{nothing-sent, perform-read, offer-read, unplug-read}
 use Rattle.redir_host.proofs.lemmas.guest.Pieces.{given-all, host-all, read-given, sent_of}
@@ -48,7 +48,7 @@ split-none =
 abbrev first-stream : Stream RedirState
 first-stream = record { state = start; rest = []; place = 0; held = []; at = 0; over = false }
 
-pub stands-first : {S : Type 0} (m : Meaning S) (s : S) (k : HostKept S) → k.failed ≡ false → k.stream ≡ first-stream → k.host ≡ first_host s → Stands m s k []
+pub stands-first : {S : Type 0} (m : Meaning S) (s : S) (k : HostKept S) → k.failed ≡ false → k.stream ≡ first-stream → k.host ≡ first_host s → HostStands m s k []
 stands-first {S = S} m s k works stream host = record {
   works = works;
   stream = subst (λ (x : Stream RedirState). IsRead x []) (sym stream) (record {
@@ -70,7 +70,7 @@ stands-first {S = S} m s k works stream host = record {
 -- ---- what is done with the device
 
 -- an act that is one item, and brings no bytes of the guest
-stands-own : {S : Type 0} (m : Meaning S) (s : S) (old new : HostKept S) (acts : List Act) (a : Act) (x : Item) (o0 o1 : List ℕ) → brought acts a ≡ x ∷ [] → guest_bytes (a ∷ acts) ≡ guest_bytes acts → Stands m s old acts → new ≡ record old { host = new.host } →
+stands-own : {S : Type 0} (m : Meaning S) (s : S) (old new : HostKept S) (acts : List Act) (a : Act) (x : Item) (o0 o1 : List ℕ) → brought acts a ≡ x ∷ [] → guest_bytes (a ∷ acts) ≡ guest_bytes acts → HostStands m s old acts → new ≡ record old { host = new.host } →
     Makes (move m old.host x) new.host o0 o1 → Keeps old.host (move m old.host x).host → AreRead old.host.guest (move m old.host x).sent → DoesAct m s new acts a o0 o1
 stands-own {S = S} m s old new acts a x o0 o1 one bytes stands rest makes keeps own =
     let v : Move S = move m old.host x in
@@ -90,14 +90,14 @@ stands-own {S = S} m s old new acts a x o0 o1 one bytes stands rest makes keeps 
       sent = given-all bytes_of m s old acts (x ∷ []) (brought acts a) o0 o1 stands (makes.sent ∙ ap (λ bs. o0 ++ bs) (sym (append-nil (bytes_of v)))) one;
     }
 
-pub stands-performed : {S : Type 0} (m : Meaning S) → IsGadget m → (s : S) (old new : HostKept S) (acts : List Act) (ep : ℕ) (o0 o1 : List ℕ) → Stands m s old acts → new ≡ record old { host = new.host } → Tells (perform_move m old.host ep) new.host o0 o1 → DoesAct m s new acts (Perform ep) o0 o1
+pub stands-performed : {S : Type 0} (m : Meaning S) → IsGadget m → (s : S) (old new : HostKept S) (acts : List Act) (ep : ℕ) (o0 o1 : List ℕ) → HostStands m s old acts → new ≡ record old { host = new.host } → Tells (perform_move m old.host ep) new.host o0 o1 → DoesAct m s new acts (Perform ep) o0 o1
 stands-performed m lawful s old new acts ep o0 o1 stands rest tells =
     stands-own m s old new acts (Perform ep) (Performs ep) o0 o1 refl refl stands rest tells.makes (keeps-perform m old.host ep stands.sound) (perform-read m lawful old.host ep stands.sound tells.in_range)
 
-pub stands-offered : {S : Type 0} (m : Meaning S) → IsGadget m → (s : S) (old new : HostKept S) (acts : List Act) (ep : ℕ) (o0 o1 : List ℕ) → Stands m s old acts → new ≡ record old { host = new.host } → Makes (offer_move m old.host ep) new.host o0 o1 → DoesAct m s new acts (Offer ep) o0 o1
+pub stands-offered : {S : Type 0} (m : Meaning S) → IsGadget m → (s : S) (old new : HostKept S) (acts : List Act) (ep : ℕ) (o0 o1 : List ℕ) → HostStands m s old acts → new ≡ record old { host = new.host } → Makes (offer_move m old.host ep) new.host o0 o1 → DoesAct m s new acts (Offer ep) o0 o1
 stands-offered m lawful s old new acts ep o0 o1 stands rest makes =
     stands-own m s old new acts (Offer ep) (Offers ep) o0 o1 refl refl stands rest makes (keeps-offer m old.host ep stands.sound) (offer-read m lawful old.host ep stands.sound)
 
-pub stands-unplugged : {S : Type 0} (m : Meaning S) (s : S) (old new : HostKept S) (acts : List Act) (o0 o1 : List ℕ) → Stands m s old acts → new ≡ record old { host = new.host } → Makes (unplug_move old.host) new.host o0 o1 → DoesAct m s new acts Unplug o0 o1
+pub stands-unplugged : {S : Type 0} (m : Meaning S) (s : S) (old new : HostKept S) (acts : List Act) (o0 o1 : List ℕ) → HostStands m s old acts → new ≡ record old { host = new.host } → Makes (unplug_move old.host) new.host o0 o1 → DoesAct m s new acts Unplug o0 o1
 stands-unplugged m s old new acts o0 o1 stands rest makes =
     stands-own m s old new acts Unplug Unplugs o0 o1 refl refl stands rest makes (keeps-unplug old.host stands.sound) (unplug-read old.host)

@@ -11,6 +11,7 @@ use Rattle.redir_wire.specs.Capability.{has}
 use Rattle.redir_wire.specs.Header.{IdFits}
 use Rattle.redir_wire.specs.Ranges.{IsSent}
 use Rattle.redir_wire.specs.Written.{CanWrite}
+use Rattle.model_device.specs.declared.gadget.TheConstants.{MAX_STREAM_PACKET}
 use Rattle.redir_host.specs.declared.running.StreamKind.{StreamKind}
 use Rattle.redir_host.specs.declared.running.StreamKind.TheVariants.{Iso, Interrupt}
 use Rattle.redir_host.specs.device.Facts.{column, ep_info_of, connect_of}
@@ -42,6 +43,6 @@ connect caps c = record { agreed = refl; id_fits = no_id (has caps 5); writable 
 
 -- ---- packets of streams
 
-pub stream_told : (caps : Caps) (k : StreamKind) (ep : ℕ) (p : StreamPacket) → is_in_endpoint ep ≡ true → length p.body ≤ 65535 → CanTell caps 0 (stream_packet k ep p).1
+pub stream_told : (caps : Caps) (k : StreamKind) (ep : ℕ) (p : StreamPacket) → is_in_endpoint ep ≡ true → length p.body ≤ MAX_STREAM_PACKET → CanTell caps 0 (stream_packet k ep p).1
 stream_told caps Iso ep p way few = record { id_fits = no_id (has caps 5); length_fits = tt; data_there = sym (ap (λ (b : Bool). cond b (length p.body) 0) way); in_limit = omega arith }
 stream_told caps Interrupt ep p way few = record { id_fits = no_id (has caps 5); length_fits = tt; data_there = sym (ap (λ (b : Bool). cond b (length p.body) 0) way); in_limit = omega arith }

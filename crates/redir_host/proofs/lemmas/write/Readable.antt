@@ -1,7 +1,7 @@
 -- What a host sends can be read by its guest: its answers, its facts, and the packets of its streams.
 use Rattle.std.proofs.Common.{◌≡◌, ℕ, ◌<◌, ◌≤◌, ◌^◌, Bool, true, false, cond, List, [], ◌∷◌, length, filter, map, Some, None, refl, sym, ap, subst, ◌∙◌, arith, lit<}
 use Rattle.std.specs.Prelude.{Option, option_map, IfSome}
-use Rattle.std.specs.List.{find}
+use Rattle.std.specs.List.{find, AllByRecursion as Each}
 use Rattle.std.proofs.lemmas.Bool.{eqb-true, true≢false}
 use Rattle.usb_base.specs.Endpoint.{is_in_endpoint}
 use Rattle.usb_base.specs.Status.{status_byte, is_success}
@@ -25,6 +25,7 @@ use Rattle.control_route.specs.declared.route.Route.TheVariants as route
 use Rattle.model_device.specs.Gadget.{IsGadget}
 use Rattle.model_device.specs.Meaning.{Meaning}
 use Rattle.model_device.specs.Transfer.{IsOutcome}
+use Rattle.model_device.specs.declared.gadget.TheConstants.{MAX_STREAM_PACKET}
 use Rattle.redir_host.specs.declared.host.Host.{Host}
 use Rattle.redir_host.specs.declared.request.Form.{Form}
 use Rattle.redir_host.specs.declared.request.Form.TheVariants as form
@@ -45,7 +46,7 @@ use Rattle.redir_host.specs.device.Performing.{done_by, does, performs, resets, 
 use Rattle.usb_base.specs.Firsts.{without_first}
 use Rattle.redir_host.specs.state.Queues.{is_at}
 use Rattle.redir_host.specs.write.Readable.{AreRead, InRange}
-use Rattle.redir_host.specs.state.Sound.{Each, FormFits, IsRequest, IsRunning, IsSound}
+use Rattle.redir_host.specs.state.Sound.{FormFits, IsRequest, IsRunning, IsSound}
 use Rattle.redir_host.proofs.lemmas.write.Answers.{can_answer, ended_fits, few_wanted, outcome_fits}
 use Rattle.redir_host.proofs.lemmas.state.Sound.{each-without, unplugged-by, with-gadget}
 use Rattle.redir_host.proofs.lemmas.step.Makes.{changed_guest, cleared_sound, nothing_moved, reset_transfer}
@@ -191,11 +192,11 @@ perform-read {S = S} m lawful h ep sound = by h.unplugged
 
 -- ---- offers, and the end
 
-stream-read : (caps : Caps) (k : StreamKind) (ep : ℕ) (p : StreamPacket) → is_in_endpoint ep ≡ true → length p.body ≤ 65535 → CanBeRead ToGuest caps (stream_packet k ep p)
+stream-read : (caps : Caps) (k : StreamKind) (ep : ℕ) (p : StreamPacket) → is_in_endpoint ep ≡ true → length p.body ≤ MAX_STREAM_PACKET → CanBeRead ToGuest caps (stream_packet k ep p)
 stream-read caps Iso ep p way few = data_sent ToGuest caps 0 (moving.Iso ep (status_byte p.status) (length p.body) p.body) ((omega arith, tt), tt) (stream_told caps Iso ep p way few)
 stream-read caps Interrupt ep p way few = data_sent ToGuest caps 0 (moving.Interrupt ep (status_byte p.status) (length p.body) p.body) ((omega arith, tt), tt) (stream_told caps Interrupt ep p way few)
 
-offered-read : {S : Type 0} (h : Host S) (ep : ℕ) (k : StreamKind) (o : Option (S × StreamPacket)) → h.guest.first ≡ false → is_in_endpoint ep ≡ true → IfSome o (λ sent. length sent.1.body ≤ 65535) → AreRead h.guest (offered_by h ep k o).sent
+offered-read : {S : Type 0} (h : Host S) (ep : ℕ) (k : StreamKind) (o : Option (S × StreamPacket)) → h.guest.first ≡ false → is_in_endpoint ep ≡ true → IfSome o (λ sent. length sent.1.body ≤ MAX_STREAM_PACKET) → AreRead h.guest (offered_by h ep k o).sent
 offered-read h ep k None greeted way few = nothing-sent h.guest
 offered-read h ep k (Some sent) greeted way few = are-read h.guest (stream_packet k ep sent.1 ∷ []) greeted (stream-read h.guest.caps k ep sent.1 way few, tt)
 

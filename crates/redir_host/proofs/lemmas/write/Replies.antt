@@ -1,7 +1,7 @@
 -- What a host sends for a packet of its guest can be read, with all that it has sent before.
 use Rattle.std.proofs.Common.{◌≡◌, ℕ, ◌&&◌, ◌==◌, Bool, true, false, cond, List, [], ◌∷◌, ◌++◌, Some, None, refl, sym, subst, lit<}
 use Rattle.std.specs.Prelude.{Option, IfSome, nat_le}
-use Rattle.std.specs.List.{find}
+use Rattle.std.specs.List.{find, AllByRecursion as Each}
 use Rattle.std.proofs.lemmas.Bool.{true≢false}
 use Rattle.usb_base.specs.Endpoint.{is_in_endpoint}
 use Rattle.usb_base.specs.declared.setup.Setup.{Setup}
@@ -41,7 +41,7 @@ use Rattle.redir_host.specs.step.Moves.{Move, quiet}
 use Rattle.redir_host.specs.guest.Packets.{can_start, cancel_move, data_move, greets, packet_move, packet_move_by, start_move, status_of}
 use Rattle.redir_host.specs.state.Queues.{is_cancelled_by}
 use Rattle.redir_host.specs.write.Readable.{AreRead, InRange, TakesInRange, Unless}
-use Rattle.redir_host.specs.state.Sound.{Each, FormFits, IsRequest, IsSound}
+use Rattle.redir_host.specs.state.Sound.{FormFits, IsRequest, IsSound}
 use Rattle.redir_host.proofs.lemmas.write.Answers.{ended_fits}
 use Rattle.redir_host.proofs.lemmas.guest.Sound.{carried, earlier, later}
 use Rattle.redir_host.proofs.lemmas.write.Readable.{answer-read, are-read, cancelled-read, facts-read, nothing-sent}

@@ -2,7 +2,7 @@ use Rattle.std.proofs.Common.{List, subst}
 use Rattle.std.specs.List.{find}
 use Rattle.redir_host.specs.declared.note.Performed.TheVariants.{Done}
 use Rattle.redir_host.specs.declared.request.Request.{Request}
-use Rattle.redir_host.specs.step.Makes.{Performs}
+use Rattle.redir_host.specs.step.Makes.{TellsPerformed}
 use Rattle.redir_host.specs.device.Performing.{performs_marked, with_id}
 use Rattle.redir_host.specs.device.Resets.{PerformsNow}
 use Rattle.usb_base.specs.Firsts.{without_first}
@@ -24,7 +24,7 @@ returns-clause-ok g c q is =
     let m = g.G.Gadget.meaning in
     let new = c.perform_reset.new.self in
     let rest = without_first (is_at c.args.ep) h.queue in
-    let Says : Request → Type 0 = λ x. Performs (with_id x (performs_marked m (record h { queue = rest }) x x.form)) h new (Done own.id) c.args.out.now c.perform_reset.new.out in
+    let Says : Request → Type 0 = λ x. TellsPerformed (with_id x (performs_marked m (record h { queue = rest }) x x.form)) h new (Done own.id) c.args.out.now c.perform_reset.new.out in
     subst Says (some_same (find (is_at c.args.ep) h.queue) own q c.remove_first-request.ensures.request is)
     (performs_now h new own (performs_marked m (record h { queue = rest }) own own.form) c.args.out.now c.perform_reset.new.out
     (subst (λ (ys : List Request). PerformsNow (performs_marked m (record h { queue = ys }) own own.form) new c.args.out.now c.perform_reset.new.out) c.remove_first-request.ensures.rest c.in_ok-perform_reset.ensures.ok))

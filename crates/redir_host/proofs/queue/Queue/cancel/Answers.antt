@@ -5,7 +5,7 @@ use Rattle.std.specs.Map.{remove_entry, values_of}
 use Rattle.std.specs.Option.{option_map}
 use Rattle.redir_host.specs.declared.queue.Cancelled.{Cancelled}
 use Rattle.redir_host.specs.declared.request.Request.{Request}
-use Rattle.redir_host.specs.guest.Cancels.{Cancels, Took}
+use Rattle.redir_host.specs.guest.Cancels.{Cancels, CancelsOne}
 use Rattle.redir_host.specs.inner.Waiting.{is_cancelled_in, is_from, marked_from}
 use Rattle.redir_host.specs.state.Queues.{is_cancelled_by}
 use Rattle.redir_host.proofs.lemmas.state.Cancelled.{took_cancelled}
@@ -38,7 +38,7 @@ returns c =
     let here : find (is_cancelled_in c.args.id) es ≡ Some (n, q) = first.1 ∙ ap (λ (r : Request). Some (n, r)) own in
     let rest = remove_entry (at n) es in
     let gone = c.remove-request.ensures.rest in
-    let Says : List Request → List Request → Type 0 = λ xs ys. Took (record { request = q; leaves_mark = c.if-request.leaves_mark }) c.args.id xs ys in
+    let Says : List Request → List Request → Type 0 = λ xs ys. CancelsOne (record { request = q; leaves_mark = c.if-request.leaves_mark }) c.args.id xs ys in
     subst (λ (xs : List Request). Says xs c.if-request.self) c.self.view_is (
     elim c.if-request.branch [
       | then-request w ↦ subst (Says (values_of es)) (sym w.self-is) (took_cancelled c.args.id es (n, q) w.mark_from.new.self.requests.entries c.if-request.leaves_mark c.self.invariant.ordered here
