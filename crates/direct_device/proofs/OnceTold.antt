@@ -16,7 +16,7 @@ use Rattle.gate_history.specs.declared.request.Request.{Request}
 use Rattle.gate_history.specs.client.Verdict.{is_wire, goes_by_id, none_of}
 use Rattle.gate_history.specs.host.Fillings.{Given, Transferred, Isochronous}
 use Rattle.gate_history.specs.client.Submits.{is_waiting}
-use Rattle.gate_history.specs.write.Answers.{is_cancelled, ret_unlink, answers_by, with_outcome, with_given}
+use Rattle.gate_history.specs.write.Answers.{fails_if_short, is_cancelled, ret_unlink, answers_by, with_outcome, with_given}
 use Rattle.direct_device.specs.Direct.{Load, Live, Ran, Direct, first_direct, as_submission, number, is_number}
 use Rattle.direct_device.specs.Acting.{Deed, Import, Submit, Unlink, Perform, Cancel, Answer, Offer, Arrive, Gone, ClientGone, answers_of, is_taken, is_target, unlink_answers, filled_answers, ran_answers, cut_for}
 use Rattle.direct_device.specs.Legal.{IsAllowed, acts}
@@ -84,7 +84,7 @@ good-done r o = go o.status
     short false e = not-both (sym e)
 
     go : (status : UsbStatus) → is_good (with_outcome r (record { status = status; done = o.done; body = o.body })) ≡ true → is_cancelled status ≡ false
-    go Cancelled e = absurd (short (r.is_in && none_of r.descs && not (is_failed ECONNRESET) && nat_lt o.done r.transfer.wanted && (r.flags % 2 == 1)) e)
+    go Cancelled e = absurd (short (r.is_in && none_of r.descs && not (is_failed ECONNRESET) && nat_lt o.done r.transfer.wanted && fails_if_short r.flags) e)
     go _ e = refl
 
 good-done_by : (s : Submission) (o : Outcome) (unlinker : Option ℕ) → list_any is_good (answers_by s o unlinker) ≡ true → is_cancelled o.status ≡ false

@@ -6,7 +6,7 @@ ghost use Rattle.std.specs.Option.{option_to_list};
 ghost use Rattle.usb_base.specs.Number.{AreBytes};
 ghost use Rattle.packet_stream.specs.Split.{SplitsWell};
 ghost use Rattle.redir_data.specs.Streams.{after, stream_format};
-ghost use Rattle.stream_buffers.specs.declared.inbox.TheConstants.{MAX_HELD};
+ghost use Rattle.stream_buffers.specs.declared.up.TheConstants.{MAX_HELD};
 ghost use Rattle.gate_history.specs.step.Streams.{client_start, host_start};
 ghost use Rattle.gate_history.specs.step.Events.{Event as PastEvent};
 ghost use Rattle.gate_history.specs.declared.item.Item.{Item};

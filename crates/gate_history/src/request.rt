@@ -4,6 +4,7 @@ ghost use Rattle.std.specs.Prelude.{◌≡◌, ◌≤◌, None, []};
 ghost use Rattle.usbip_urb.specs.Ranges.{IsSubmit};
 ghost use Rattle.gate_history.specs.client.Requests.{address, request_of, is_in_setup};
 ghost use Rattle.gate_history.specs.client.Carried.{IsRequest};
+ghost use Rattle.gate_history.specs.write.Answers.{fails_if_short};
 ghost use Rattle.gate_history.specs.write.Asked.{asked_view};
 
 use usb_base::{EpAddr, Setup, Transfer};
@@ -89,6 +90,9 @@ pub fn is_in_setup(setup: &Setup) -> bool
     setup.kind >= 0x80
 }
 
+/// In transfer_flags: a read that gives fewer bytes than were asked for has failed.
+pub const URB_SHORT_NOT_OK: u32 = 0x0001;
+
 /// What the answer of a submit has of the submit.
 #[derive(Clone, Copy)]
 pub struct AnsweredSubmit<'a> {
@@ -104,6 +108,15 @@ pub struct AnsweredSubmit<'a> {
     pub wanted: u32,
     /// Its isochronous packets, in wire order.
     pub descs: &'a [IsoDesc],
+}
+
+impl<'a> AnsweredSubmit<'a> {
+    /// Whether a read that gives fewer bytes than were asked for has failed.
+    pub fn fails_if_short(&self) -> bool
+        ensures { result ≡ fails_if_short self.now.flags }
+    {
+        self.flags & URB_SHORT_NOT_OK != 0
+    }
 }
 
 impl Request {

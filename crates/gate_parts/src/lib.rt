@@ -14,7 +14,7 @@ pub use host::response::{
 };
 pub use state::calls::{Called, Calls, lifted};
 pub use state::id::draw;
-pub use state::streams::{Streams, Up};
+pub use state::streams::{Streams, is_ended, is_iso};
 pub use write::answer::{write_all_sent, write_ret_unlink, write_without_packets};
 pub use write::ask::{
     acknowledge, packet_count, wire_packet, write_cancel, write_cancel_of, write_hello,

@@ -17,7 +17,7 @@ pub use laws::{
 pub use next::next_redir;
 pub use packet::{RedirData, RedirPacket, RedirRead};
 pub use read::read_data;
-pub use redir::read_redir;
+pub use redir::{FIRST_DATA, read_redir};
 pub use state::RedirState;
 pub use stream::{FromGuest, FromHost, Guest, Host, Sender, SentBy};
 pub use write::{move_data, write_data, write_iso_out};

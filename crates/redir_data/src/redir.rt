@@ -74,7 +74,7 @@ fn take_behind<B: PacketBytes>(
 }
 
 /// The first number of the types that move data.
-pub(crate) const FIRST_DATA: u32 = 100;
+pub const FIRST_DATA: u32 = 100;
 
 fn take_plain_packet<B: PacketBytes>(
     alloc: Global,

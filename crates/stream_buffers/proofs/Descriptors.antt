@@ -1,5 +1,5 @@
 -- One descriptor and its packet more.
-use Rattle.std.proofs.Common.{◌≡◌, ℕ, ◌+◌, ◌<◌, ◌≤◌, zero, suc, List, [], ◌∷◌, ◌++◌, length, length-drop, take, drop, get_or, filter, pos, refl, ap, ◌∙◌, sym, arith}
+use Rattle.std.proofs.Common.{◌≡◌, ℕ, ◌+◌, ◌<◌, ◌≤◌, zero, suc, List, [], ◌∷◌, ◌++◌, length, take, get_or, filter, pos, refl, ap, ◌∙◌, sym, arith}
 use Rattle.std.proofs.Math.Numerals.{add-one}
 use Rattle.std.proofs.lemmas.List.{append-nil, append_assoc, length-append}
 use Rattle.usb_base.specs.declared.transfer.StreamPacket.{StreamPacket}
@@ -24,10 +24,10 @@ pub record Pair (ds xs : List IsoDesc) (ps : List StreamPacket) (i : ℕ) (p : S
   pub in_ps : i < length ps
   pub is : p ≡ packet_at ps i
 
-pub pair : (ds xs : List IsoDesc) (packets : List StreamPacket) (from i : ℕ) (p : StreamPacket) → xs ≡ ds → i < length xs → from + length ds ≤ length packets → p ≡ packet_at (drop from packets) i → Pair ds xs (drop from packets) i p
-pair ds xs packets from i p same within enough is =
+pub pair : (ds xs : List IsoDesc) (ps : List StreamPacket) (i : ℕ) (p : StreamPacket) → xs ≡ ds → i < length xs → length ds ≤ length ps → p ≡ packet_at ps i → Pair ds xs ps i p
+pair ds xs ps i p same within enough is =
     let long = ap length same in
-    record { same = same; in_ds = omega (arith, within, long); in_ps = omega (arith, within, long, enough, length-drop from packets); is = is }
+    record { same = same; in_ds = omega (arith, within, long); in_ps = omega (arith, within, long, enough); is = is }
 
 pieces_suc : (ds : List IsoDesc) (ps : List StreamPacket) (i : ℕ) (d : IsoDesc) (p : StreamPacket) → i < length ds → i < length ps → pieces (take (suc i) ds) ps ≡ pieces (take i ds) ps ++ piece (get_or ds i d) (get_or ps i p)
 pieces_suc [] ps i d p in_ds in_ps = absurd (omega arith)

@@ -1,12 +1,14 @@
--- What is held of a receiving stream: the packets that came and that no request took, the first first.
+-- A stream that is up: the row that its endpoint had when it went up, and what it holds.
 use Rattle.std.specs.Prelude.{ℕ, nat_le, Bool, if◌then◌else◌, List, [], ◌∷◌, ◌++◌, length}
-use Rattle.stream_buffers.specs.declared.inbox.TheConstants.{MAX_HELD}
+use Rattle.stream_buffers.specs.declared.up.TheConstants.{MAX_HELD}
+use Rattle.usb_base.specs.declared.endpoint.EpRow.{EpRow}
 use Rattle.usb_base.specs.declared.transfer.StreamPacket.{StreamPacket}
 
-pub record Held : Type 0 where
-  pub packets : List StreamPacket
-  -- the largest packet of the endpoint, in bytes
-  pub max_packet : ℕ
+pub record Up : Type 0 where
+  pub ep : ℕ
+  pub row : EpRow
+  -- the packets that came and that no request took, the first that came first
+  pub held : List StreamPacket
 
 -- at most 1,024 are held
 abbrev pub is_full : List StreamPacket → Bool

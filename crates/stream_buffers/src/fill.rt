@@ -1,13 +1,12 @@
 //! Which of the held packets fill an interrupt request.
 
-ghost use Rattle.std.specs.Prelude.{◌≡◌, ◌+◌, ◌||◌, ◌<◌, ◌≤◌, ◌^◌, nat_le, None, drop, length, IfSome};
+ghost use Rattle.std.specs.Prelude.{◌≡◌, ◌||◌, ◌<◌, nat_le, None, length, IfSome};
 ghost use Rattle.std.specs.Option.{option_map};
 ghost use Rattle.stream_buffers.specs.Interrupt.{ends, fills, last_of, bodies_to};
 ghost use Rattle.stream_buffers.specs.Least.{least_below};
 ghost use Rattle.stream_buffers.specs.inner.Seen.{IsSeen};
 
-use crate::behind::packet_behind;
-use std::collections::VecDeque;
+use crate::behind::Behind;
 use usb_base::StreamPacket;
 
 /// How many packets were looked at for a request that they don't fill, and the bytes that they have: the next look
@@ -31,56 +30,49 @@ pub(crate) struct Fewest {
     pub bytes: u64,
 }
 
-/// The fewest packets behind the first `from` that fill a request for so many bytes, if any do, and how far was looked.
-pub(crate) fn fewest_filling(
-    packets: &VecDeque<StreamPacket>,
-    from: usize,
-    max_packet: u16,
-    wanted: u32,
-    seen: Seen,
-) -> (Option<Fewest>, Seen)
-    requires from { from ≤ length packets.now.items }
-    requires seen { IsSeen max_packet (drop from packets.now.items) seen }
-    ensures last { option_map (λ f. f.last) result.0 ≡ last_of max_packet wanted (drop from packets.now.items) }
-    ensures bytes { IfSome result.0 (λ f. f.bytes ≡ length (bodies_to f.last (drop from packets.now.items))) }
-    ensures there { IfSome result.0 (λ f. from + f.last < length packets.now.items) }
-    ensures seen { IsSeen max_packet (drop from packets.now.items) result.1 }
-{
-    if seen.bytes < wanted {
-        filling_behind(packets, from, max_packet, wanted, seen)
-    } else {
-        filling_behind(packets, from, max_packet, wanted, Seen::NOTHING)
-    }
-}
-
-/// The same, where those that were seen don't fill it.
-fn filling_behind(
-    packets: &VecDeque<StreamPacket>,
-    from: usize,
-    max_packet: u16,
-    wanted: u32,
-    mut seen: Seen,
-) -> (Option<Fewest>, Seen)
-    requires from { from ≤ length packets.now.items }
-    requires seen { IsSeen max_packet (drop from packets.now.items) seen }
-    requires too_few { least_below (fills max_packet wanted (drop from packets.now.items)) seen.count ≡ None }
-    ensures last { option_map (λ f. f.last) result.0 ≡ last_of max_packet wanted (drop from packets.now.items) }
-    ensures bytes { IfSome result.0 (λ f. f.bytes ≡ length (bodies_to f.last (drop from packets.now.items))) }
-    ensures there { IfSome result.0 (λ f. from + f.last < length packets.now.items) }
-    ensures seen { IsSeen max_packet (drop from packets.now.items) result.1 }
-{
-    for last in seen.count..packets.len() - from {
-        let packet = packet_behind(packets, from, last);
-        let bytes = u64::from(seen.bytes) + packet.body.as_slice().len() as u64;
-        if fills(max_packet, packet, bytes, wanted) {
-            return (Some(Fewest { last, bytes }), seen);
+impl<'a> Behind<'a> {
+    /// The fewest of these packets that fill a request for so many bytes, if any do, and how far was looked.
+    pub(crate) fn fewest_filling(
+        &self,
+        max_packet: u16,
+        wanted: u32,
+        seen: Seen,
+    ) -> (Option<Fewest>, Seen)
+        requires { IsSeen max_packet self.now seen }
+        ensures last { option_map (λ f. f.last) result.0 ≡ last_of max_packet wanted self.now }
+        ensures bytes { IfSome result.0 (λ f. f.bytes ≡ length (bodies_to f.last self.now)) }
+        ensures there { IfSome result.0 (λ f. f.last < length self.now) }
+        ensures seen { IsSeen max_packet self.now result.1 }
+    {
+        if seen.bytes < wanted {
+            self.filling_behind(max_packet, wanted, seen)
+        } else {
+            self.filling_behind(max_packet, wanted, Seen::NOTHING)
         }
-        seen = Seen {
-            count: last + 1,
-            bytes: bytes as u32,
-        };
     }
-    (None, seen)
+
+    // The same, where those that were seen don't fill it.
+    fn filling_behind(&self, max_packet: u16, wanted: u32, mut seen: Seen) -> (Option<Fewest>, Seen)
+        requires seen { IsSeen max_packet self.now seen }
+        requires too_few { least_below (fills max_packet wanted self.now) seen.count ≡ None }
+        ensures last { option_map (λ f. f.last) result.0 ≡ last_of max_packet wanted self.now }
+        ensures bytes { IfSome result.0 (λ f. f.bytes ≡ length (bodies_to f.last self.now)) }
+        ensures there { IfSome result.0 (λ f. f.last < length self.now) }
+        ensures seen { IsSeen max_packet self.now result.1 }
+    {
+        for last in seen.count..self.len() {
+            let packet = self.at(last);
+            let bytes = u64::from(seen.bytes) + packet.body.as_slice().len() as u64;
+            if fills(max_packet, packet, bytes, wanted) {
+                return (Some(Fewest { last, bytes }), seen);
+            }
+            seen = Seen {
+                count: last + 1,
+                bytes: bytes as u32,
+            };
+        }
+        (None, seen)
+    }
 }
 
 /// Whether a packet fills a request, where so many bytes are there with its own.

@@ -3,9 +3,10 @@
 ghost use Rattle.std.specs.Prelude.{◌≡◌, ◌+◌, ◌++◌, ◌<◌, ◌≤◌, length, take, drop, IfOk, OnOk, OnErr};
 ghost use Rattle.packet_stream.specs.Writes.{AppendsSome};
 ghost use Rattle.stream_buffers.specs.Interrupt.{fitting_status, bodies, bodies_to, packet_at, interrupt_cut_at};
+ghost use Rattle.stream_buffers.specs.declared.up.TheConstants.{MAX_HELD};
 ghost use Rattle.stream_buffers.specs.Fillings.{cut_by, filling_body};
 
-use crate::behind::packet_behind;
+use crate::behind::Behind;
 use crate::fill::Fewest;
 use std::alloc::Global;
 use std::collections::VecDeque;
@@ -22,27 +23,37 @@ pub struct Filling {
     pub status: UsbStatus,
 }
 
-/// What a request for so many bytes is given by the packets behind the first `from` that fill it.
-pub(crate) fn filling_by(
-    packets: &VecDeque<StreamPacket>,
-    from: usize,
-    wanted: u32,
-    fewest: Fewest,
-) -> Filling
-    requires there { from + fewest.last < length packets.now.items }
-    requires bytes { fewest.bytes ≡ length (bodies_to fewest.last (drop from packets.now.items)) }
-    ensures cut { cut_by (drop from packets.now.items) result ≡ interrupt_cut_at wanted (drop from packets.now.items) fewest.last }
-    ensures count { result.count ≡ fewest.last + 1 }
-    ensures fits { result.done ≤ wanted }
-{
-    Filling {
-        count: fewest.last + 1,
-        done: fewest.bytes.min(u64::from(wanted)) as u32,
-        status: fitting_status(
-            wanted,
-            fewest.bytes,
-            packet_behind(packets, from, fewest.last).status,
-        ),
+impl<'a> Behind<'a> {
+    /// What a request for so many bytes is given by the fewest of these packets that fill it.
+    pub(crate) fn filling_by(&self, wanted: u32, fewest: Fewest) -> Filling
+        requires few { length self.now ≤ MAX_HELD }
+        requires there { fewest.last < length self.now }
+        requires bytes { fewest.bytes ≡ length (bodies_to fewest.last self.now) }
+        ensures cut { cut_by self.now result ≡ interrupt_cut_at wanted self.now fewest.last }
+        ensures count { result.count ≡ fewest.last + 1 }
+        ensures fits { result.done ≤ wanted }
+    {
+        Filling {
+            count: fewest.last + 1,
+            done: fewest.bytes.min(u64::from(wanted)) as u32,
+            status: fitting_status(wanted, fewest.bytes, self.at(fewest.last).status),
+        }
+    }
+
+    /// Appends what fits of those packets that fill an interrupt request. Each is copied once. For want of memory some of
+    /// the bytes may be there, which the caller cuts off; it takes none where they have no byte.
+    pub fn append_bodies(&self, filling: Filling, out: &mut Bytes) -> Result<(), Memory>
+        requires { filling.count ≤ length self.now }
+        ensures sent { AppendsSome result out.old out.new (filling_body self.now filling) }
+        ensures wants { OnErr result (0 < length (filling_body self.now filling)) }
+    {
+        let mut room = filling.done as usize;
+        for place in 0..filling.count {
+            let fitting = fitting(self.at(place).body.as_slice(), room);
+            out.append(fitting)?;
+            room -= fitting.len();
+        }
+        Ok(())
     }
 }
 
@@ -55,6 +66,7 @@ pub(crate) fn take_filling(
 ) -> Result<Outcome, Memory>
     requires some { 1 ≤ filling.count }
     requires there { filling.count ≤ length packets.old.items }
+    requires few { length packets.old.items ≤ MAX_HELD }
     ensures gives { IfOk result (λ outcome. outcome ≡ (cut_by packets.old.items filling).gives) }
     ensures leaves { OnOk result (packets.new.items ≡ drop filling.count packets.old.items) }
     ensures err { OnErr result (packets.new.items ≡ packets.old.items) }
@@ -67,7 +79,7 @@ pub(crate) fn take_filling(
         return Ok(fitted(packet, filling));
     }
     let mut body = Bytes::new(alloc);
-    append_bodies(packets, 0, filling, &mut body)?;
+    Behind::new(packets, 0).append_bodies(filling, &mut body)?;
     packets.drain(..filling.count);
     Ok(Outcome {
         status: filling.status,
@@ -89,27 +101,6 @@ fn fitted(packet: StreamPacket, filling: Filling) -> Outcome
         done: filling.done,
         body,
     }
-}
-
-/// Appends what fits of the packets behind the first `from` that fill a request. Each is copied once. It takes no memory
-/// where they have no byte.
-pub(crate) fn append_bodies(
-    packets: &VecDeque<StreamPacket>,
-    from: usize,
-    filling: Filling,
-    out: &mut Bytes,
-) -> Result<(), Memory>
-    requires { from + filling.count ≤ length packets.now.items }
-    ensures sent { AppendsSome result out.old out.new (filling_body (drop from packets.now.items) filling) }
-    ensures wants { OnErr result (0 < length (filling_body (drop from packets.now.items) filling)) }
-{
-    let mut room = filling.done as usize;
-    for place in 0..filling.count {
-        let fitting = fitting(packet_behind(packets, from, place).body.as_slice(), room);
-        out.append(fitting)?;
-        room -= fitting.len();
-    }
-    Ok(())
 }
 
 /// What fits into so much room.

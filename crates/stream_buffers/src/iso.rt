@@ -1,15 +1,15 @@
 //! What an isochronous request is given: of each of its packets what fits into its descriptor.
 
-ghost use Rattle.std.specs.Prelude.{◌≡◌, ◌+◌, ◌≤◌, ◌<◌, ◌^◌, ◌∷◌, [], drop, length, IfOk, OnErr};
+ghost use Rattle.std.specs.Prelude.{◌≡◌, ◌≤◌, ◌<◌, ◌^◌, ◌∷◌, [], ℕ, None, length, IfOk, IfSome, IsTrue, MatchOption, OnErr};
 ghost use Rattle.packet_stream.specs.Writes.{AppendsSome};
 ghost use Rattle.usbip_urb.specs.declared.code.TheConstants.{MAX_PACKETS};
+ghost use Rattle.usbip_urb.specs.Buffers.{laid};
 ghost use Rattle.usbip_urb.specs.Spelling.{descs_bytes};
-ghost use Rattle.stream_buffers.specs.Iso.{piece, piece_status, pieces, filled, all_filled, iso_outcome};
+ghost use Rattle.stream_buffers.specs.Iso.{piece, piece_status, pieces, filled, all_filled, iso_outcome, iso_cut};
 ghost use Rattle.stream_buffers.specs.Fillings.{errors_of, FillsIso};
 
-use crate::behind::packet_behind;
+use crate::behind::Behind;
 use std::alloc::Global;
-use std::collections::VecDeque;
 use usb_base::{Bytes, List, Memory, StreamPacket, UsbStatus};
 use usbip_urb::{Descs, IsoDesc, push_desc};
 
@@ -31,24 +31,80 @@ pub struct IsoFilling {
     pub errors: u32,
 }
 
-/// What the packets behind the first `from`, one for each descriptor, give.
-pub(crate) fn iso_filling(
-    descs: &Descs,
-    packets: &VecDeque<StreamPacket>,
-    from: usize,
-) -> IsoFilling
-    requires few { length descs.now ≤ MAX_PACKETS }
-    requires enough { from + length descs.now ≤ length packets.now.items }
-    ensures { FillsIso descs.now (drop from packets.now.items) result }
-{
-    let mut done = 0;
-    let mut errors = 0;
-    for (place, desc) in descs.as_slice().iter().enumerate() {
-        let filled = filled_by(desc, packet_behind(packets, from, place));
-        done += u64::from(filled.actual);
-        errors += errors_of(&filled);
+impl<'a> Behind<'a> {
+    /// What an isochronous request is given of these packets: one for each descriptor, as far as it fits, joined without
+    /// gaps. A packet that is longer than its descriptor has the status -75. None where there are fewer packets than
+    /// descriptors.
+    pub fn iso_filling(&self, descs: &Descs) -> Option<IsoFilling>
+        ensures cut { MatchOption result (iso_cut descs.now self.now ≡ None) (FillsIso descs.now self.now) }
+        ensures fits { (size : ℕ) → IsTrue (laid descs.now size) → IfSome result (λ filling. filling.done ≤ size) }
+    {
+        if self.len() < descs.len() {
+            return None;
+        }
+        Some(self.filling_each(descs))
     }
-    IsoFilling { done, errors }
+
+    // The same, where there are as many packets.
+    fn filling_each(&self, descs: &Descs) -> IsoFilling
+        requires few { length descs.now ≤ MAX_PACKETS }
+        requires enough { length descs.now ≤ length self.now }
+        ensures { FillsIso descs.now self.now result }
+    {
+        let mut done = 0;
+        let mut errors = 0;
+        for (place, desc) in descs.as_slice().iter().enumerate() {
+            let filled = filled_by(desc, self.at(place));
+            done += u64::from(filled.actual);
+            errors += errors_of(&filled);
+        }
+        IsoFilling { done, errors }
+    }
+
+    /// Appends what fits of these packets, one for each descriptor, without gaps. Each is copied once. For want of memory
+    /// some of the bytes may be there, which the caller cuts off; it takes none where they have no byte.
+    pub fn append_pieces(&self, descs: &Descs, out: &mut Bytes) -> Result<(), Memory>
+        requires { length descs.now ≤ length self.now }
+        ensures sent { AppendsSome result out.old out.new (pieces descs.now self.now) }
+        ensures wants { OnErr result (0 < length (pieces descs.now self.now)) }
+    {
+        for (place, desc) in descs.as_slice().iter().enumerate() {
+            out.append(piece(desc, self.at(place)))?;
+        }
+        Ok(())
+    }
+
+    /// Appends the descriptors with what came of each of these packets. For want of memory some of the bytes may be there,
+    /// which the caller cuts off; it takes none where there are no descriptors.
+    pub fn append_filled(&self, descs: &Descs, out: &mut Bytes) -> Result<(), Memory>
+        requires { length descs.now ≤ length self.now }
+        ensures sent { AppendsSome result out.old out.new (descs_bytes (all_filled descs.now self.now)) }
+        ensures wants { OnErr result (0 < length descs.now) }
+    {
+        for (place, desc) in descs.as_slice().iter().enumerate() {
+            push_desc(&filled_by(desc, self.at(place)), out)?;
+        }
+        Ok(())
+    }
+
+    /// What these packets, one for each descriptor, give. Each is copied once. It takes no memory where there is no
+    /// descriptor.
+    pub(crate) fn iso_outcome(&self, alloc: Global, descs: &Descs) -> Result<IsoOutcome, Memory>
+        requires { length descs.now ≤ length self.now }
+        ensures ok { IfOk result (λ outcome. outcome ≡ iso_outcome descs.now self.now) }
+        ensures wants { OnErr result (0 < length descs.now) }
+    {
+        let mut body = Bytes::new(alloc);
+        self.append_pieces(descs, &mut body)?;
+        let mut filled = List::new(alloc);
+        for (place, desc) in descs.as_slice().iter().enumerate() {
+            filled.push(filled_by(desc, self.at(place)))?;
+        }
+        Ok(IsoOutcome {
+            body,
+            descs: filled,
+        })
+    }
 }
 
 /// Whether a descriptor has a status other than 0, as a count.
@@ -57,64 +113,6 @@ fn errors_of(desc: &IsoDesc) -> u32
     ensures one { result ≤ 1 }
 {
     if desc.status == 0 { 0 } else { 1 }
-}
-
-/// Appends what fits of the packets behind the first `from`, one for each descriptor, without gaps. Each is copied once.
-/// It takes no memory where they have no byte.
-pub(crate) fn append_pieces(
-    descs: &Descs,
-    packets: &VecDeque<StreamPacket>,
-    from: usize,
-    out: &mut Bytes,
-) -> Result<(), Memory>
-    requires { from + length descs.now ≤ length packets.now.items }
-    ensures sent { AppendsSome result out.old out.new (pieces descs.now (drop from packets.now.items)) }
-    ensures wants { OnErr result (0 < length (pieces descs.now (drop from packets.now.items))) }
-{
-    for (place, desc) in descs.as_slice().iter().enumerate() {
-        out.append(piece(desc, packet_behind(packets, from, place)))?;
-    }
-    Ok(())
-}
-
-/// Appends the descriptors with what came of each. It takes no memory where there are none.
-pub(crate) fn append_filled(
-    descs: &Descs,
-    packets: &VecDeque<StreamPacket>,
-    from: usize,
-    out: &mut Bytes,
-) -> Result<(), Memory>
-    requires { from + length descs.now ≤ length packets.now.items }
-    ensures sent { AppendsSome result out.old out.new (descs_bytes (all_filled descs.now (drop from packets.now.items))) }
-    ensures wants { OnErr result (0 < length descs.now) }
-{
-    for (place, desc) in descs.as_slice().iter().enumerate() {
-        push_desc(&filled_by(desc, packet_behind(packets, from, place)), out)?;
-    }
-    Ok(())
-}
-
-/// What the first packets, one for each descriptor, give. Each is copied once. It takes no memory where there is no
-/// descriptor.
-pub(crate) fn iso_outcome(
-    alloc: Global,
-    descs: &Descs,
-    packets: &VecDeque<StreamPacket>,
-) -> Result<IsoOutcome, Memory>
-    requires { length descs.now ≤ length packets.now.items }
-    ensures ok { IfOk result (λ outcome. outcome ≡ iso_outcome descs.now packets.now.items) }
-    ensures wants { OnErr result (0 < length descs.now) }
-{
-    let mut body = Bytes::new(alloc);
-    append_pieces(descs, packets, 0, &mut body)?;
-    let mut filled = List::new(alloc);
-    for (place, desc) in descs.as_slice().iter().enumerate() {
-        filled.push(filled_by(desc, packet_behind(packets, 0, place)))?;
-    }
-    Ok(IsoOutcome {
-        body,
-        descs: filled,
-    })
 }
 
 /// What fits of a packet.

@@ -3,12 +3,13 @@
 
 mod behind;
 mod fill;
-mod inbox;
 mod interrupt;
 mod iso;
 mod laws;
+mod up;
 
-pub use inbox::{Inbox, MAX_HELD};
+pub use behind::Behind;
 pub use interrupt::Filling;
 pub use iso::{IsoFilling, IsoOutcome};
 pub use laws::{fewest_fill, interrupt_fits, iso_fits};
+pub use up::{MAX_HELD, Up};

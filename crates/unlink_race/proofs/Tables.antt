@@ -8,6 +8,7 @@ use Rattle.std.proofs.lemmas.Option.{slice_get-get_or, slice_get-map, slice_get_
 use Rattle.usbip_urb.specs.declared.code.TheConstants.{MAX_LIVE}
 use Rattle.urb_arena.specs.Seen.{Seen, seen}
 use Rattle.urb_arena.specs.Lanes.{without, replaced, count}
+use Rattle.unlink_race.specs.declared.table.TheConstants.{LANES}
 use Rattle.unlink_race.specs.declared.live.Live.{Live}
 use Rattle.unlink_race.specs.declared.index.Index.{Index}
 use Rattle.unlink_race.specs.Inner.Indexed.{Stand, IsIndexed}
@@ -94,7 +95,7 @@ module _ {arena : Seen (ℕ × Live)} {keys : List ℕ} (s : IsSound arena keys)
       )
 
   -- a request is put behind the others, under a key that had none
-  module _ (arena' : Seen (ℕ × Live)) (lane number k : ℕ) (x : Live) (in_lane : lane < 32) (vacant : entry_of arena k ≡ None) (made : arena' ≡ seen (set arena.lanes lane (get_or arena.lanes lane [] ++ (k, (number, x)) ∷ [])) arena.capacity) where
+  module _ (arena' : Seen (ℕ × Live)) (lane number k : ℕ) (x : Live) (in_lane : lane < LANES) (vacant : entry_of arena k ≡ None) (made : arena' ≡ seen (set arena.lanes lane (get_or arena.lanes lane [] ++ (k, (number, x)) ∷ [])) arena.capacity) where
     inside : lane < length arena.lanes
     inside = omega (arith, in_lane, s.lanes)
 

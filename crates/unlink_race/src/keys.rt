@@ -132,8 +132,9 @@ impl Keys {
     {
         let len = self.items.len();
         let at = self.front + place;
+        let behind = len - at - 1;
         let key = self.items[at];
-        if place < len - at {
+        if place < behind {
             copy(&mut self.items, self.front, at, self.front + 1);
             self.front += 1;
         } else {

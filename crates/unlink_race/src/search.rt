@@ -3,6 +3,7 @@
 ghost use Rattle.std.specs.Prelude.{◌≡◌, ◌<◌, true, [], None, length, map, get_or, slice_get, option_copied};
 ghost use Rattle.std.specs.Option.{option_map};
 ghost use Rattle.urb_arena.specs.Lanes.{find_in, ByKey};
+ghost use Rattle.unlink_race.specs.declared.table.TheConstants.{LANES};
 ghost use Rattle.unlink_race.specs.Searches.{ended_by};
 ghost use Rattle.unlink_race.specs.Inner.Earliest.{passing, earliest, lesser, least};
 
@@ -73,7 +74,7 @@ fn first_in_lane(arena: &Arena<(u64, Live)>, lane: usize) -> Option<u64>
 
 /// The number of the earliest of all: one of the lanes' first.
 pub fn first_of_all(arena: &Arena<(u64, Live)>) -> Option<u64>
-    requires lanes { length arena.now.lanes ≡ 32 }
+    requires lanes { length arena.now.lanes ≡ LANES }
     requires keys { ByKey arena.now.lanes }
     ensures { result ≡ least (λ live. true) None arena.now.lanes }
 {
@@ -86,7 +87,7 @@ pub fn first_of_all(arena: &Arena<(u64, Live)>) -> Option<u64>
 
 /// The number of the earliest in all lanes whose stream ends so: one of the lanes' earliest.
 pub fn earliest_of_all(arena: &Arena<(u64, Live)>, end: &StreamEnd) -> Option<u64>
-    requires lanes { length arena.now.lanes ≡ 32 }
+    requires lanes { length arena.now.lanes ≡ LANES }
     requires keys { ByKey arena.now.lanes }
     ensures { result ≡ least (ended_by end.now) None arena.now.lanes }
 {

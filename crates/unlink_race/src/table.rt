@@ -6,6 +6,7 @@ ghost use Rattle.std.specs.Prelude.{◌≡◌, ◌==◌, ◌<◌, ◌≤◌, ◌
 ghost use Rattle.std.specs.List.{find, position, list_any};
 ghost use Rattle.urb_arena.specs.Lanes.{find_in};
 ghost use Rattle.urb_arena.specs.Seen.{seen};
+ghost use Rattle.unlink_race.specs.declared.table.TheConstants.{LANES};
 ghost use Rattle.unlink_race.specs.declared.live.Live.{Live};
 ghost use Rattle.unlink_race.specs.Firsts.{without_first};
 ghost use Rattle.unlink_race.specs.Inner.Indexed.{found_by};
@@ -110,7 +111,7 @@ impl Table {
 
     /// The empty table over an arena.
     pub fn over(arena: Arena<(u64, Live)>) -> Self
-        requires { arena ≡ seen (replicate 32 []) MAX_LIVE }
+        requires { arena ≡ seen (replicate LANES []) MAX_LIVE }
         ensures { result ≡ [] }
     {
         Table {

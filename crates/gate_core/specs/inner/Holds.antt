@@ -11,6 +11,7 @@ use Rattle.gate_parts.specs.declared.write.outputs.Outputs.{Outputs}
 use Rattle.gate_core.specs.declared.state.kept.Kept.{Kept}
 use Rattle.gate_parts.specs.declared.state.calls.Called.{Called}
 use Rattle.usb_base.specs.Number.{capped}
+use Rattle.gate_history.specs.declared.facts.TheConstants.{ENDPOINTS}
 use Rattle.gate_history.specs.step.Marks.{Mark}
 use Rattle.gate_history.specs.state.Facts.{no_facts}
 use Rattle.gate_history.specs.state.Ups.{no_streams}
@@ -41,9 +42,9 @@ pub record IsKept (t : Kept) : Type 0 where
   pub few : length t.lives.live ≤ MAX_LIVE
   pub left : length t.lives.abandoned ≤ MAX_LIVE
   -- each endpoint has its place
-  pub places : length t.streams ≡ 32
-  pub started : length t.calls.started ≡ 32
-  pub stopped : length t.calls.stopped ≡ 32
+  pub places : length t.streams ≡ ENDPOINTS
+  pub started : length t.calls.started ≡ ENDPOINTS
+  pub stopped : length t.calls.stopped ≡ ENDPOINTS
   pub answered_fits : t.answered ≤ 2 ^ 64 - 1
   pub unlinked_fits : t.unlinked ≤ 2 ^ 64 - 1
   pub dropped_fits : t.dropped ≤ 2 ^ 64 - 1

@@ -14,7 +14,8 @@ ghost use Rattle.gate_parts.specs.write.Outputs.{with_answers, HasSome};
 
 use crate::state::kept::Kept;
 use gate_history::{Note, Request};
-use gate_parts::{Outputs, Up, row_of};
+use gate_parts::{Outputs, row_of};
+use stream_buffers::Up;
 use unlink_race::LiveKind;
 use usb_base::{EpRow, Memory};
 

@@ -14,7 +14,8 @@ ghost use Rattle.gate_parts.specs.write.Outputs.{with_answers, HasSome};
 
 use crate::state::kept::Kept;
 use gate_history::Note;
-use gate_parts::{Outputs, StreamIn, Up, finish_fronts, write_fillings};
+use gate_parts::{Outputs, StreamIn, finish_fronts, is_iso, write_fillings};
+use stream_buffers::Up;
 use usb_base::{EpAddr, Memory, StreamPacket};
 
 impl Kept {
@@ -48,20 +49,20 @@ impl Kept {
         &mut self,
         ep: EpAddr,
         up: &mut Up,
-        is_iso: bool,
+        iso: bool,
         packet: StreamPacket,
         out: &mut Outputs,
     ) -> Result<(), Memory>
         requires kept { IsKept self.old }
         ensures kept { IsKept self.new }
-        ensures received { OnOk result (HasReceived ep is_iso packet up.old up.new self.old self.new) }
-        ensures sent { OnOk result (out.new ≡ with_answers out.old (received_bytes ep is_iso packet up.old self.old.lives.live) (Arrived ep ∷ received_notes ep is_iso packet up.old self.old.lives.live)) }
+        ensures received { OnOk result (HasReceived ep iso packet up.old up.new self.old self.new) }
+        ensures sent { OnOk result (out.new ≡ with_answers out.old (received_bytes ep iso packet up.old self.old.lives.live) (Arrived ep ∷ received_notes ep iso packet up.old self.old.lives.live)) }
         ensures same { OnErr result (self.new ≡ self.old) }
         ensures same_up { OnErr result (up.new ≡ up.old) }
         ensures err { OnErr result (HasSome out.old out.new) }
     {
         out.notes.push(Note::Arrived { ep })?;
-        if up.is_iso() != is_iso || !up.receive(packet)? {
+        if is_iso(up) != iso || !up.receive(packet)? {
             return Ok(());
         }
         match self.fill(ep, up, out) {

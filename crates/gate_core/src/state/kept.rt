@@ -59,7 +59,7 @@ impl Kept {
             lost: false,
             client_over: false,
             host_over: false,
-            streams: Streams::make(alloc)?,
+            streams: Streams::none(),
             calls: Calls::none(),
             fence: None,
             last: first_id - 1,

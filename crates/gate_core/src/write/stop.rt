@@ -9,7 +9,8 @@ ghost use Rattle.gate_parts.specs.write.Extends.{Extends};
 
 use crate::state::kept::Kept;
 use control_route::Route;
-use gate_parts::{Called, Up, write_stop};
+use gate_parts::{Called, is_ended, write_stop};
+use stream_buffers::Up;
 use usb_base::{Bytes, Memory};
 
 impl Kept {
@@ -55,7 +56,7 @@ impl Kept {
         ensures wants { OnErr result (0 < length (stop_of (is_ended by) stream.now)) }
     {
         match stream {
-            Some(up) if up.is_ended(by) => {
+            Some(up) if is_ended(up, by) => {
                 let id = self.draw(called.last);
                 write_stop(up, id, self.caps, to_host)?;
                 called.calls.stop(up.ep(), id);

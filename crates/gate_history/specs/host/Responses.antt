@@ -1,6 +1,8 @@
 -- The packets of the host that answer a request by its id: how far each must be that of its request, and what came of
 -- the transfer.
 use Rattle.std.specs.Prelude.{ℕ, ◌+◌, ◌==◌, ◌&&◌, nat_lt, not, Bool, true, false, if◌then◌else◌, List, [], ◌∷◌, length, take, Option, Some, None}
+use Rattle.usb_base.specs.declared.endpoint.EpKind.{EpKind}
+use Rattle.usb_base.specs.declared.endpoint.EpKind.TheVariants as ep_kind
 use Rattle.usb_base.specs.declared.side.Side.TheVariants.{Host}
 use Rattle.usb_base.specs.declared.reason.Reason.TheVariants.{Mismatch}
 use Rattle.usb_base.specs.declared.refusal.Refusal.{Refusal}
@@ -8,7 +10,12 @@ use Rattle.usb_base.specs.declared.status.UsbStatus.{UsbStatus}
 use Rattle.usb_base.specs.declared.transfer.Outcome.{Outcome}
 use Rattle.usb_base.specs.Status.{status_of}
 use Rattle.usb_base.specs.Endpoint.{is_in_endpoint}
+use Rattle.redir_wire.specs.declared.kind.DataKind.{DataKind}
+use Rattle.redir_wire.specs.declared.kind.DataKind.TheVariants as data_kind
+use Rattle.redir_wire.specs.declared.kind.PlainKind.{PlainKind}
+use Rattle.redir_wire.specs.declared.kind.PlainKind.TheVariants as plain_kind
 use Rattle.redir_wire.specs.declared.packet.RedirControl.TheVariants as plain
+use Rattle.redir_wire.specs.Table.{data_row, plain_row}
 use Rattle.redir_data.specs.declared.packet.RedirData.TheVariants as data_packet
 use Rattle.redir_data.specs.declared.packet.RedirPacket.{RedirPacket}
 use Rattle.redir_data.specs.declared.packet.RedirPacket.TheVariants.{Plain, Carrying}
@@ -16,9 +23,9 @@ use Rattle.control_route.specs.declared.route.Route.{Route}
 use Rattle.control_route.specs.declared.route.Route.TheVariants as route
 use Rattle.usb_base.specs.Number.{capped}
 use Rattle.gate_history.specs.declared.request.Request.{Request}
-use Rattle.gate_history.specs.declared.verdict.Pipe.TheVariants.{Control, Bulk, InterruptOut}
 use Rattle.gate_history.specs.declared.verdict.Verdict.{Verdict}
 use Rattle.gate_history.specs.declared.verdict.Verdict.TheVariants.{Wire, Routed}
+use Rattle.gate_history.specs.client.Verdict.{pipe_kind}
 use Rattle.gate_history.specs.step.Marks.{Submission}
 
 pub data Response : Type 0 where
@@ -41,17 +48,22 @@ response_of _ = None
 
 -- ---- whether it is the answer of the request that has its id
 
-abbrev pub route_answer : Route → ℕ
-route_answer (route.SetAlt interface alt) = 11
-route_answer (route.GetAlt interface) = 11
-route_answer _ = 8
+-- the type of the packet that answers a transfer on the wire, by the kind of its endpoint
+abbrev pub wire_answer : EpKind → DataKind
+wire_answer ep_kind.Control = data_kind.Control
+wire_answer ep_kind.Interrupt = data_kind.Interrupt
+wire_answer _ = data_kind.Bulk
 
--- the type of the answer's packet; those that go by no id have none
+-- that of the packet that answers those of a route
+abbrev pub route_answer : Route → PlainKind
+route_answer (route.SetAlt interface alt) = plain_kind.AltStatus
+route_answer (route.GetAlt interface) = plain_kind.AltStatus
+route_answer _ = plain_kind.ConfigurationStatus
+
+-- its number; those that go by no id have none
 abbrev pub answer_kind : Verdict → ℕ
-answer_kind (Wire Control) = 100
-answer_kind (Wire Bulk) = 101
-answer_kind (Wire InterruptOut) = 103
-answer_kind (Routed r) = route_answer r
+answer_kind (Wire pipe) = (data_row (wire_answer (pipe_kind pipe))).number
+answer_kind (Routed r) = (plain_row (route_answer r)).number
 answer_kind _ = 0
 
 abbrev pub mismatched : ℕ → ℕ → ℕ → Refusal

@@ -7,6 +7,7 @@ use Rattle.usb_base.specs.Endpoint.{endpoint_index}
 use Rattle.redir_wire.specs.declared.packet.RedirControl.TheVariants as plain
 use Rattle.redir_data.specs.declared.packet.RedirPacket.{RedirPacket}
 use Rattle.redir_data.specs.declared.packet.RedirPacket.TheVariants.{Plain}
+use Rattle.gate_history.specs.declared.facts.TheConstants.{ENDPOINTS}
 use Rattle.gate_history.specs.step.Folds.{rfold}
 use Rattle.gate_history.specs.step.Marks.{Effect, StreamTold, Mark}
 use Rattle.gate_history.specs.state.Sides.{leaves, is_loss}
@@ -18,7 +19,7 @@ pub record Calls : Type 0 where
   pub stopped : List (Option ℕ)
 
 abbrev pub no_calls : Calls
-no_calls = record { started = replicate 32 None; stopped = replicate 32 None }
+no_calls = record { started = replicate ENDPOINTS None; stopped = replicate ENDPOINTS None }
 
 abbrev pub started : ℕ → ℕ → Calls → Calls
 started ep id c = record { started = slice_set c.started (endpoint_index ep) (Some id); stopped = slice_set c.stopped (endpoint_index ep) None }

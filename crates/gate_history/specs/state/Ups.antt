@@ -2,27 +2,22 @@
 -- endpoint had when it went up, and holds packets.
 use Rattle.std.specs.Prelude.{ℕ, ◌%◌, nat_lt, Bool, true, if◌then◌else◌, List, [], ◌||◌, map, replicate, get_or, slice_set, Option, Some, None, is_some}
 use Rattle.std.specs.Option.{option_map, option_and_then, option_map_or}
-use Rattle.usb_base.specs.declared.endpoint.EpRow.{EpRow}
 use Rattle.usb_base.specs.declared.transfer.StreamPacket.{StreamPacket}
 use Rattle.usb_base.specs.Endpoint.{endpoint_index}
 use Rattle.usb_base.specs.Status.{is_success}
 use Rattle.control_route.specs.declared.route.Route.{Route}
 use Rattle.control_route.specs.Changes.{touches}
+pub use Rattle.stream_buffers.specs.Held.{Up}
 use Rattle.gate_history.specs.step.Folds.{rfold}
+use Rattle.gate_history.specs.declared.facts.TheConstants.{ENDPOINTS}
 use Rattle.gate_history.specs.declared.verdict.Verdict.{Verdict}
 use Rattle.gate_history.specs.declared.verdict.Verdict.TheVariants.{Routed, IsoOut, Stream}
 use Rattle.gate_history.specs.step.Marks.{Effect, Opens, Waits, Arrives, StreamTold, Mark}
 use Rattle.gate_history.specs.state.Sides.{leaves, is_loss}
 
-pub record Up : Type 0 where
-  pub ep : ℕ
-  pub row : EpRow
-  -- the packets that came and that no request took, the first that came first
-  pub held : List StreamPacket
-
 -- none is up
 abbrev pub no_streams : List (Option Up)
-no_streams = replicate 32 None
+no_streams = replicate ENDPOINTS None
 
 -- that of an endpoint
 abbrev pub stream_at : List (Option Up) → ℕ → Option Up

@@ -1,5 +1,5 @@
 -- An item as the code has it, and what the reader of its packet has made sure of.
-use Rattle.std.specs.Prelude.{◌≡◌, ◌≤◌, ℕ, false, length, Option, Some, None}
+use Rattle.std.specs.Prelude.{◌≡◌, ◌<◌, ◌≤◌, ℕ, false, length, Option, Some, None}
 use Rattle.usbip_urb.specs.ClientPackets.{IsClientPacket}
 use Rattle.redir_wire.specs.declared.packet.Caps.{Caps}
 use Rattle.redir_wire.specs.declared.packet.Header.{Header}
@@ -8,6 +8,7 @@ use Rattle.redir_wire.specs.declared.packet.RedirControl.TheVariants as plain
 use Rattle.redir_wire.specs.Header.{IdFits}
 use Rattle.redir_data.specs.declared.packet.RedirPacket.{RedirPacket}
 use Rattle.redir_data.specs.declared.packet.RedirPacket.TheVariants.{Plain}
+use Rattle.redir_data.specs.declared.redir.TheConstants.{FIRST_DATA}
 use Rattle.redir_data.specs.Spelling.{data_count}
 use Rattle.gate_history.specs.declared.item.Item.{Item as RawItem, Item}
 use Rattle.gate_history.specs.declared.item.Item.TheVariants as raw
@@ -27,8 +28,8 @@ IsItem raw.HostLeft x = x ≡ HostLeft
 -- an answer's type is that of its form, and its data are there
 abbrev pub ResponseFits : ℕ → Option Response → Type 0
 ResponseFits kind None = Unit {0}
-ResponseFits kind (Some (Status status value)) = kind ≤ 99
-ResponseFits kind (Some (Data endpoint length_place o)) = (100 ≤ kind) × (length o.body ≡ data_count ToGuest endpoint o.done)
+ResponseFits kind (Some (Status status value)) = kind < FIRST_DATA
+ResponseFits kind (Some (Data endpoint length_place o)) = (FIRST_DATA ≤ kind) × (length o.body ≡ data_count ToGuest endpoint o.done)
 
 -- ids have 32 bits before the hello
 abbrev pub HelloFits : Caps → RedirPacket → Type 0

@@ -1,6 +1,6 @@
 -- The answers of submits ("usbip_protocol", USBIP_RET_SUBMIT and USBIP_RET_UNLINK), and which of them an end gives.
 use Rattle.stream_buffers.specs.Fillings.{is_failed}
-use Rattle.std.specs.Prelude.{ℕ, ◌%◌, ◌==◌, ◌&&◌, nat_lt, not, Bool, true, false, if◌then◌else◌, List, [], ◌∷◌, length, map, filter, replicate, Option, Some, None, ℤ, pos}
+use Rattle.std.specs.Prelude.{ℕ, ◌==◌, ◌&&◌, nat_lt, not, Bool, true, false, if◌then◌else◌, List, [], ◌∷◌, length, map, filter, replicate, Option, Some, None, ℤ, pos, bit_and}
 use Rattle.std.specs.Option.{option_map_or}
 use Rattle.usb_base.specs.declared.status.UsbStatus.{UsbStatus}
 use Rattle.usb_base.specs.declared.status.UsbStatus.TheVariants as status
@@ -13,6 +13,7 @@ use Rattle.usbip_urb.specs.declared.packet.UrbPacket.TheVariants as urb
 use Rattle.usbip_urb.specs.Buffers.{total}
 use Rattle.gate_history.specs.declared.errno.TheConstants.{ECONNRESET, ESHUTDOWN, EREMOTEIO}
 use Rattle.gate_history.specs.declared.request.Request.{Request}
+use Rattle.gate_history.specs.declared.request.TheConstants.{URB_SHORT_NOT_OK}
 use Rattle.gate_history.specs.client.Verdict.{none_of, is_wire}
 use Rattle.gate_history.specs.host.Fillings.{Given, Transferred, Isochronous}
 use Rattle.gate_history.specs.step.Marks.{Submission}
@@ -24,10 +25,13 @@ use Rattle.gate_history.specs.client.Submits.{End, ByStatus, Sent, ByClient, ByL
 abbrev pub answer_head : ℕ → Head
 answer_head number = record { seqnum = number; devid = 0; direction = 0; ep = 0 }
 
--- flag 0x0001, URB_SHORT_NOT_OK: a read that gives fewer bytes than were asked for has failed
+-- by its transfer_flags, a read that gives fewer bytes than were asked for has failed
+abbrev pub fails_if_short : ℕ → Bool
+fails_if_short flags = not (bit_and flags URB_SHORT_NOT_OK == 0)
+
 abbrev pub told_status : Request → ℤ → ℕ → ℤ
 told_status r status actual =
-    if r.is_in && none_of r.descs && not (is_failed status) && nat_lt actual r.transfer.wanted && (r.flags % 2 == 1) then EREMOTEIO else status
+    if r.is_in && none_of r.descs && not (is_failed status) && nat_lt actual r.transfer.wanted && fails_if_short r.flags then EREMOTEIO else status
 
 abbrev pub ret_submit : Request → ℤ → ℕ → List ℕ → List IsoDesc → UrbPacket
 ret_submit r status actual body descs = urb.RetSubmit (record {

@@ -1,13 +1,12 @@
 -- Answers as the code has them, and what a request in flight makes of them by its row.
 use Rattle.std.specs.Prelude.{ℕ, ◌+◌, ◌==◌, nat_lt, not, Bool, true, false, if◌then◌else◌, List, [], ◌∷◌, length, filter, Option, Some, None, ◌≡◌}
 use Rattle.usb_base.specs.declared.refusal.Refusal.{Refusal}
-use Rattle.usb_base.specs.declared.endpoint.EpKind.{EpKind}
-use Rattle.usb_base.specs.declared.endpoint.EpKind.TheVariants as kind
 use Rattle.usb_base.specs.declared.transfer.Outcome.{Outcome}
 use Rattle.usb_base.specs.declared.transfer.StreamPacket.{StreamPacket}
 use Rattle.usb_base.specs.Endpoint.{is_in_endpoint}
 use Rattle.usb_base.specs.Status.{status_of}
 use Rattle.usbip_urb.specs.declared.client.ClientPacket.{ClientPacket}
+use Rattle.redir_wire.specs.Table.{data_row, plain_row}
 use Rattle.redir_data.specs.declared.packet.RedirData.{RedirData}
 use Rattle.redir_data.specs.declared.packet.RedirData.TheVariants as data_packet
 use Rattle.unlink_race.specs.declared.live.Live.{Live}
@@ -19,7 +18,7 @@ use Rattle.gate_parts.specs.declared.host.response.Response.{Response as RawResp
 use Rattle.gate_parts.specs.declared.host.response.Response.TheVariants as raw
 use Rattle.gate_parts.specs.declared.host.response.StreamIn.{StreamIn}
 use Rattle.gate_history.specs.step.Marks.{Submission, Effect, Idle, Answers}
-use Rattle.gate_history.specs.host.Responses.{Response, Data, Status, route_answer, route_gets, mismatched, got, seen}
+use Rattle.gate_history.specs.host.Responses.{Response, Data, Status, wire_answer, route_answer, route_gets, mismatched, got, seen}
 use Rattle.gate_history.specs.write.All.{is_ret_submit, is_won_unlink}
 use Rattle.gate_history.specs.write.Asked.{IsMoved}
 
@@ -47,15 +46,10 @@ packet_in (data_packet.Iso endpoint status length body) = record { status = stat
 
 -- ---- by a row
 
--- the type of the packet that answers a transfer on the wire
-abbrev pub wire_answer : EpKind → ℕ
-wire_answer kind.Control = 100
-wire_answer kind.Interrupt = 103
-wire_answer _ = 101
-
+-- the number of its answer's type
 abbrev pub row_answer : LiveKind → ℕ
-row_answer (live_kind.Wire ep kind) = wire_answer kind
-row_answer (live_kind.Routed route) = route_answer route
+row_answer (live_kind.Wire ep kind) = (data_row (wire_answer kind)).number
+row_answer (live_kind.Routed route) = (plain_row (route_answer route)).number
 row_answer (live_kind.Stream ep interface) = 0
 
 -- a route is a request of endpoint 0

@@ -1,6 +1,7 @@
 //! The replies to list and import requests.
 
 ghost use Rattle.std.specs.Prelude.{◌≡◌, ◌≤◌, length, take, IfOk};
+ghost use Rattle.redir_wire.specs.declared.packet.TheConstants.{MAX_INTERFACES};
 ghost use Rattle.usbip_op.specs.Ranges.{IsWritable};
 ghost use Rattle.gate_history.specs.client.Replies.{rows as rows_of, interface_rows, device_row, list_reply, import_reply, failed_import, is_exported};
 
@@ -58,7 +59,7 @@ pub fn is_exported(busid: &[u8; 32]) -> bool
 // The rows of an interface_info, as many as its count.
 fn counted_rows(alloc: Global, info: &InterfaceInfo) -> Result<IfaceRows, Memory>
     ensures rows { IfOk result (λ rows. rows ≡ take info.now.count (rows_of info.now.class info.now.subclass info.now.protocol)) }
-    ensures few { IfOk result (λ rows. length rows ≤ 32) }
+    ensures few { IfOk result (λ rows. length rows ≤ MAX_INTERFACES) }
 {
     let mut rows = IfaceRows::new(alloc);
     let count = info.count.min(MAX_INTERFACES) as usize;
@@ -76,7 +77,7 @@ fn counted_rows(alloc: Global, info: &InterfaceInfo) -> Result<IfaceRows, Memory
 // The interfaces that were told, none before an interface_info.
 fn interface_rows(alloc: Global, info: &Option<InterfaceInfo>) -> Result<IfaceRows, Memory>
     ensures rows { IfOk result (λ rows. rows ≡ interface_rows info.now) }
-    ensures few { IfOk result (λ rows. length rows ≤ 32) }
+    ensures few { IfOk result (λ rows. length rows ≤ MAX_INTERFACES) }
 {
     match info {
         Some(info) => counted_rows(alloc, info),

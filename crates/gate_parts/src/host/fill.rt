@@ -3,7 +3,7 @@
 ghost use Rattle.std.specs.Prelude.{◌≡◌, ◌+◌, ◌<◌, ◌≤◌, length, OnOk, OnErr, IfOk};
 ghost use Rattle.std.specs.List.{AllByRecursion};
 ghost use Rattle.usbip_urb.specs.declared.code.TheConstants.{MAX_LIVE};
-ghost use Rattle.stream_buffers.specs.declared.inbox.TheConstants.{MAX_HELD};
+ghost use Rattle.stream_buffers.specs.declared.up.TheConstants.{MAX_HELD};
 ghost use Rattle.unlink_race.specs.Searches.{waits_for};
 ghost use Rattle.redir_wire.specs.declared.packet.Caps.{Caps};
 ghost use Rattle.gate_parts.specs.state.Rows.{IsFine};
@@ -11,10 +11,10 @@ ghost use Rattle.gate_parts.specs.host.Fill.{up_fill, up_bytes, filled_notes, Ha
 ghost use Rattle.gate_parts.specs.write.Outputs.{with_answers, HasSome};
 
 use crate::host::filling::write_filling;
-use crate::state::streams::Up;
 use crate::write::outputs::Outputs;
 use gate_history::Note;
 use std::alloc::Global;
+use stream_buffers::Up;
 use unlink_race::Lives;
 use usb_base::{EpAddr, Memory};
 
@@ -59,7 +59,7 @@ pub fn write_fillings(
         requests: 0,
         packets: 0,
     };
-    let held = up.inbox().len();
+    let held = up.len();
     for nth in 0..lives.len() {
         if filled.packets == held {
             return Ok(filled);

@@ -14,11 +14,10 @@ ghost use Rattle.gate_parts.specs.state.Rows.{row_request};
 ghost use Rattle.gate_parts.specs.host.Fill.{row_cut, cut_bytes, HasTaken};
 ghost use Rattle.gate_parts.specs.host.FillAnswer.{front_bytes, interrupt_given, iso_given};
 
-use crate::state::streams::Up;
 use crate::write::answer::ret_submit;
 use crate::write::finish::asked_by;
 use std::alloc::Global;
-use stream_buffers::{Filling, IsoFilling};
+use stream_buffers::{Behind, Filling, IsoFilling, Up};
 use unlink_race::Live;
 use usb_base::{Bytes, Memory};
 use usbip_urb::{Descs, push_ret_fields};
@@ -48,14 +47,15 @@ pub fn write_filling(
         let Some(filling) = up.filling(from, live.wanted) else {
             return Ok(None);
         };
-        let pushed = push_transferred(alloc, live, up, from, filling, out);
+        let pushed = push_transferred(alloc, live, &up.behind(from), filling, out);
         out.cut_on_err(before, pushed)?;
         Ok(Some(filling.count))
     } else {
-        let Some(filling) = up.inbox().iso_filling(from, &live.descs) else {
+        let behind = up.behind(from);
+        let Some(filling) = behind.iso_filling(&live.descs) else {
             return Ok(None);
         };
-        let pushed = push_pieces(alloc, live, up, from, filling, out);
+        let pushed = push_pieces(alloc, live, &behind, filling, out);
         out.cut_on_err(before, pushed)?;
         Ok(Some(live.descs.len()))
     }
@@ -65,17 +65,16 @@ pub fn write_filling(
 fn push_transferred(
     alloc: Global,
     live: &Live,
-    up: &Up,
-    from: usize,
+    behind: &Behind,
     filling: Filling,
     out: &mut Bytes,
 ) -> Result<(), Memory>
-    requires there { from + filling.count ≤ length up.now.held }
+    requires there { filling.count ≤ length behind.now }
     requires none { live.now.descs ≡ [] }
-    ensures { AppendsSome result out.old out.new (spelling (with_given (row_request live.now) (Transferred (cut_by (drop from up.now.held) filling).gives))) }
+    ensures { AppendsSome result out.old out.new (spelling (with_given (row_request live.now) (Transferred (cut_by behind.now filling).gives))) }
 {
     push_front(alloc, live, filling.status.errno(), filling.done, 0, out)?;
-    up.inbox().append_bodies(from, filling, out)?;
+    behind.append_bodies(filling, out)?;
     Ok(())
 }
 
@@ -83,19 +82,17 @@ fn push_transferred(
 fn push_pieces(
     alloc: Global,
     live: &Live,
-    up: &Up,
-    from: usize,
+    behind: &Behind,
     filling: IsoFilling,
     out: &mut Bytes,
 ) -> Result<(), Memory>
-    requires from { from ≤ length up.now.held }
-    requires fills { FillsIso live.now.descs (drop from up.now.held) filling }
+    requires fills { FillsIso live.now.descs behind.now filling }
     requires fits { filling.done ≤ MAX_LENGTH }
-    ensures { AppendsSome result out.old out.new (spelling (with_given (row_request live.now) (Isochronous (iso_outcome live.now.descs (drop from up.now.held))))) }
+    ensures { AppendsSome result out.old out.new (spelling (with_given (row_request live.now) (Isochronous (iso_outcome live.now.descs behind.now)))) }
 {
     push_front(alloc, live, 0, filling.done as u32, filling.errors, out)?;
-    up.inbox().append_pieces(from, &live.descs, out)?;
-    up.inbox().append_filled(from, &live.descs, out)?;
+    behind.append_pieces(&live.descs, out)?;
+    behind.append_filled(&live.descs, out)?;
     Ok(())
 }
 

@@ -6,10 +6,9 @@ ghost use Rattle.usb_base.specs.declared.side.Side.TheVariants.{Host};
 ghost use Rattle.gate_history.specs.declared.request.Request.{Request};
 ghost use Rattle.gate_history.specs.declared.verdict.Verdict.{Verdict};
 ghost use Rattle.redir_data.specs.declared.packet.RedirPacket.TheVariants.{Plain, Carrying};
-ghost use Rattle.gate_history.specs.host.Responses.{Data, outcome, response_of, route_answer, mismatched, route_gets, gets as gets_value, seen};
-ghost use Rattle.gate_parts.specs.host.Responses.{response_view, status_outcome, wire_answer, row_answer, row_ep, row_gets, row_mismatch, stream_in, packet_in};
+ghost use Rattle.gate_history.specs.host.Responses.{Data, outcome, response_of, wire_answer, route_answer, mismatched, route_gets, gets as gets_value, seen};
+ghost use Rattle.gate_parts.specs.host.Responses.{response_view, status_outcome, row_answer, row_ep, row_gets, row_mismatch, stream_in, packet_in};
 ghost use Rattle.redir_wire.specs.Header.{head_size};
-ghost use Rattle.redir_wire.specs.Table.{data_row, plain_row};
 ghost use Rattle.gate_history.specs.state.Flight.{wide_ids};
 
 use control_route::Route;
@@ -114,7 +113,7 @@ fn answer_kind(kind: &LiveKind) -> u32
 
 // The type of the packet that answers a transfer on the wire.
 fn wire_answer(kind: EpKind) -> DataKind
-    ensures { (data_row result).number ≡ wire_answer kind }
+    ensures { result ≡ wire_answer kind }
 {
     match kind {
         EpKind::Control => DataKind::Control,
@@ -125,7 +124,7 @@ fn wire_answer(kind: EpKind) -> DataKind
 
 // The type of the packet that answers a route's.
 fn route_answer(route: &Route) -> PlainKind
-    ensures { (plain_row result).number ≡ route_answer route.now }
+    ensures { result ≡ route_answer route.now }
 {
     match route {
         Route::SetAlt { .. } | Route::GetAlt(_) => PlainKind::AltStatus,

@@ -6,14 +6,15 @@ ghost use Rattle.gate_history.specs.state.Ids.{holds};
 ghost use Rattle.gate_history.specs.state.Calls.{no_calls, started, stopped, call_ids, lifted};
 ghost use Rattle.gate_parts.specs.state.Ids.{is_id};
 
+use gate_history::ENDPOINTS;
 use std::marker::Model;
 use usb_base::EpAddr;
 
 /// Of each endpoint's place in the table the id of its last start, and that of the last stop after it.
 #[derive(Clone, Copy)]
 pub struct Calls {
-    started: [Option<u64>; 32],
-    stopped: [Option<u64>; 32],
+    started: [Option<u64>; ENDPOINTS],
+    stopped: [Option<u64>; ENDPOINTS],
 }
 
 impl Model for Calls {
@@ -32,8 +33,8 @@ impl Calls {
         ensures { result ≡ no_calls }
     {
         Calls {
-            started: [None; 32],
-            stopped: [None; 32],
+            started: [None; ENDPOINTS],
+            stopped: [None; ENDPOINTS],
         }
     }
 

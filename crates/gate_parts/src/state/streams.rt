@@ -1,161 +1,51 @@
-//! The streams of endpoints that are up, with the packets that they hold.
+//! The streams of endpoints that are up.
 
-ghost use Rattle.std.specs.Prelude.{◌≡◌, ◌+◌, ◌≤◌, ◌-◌, [], Some, None, length, take, drop, not, option_copied, slice_set, OnOk, OnErr, IfOk, IfSome};
-ghost use Rattle.std.specs.Option.{option_map};
+ghost use Rattle.std.specs.Prelude.{◌≡◌, [], Some, None, length, option_copied, slice_set};
 ghost use Rattle.usb_base.specs.Endpoint.{endpoint_index};
-ghost use Rattle.stream_buffers.specs.Held.{is_full, receive};
-ghost use Rattle.stream_buffers.specs.Interrupt.{interrupt_cut};
-ghost use Rattle.stream_buffers.specs.Fillings.{cut_by};
+ghost use Rattle.gate_history.specs.declared.facts.TheConstants.{ENDPOINTS};
 ghost use Rattle.gate_history.specs.client.Verdict.{is_iso};
 ghost use Rattle.gate_history.specs.state.Ups.{no_streams, stream_at, raise, lower, lower_at, unless, is_ended};
 
 use control_route::{Route, touches};
+use gate_history::ENDPOINTS;
 use std::alloc::Global;
+use std::array::from_fn;
 use std::marker::Model;
-use stream_buffers::{Filling, Inbox};
-use usb_base::{EpAddr, EpKind, EpRow, Memory, StreamPacket};
-
-/// How many places a table of endpoints has.
-const PLACES: usize = 32;
-
-/// A stream that is up, with the row that its endpoint had when it went up, and the packets that came and that no
-/// request took.
-#[derive(Drop)]
-pub struct Up {
-    ep: EpAddr,
-    row: EpRow,
-    inbox: Inbox,
-}
-
-impl Model for Up {
-    ghost use Rattle.std.specs.Prelude.{◌≡◌};
-    ghost use Rattle.gate_history.specs.state.Ups.{Up as Seen};
-
-    ghost Value = { Seen };
-
-    ghost view = { λ up. record { ep = up.ep; row = up.row; held = up.inbox.packets } };
-
-    ghost invariant = { λ up. up.inbox.max_packet ≡ up.row.max_packet };
-}
-
-impl Up {
-    /// It has just gone up, and takes no memory.
-    fn new(alloc: Global, ep: EpAddr, row: EpRow) -> Up
-        ensures { result ≡ record { ep = ep; row = row; held = [] } }
-    {
-        Up {
-            ep,
-            row,
-            inbox: Inbox::make(alloc, row.max_packet),
-        }
-    }
-
-    /// Its endpoint.
-    pub fn ep(&self) -> EpAddr
-        ensures { result ≡ self.now.ep }
-    {
-        self.ep
-    }
-
-    /// The row that its endpoint had when it went up.
-    pub fn row(&self) -> EpRow
-        ensures { result ≡ self.now.row }
-    {
-        self.row
-    }
-
-    /// Whether it ends with a route, or with its client where there is none.
-    pub fn is_ended(&self, by: Option<Route>) -> bool
-        ensures { result ≡ is_ended by self.now }
-    {
-        match by {
-            Some(route) => touches(&route, self.row.interface),
-            None => true,
-        }
-    }
-
-    /// Holds a packet, and says whether it does: where 1,024 are held it is lost. For want of memory nothing changes.
-    pub fn receive(&mut self, packet: StreamPacket) -> Result<bool, Memory>
-        ensures told { IfOk result (λ held. held ≡ not (is_full self.old.held)) }
-        ensures ok { OnOk result (self.new ≡ record self.old { held = receive packet self.old.held }) }
-        ensures err { OnErr result (self.new ≡ self.old) }
-    {
-        self.inbox.offer(packet)
-    }
-
-    /// Whether its packets are isochronous.
-    pub fn is_iso(&self) -> bool
-        ensures { result ≡ is_iso self.now.row.kind }
-    {
-        self.row.kind == EpKind::Iso
-    }
-
-    /// The packets that it holds.
-    pub fn inbox(&self) -> &Inbox
-        ensures { result.now ≡ record { packets = self.now.held; max_packet = self.now.row.max_packet } }
-    {
-        &self.inbox
-    }
-
-    /// Gives up the packet that came last.
-    pub fn withdraw(&mut self)
-        ensures { self.new ≡ record self.old { held = take (length self.old.held - 1) self.old.held } }
-    {
-        self.inbox.withdraw();
-    }
-
-    /// Gives up the first `count` packets, which requests took.
-    pub fn skip(&mut self, count: usize)
-        requires { count ≤ length self.old.held }
-        ensures { self.new ≡ record self.old { held = drop count self.old.held } }
-    {
-        self.inbox.skip(count);
-    }
-
-    /// What an interrupt request for so many bytes is given of the packets behind the first `from`, which stay.
-    pub fn filling(&mut self, from: usize, wanted: u32) -> Option<Filling>
-        requires { from ≤ length self.old.held }
-        ensures same { self.new ≡ self.old }
-        ensures cut { option_map (cut_by (drop from self.old.held)) result ≡ interrupt_cut self.old.row.max_packet wanted (drop from self.old.held) }
-        ensures there { IfSome result (λ filling. from + filling.count ≤ length self.old.held) }
-    {
-        self.inbox.filling(from, wanted)
-    }
-}
+use stream_buffers::Up;
+use usb_base::{EpAddr, EpKind, EpRow};
 
 /// The streams that are up, by their endpoints' places in a table; contracts see them as that list.
 #[derive(Drop)]
 pub struct Streams {
-    ups: Vec<Option<Up>>,
+    ups: [Option<Up>; ENDPOINTS],
 }
 
 impl Model for Streams {
     ghost use Rattle.std.specs.Prelude.{◌≡◌, List, Option, length};
+    ghost use Rattle.gate_history.specs.declared.facts.TheConstants.{ENDPOINTS};
     ghost use Rattle.gate_history.specs.state.Ups.{Up as Seen};
 
     ghost Value = { List (Option Seen) };
 
-    ghost view = { λ streams. streams.ups.items };
+    ghost view = { λ streams. streams.ups };
 
-    ghost invariant = { λ streams. length streams.ups.items ≡ 32 };
+    ghost invariant = { λ streams. length streams.ups ≡ ENDPOINTS };
 }
 
 impl Streams {
     /// None is up.
-    pub fn make(alloc: Global) -> Result<Streams, Memory>
-        ensures { IfOk result (λ streams. streams ≡ no_streams) }
+    pub fn none() -> Streams
+        ensures { result ≡ no_streams }
     {
-        let mut ups = Vec::new(alloc);
-        for _ in 0..PLACES {
-            ups.push(None)?;
+        Streams {
+            ups: from_fn(|_| None),
         }
-        Ok(Streams { ups })
     }
 
     /// All places, of which those without a stream are empty.
     pub fn as_slice(&self) -> &[Option<Up>]
         ensures value { result.now ≡ self.now }
-        ensures count { length result.now ≡ 32 }
+        ensures count { length result.now ≡ ENDPOINTS }
     {
         &self.ups
     }
@@ -194,9 +84,9 @@ impl Streams {
     /// Those that end with a route go down, or all where there is none.
     pub fn lower(&mut self, by: Option<Route>)
         ensures lowered { self.new ≡ lower (is_ended by) self.old }
-        ensures count { length self.old ≡ 32 }
+        ensures count { length self.old ≡ ENDPOINTS }
     {
-        for place in 0..self.ups.len() {
+        for place in 0..ENDPOINTS {
             let up = self.ups[place].take();
             self.ups[place] = unless_ended(up, by);
         }
@@ -206,7 +96,7 @@ impl Streams {
     pub fn clear(&mut self)
         ensures { self.new ≡ no_streams }
     {
-        self.lower(None);
+        *self = Streams::none();
     }
 
     /// That of the endpoint with this address goes down. A byte that is no address is that of no endpoint.
@@ -223,7 +113,24 @@ fn unless_ended(stream: Option<Up>, by: Option<Route>) -> Option<Up>
     ensures { result ≡ unless (is_ended by) stream }
 {
     match stream {
-        Some(up) if !up.is_ended(by) => Some(up),
+        Some(up) if !is_ended(&up, by) => Some(up),
         _ => None,
     }
+}
+
+/// Whether a stream that is up ends with a route, or with its client where there is none.
+pub fn is_ended(up: &Up, by: Option<Route>) -> bool
+    ensures { result ≡ is_ended by up.now }
+{
+    match by {
+        Some(route) => touches(&route, up.row().interface),
+        None => true,
+    }
+}
+
+/// Whether the packets of a stream are isochronous.
+pub fn is_iso(up: &Up) -> bool
+    ensures { result ≡ is_iso up.now.row.kind }
+{
+    up.row().kind == EpKind::Iso
 }

@@ -3,7 +3,7 @@
 ghost use Rattle.stream_buffers.specs.Fillings.{is_failed};
 ghost use Rattle.usbip_urb.specs.declared.code.TheConstants.{MAX_LENGTH, MAX_PACKETS};
 ghost use Rattle.usbip_urb.specs.Buffers.{laid};
-ghost use Rattle.std.specs.Prelude.{◌≡◌, ◌==◌, ◌%◌, false, IsTrue, ◌++◌, ◌≤◌, ◌<◌, filter, length, not, OnOk, OnErr, IfOk};
+ghost use Rattle.std.specs.Prelude.{◌≡◌, false, IsTrue, ◌++◌, ◌≤◌, ◌<◌, filter, length, not, OnOk, OnErr, IfOk};
 ghost use Rattle.usbip_urb.specs.Spelling.{spelling};
 ghost use Rattle.usbip_urb.specs.declared.packet.UrbPacket.TheVariants.{RetSubmit as RetSubmitPacket};
 ghost use Rattle.gate_history.specs.write.Answers.{answer_head, told_status, ret_submit, ret_unlink, echoed, without_packets, sent_whole, all_sent, with_outcome};
@@ -16,9 +16,6 @@ use usb_base::{Bytes, Memory, Outcome};
 use usbip_urb::{
     Descs, Head, IsoDesc, RetSubmit, RetUnlink, UrbPacket, total, write_ret_submit, write_urb,
 };
-
-/// URB_SHORT_NOT_OK in transfer_flags: a read that gives fewer bytes than were asked for has failed.
-const URB_SHORT_NOT_OK: u32 = 0x0001;
 
 /// Appends the answer of a submit that ends without its packets. For want of memory `out` stands.
 pub fn write_without_packets(
@@ -124,18 +121,11 @@ fn told_status(asked: &AnsweredSubmit, status: i32, actual: u32) -> i32
     ensures { result ≡ told_status (asked_view asked.now) status actual }
 {
     let is_short = asked.is_in && asked.descs.is_empty() && status == 0 && actual < asked.wanted;
-    if is_short && fails_if_short(asked.flags) {
+    if is_short && asked.fails_if_short() {
         EREMOTEIO
     } else {
         status
     }
-}
-
-// Whether these transfer flags say that a short read has failed.
-fn fails_if_short(flags: u32) -> bool
-    ensures { result ≡ (flags % 2 == 1) }
-{
-    flags % 2 == URB_SHORT_NOT_OK
 }
 
 // How many isochronous packets have a status other than 0.

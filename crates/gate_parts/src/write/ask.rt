@@ -15,13 +15,14 @@ ghost use Rattle.gate_parts.specs.state.Rows.{cancel_bytes, is_cancelled_row};
 ghost use Rattle.gate_history.specs.step.Marks.{Disconnects};
 ghost use Rattle.gate_history.specs.write.Output.{acknowledgements};
 
-use crate::state::streams::Up;
+use crate::state::streams::is_iso;
 use crate::write::field::field;
 use control_route::Route;
 use gate_history::Pipe;
 use redir_data::RedirData;
 use redir_wire::{ANNOUNCED, Caps, DISCONNECT_ACK, Hello, RedirControl, Words, write_control};
 use std::alloc::Global;
+use stream_buffers::Up;
 use unlink_race::{Live, LiveKind};
 use usb_base::{Bytes, EpAddr, EpKind, EpRow, Memory, Transfer};
 
@@ -161,7 +162,7 @@ pub fn write_stop(up: &Up, id: u64, caps: Caps, out: &mut Bytes) -> Result<(), M
     ensures err { OnErr result (out.new ≡ out.old) }
 {
     let endpoint = up.ep().byte();
-    if up.row().kind == EpKind::Iso {
+    if is_iso(up) {
         write_control(&RedirControl::StopIso { endpoint }, id, caps, out)
     } else {
         write_control(&RedirControl::StopInterrupt { endpoint }, id, caps, out)

@@ -4,6 +4,7 @@ use Rattle.std.specs.List.{zip}
 use Rattle.usbip_urb.specs.declared.code.TheConstants.{MAX_LIVE}
 use Rattle.urb_arena.specs.Seen.{Seen}
 use Rattle.urb_arena.specs.Lanes.{find_in, count}
+use Rattle.unlink_race.specs.declared.table.TheConstants.{LANES}
 use Rattle.unlink_race.specs.declared.live.Live.{Live}
 use Rattle.unlink_race.specs.Requests.{Requests}
 use Rattle.unlink_race.specs.Inner.Listed.{IsKeyed, listed}
@@ -43,7 +44,7 @@ pub record IsSound (arena : Seen (ℕ × Live)) (keys : List ℕ) : Type 0 where
   pub all : count arena.lanes ≡ length keys
   pub bound : length keys ≤ MAX_LIVE
   pub capacity : arena.capacity ≡ MAX_LIVE
-  pub lanes : length arena.lanes ≡ 32
+  pub lanes : length arena.lanes ≡ LANES
   pub placed : ArePlaced 0 (keys_of arena) (zip keys (lives_of arena keys))
 
 -- the one list is the live or the abandoned requests

@@ -18,7 +18,7 @@ use Rattle.redir_data.specs.declared.packet.RedirPacket.TheVariants.{Plain, Carr
 use Rattle.stream_buffers.specs.Cuts.{Cut}
 use Rattle.stream_buffers.specs.Interrupt.{last_of, interrupt_cut_at, interrupt_cut}
 use Rattle.stream_buffers.specs.Iso.{iso_outcome, iso_cut}
-use Rattle.stream_buffers.specs.declared.inbox.TheConstants.{MAX_HELD}
+use Rattle.stream_buffers.specs.declared.up.TheConstants.{MAX_HELD}
 use Rattle.gate_history.specs.declared.item.Item.{Item}
 use Rattle.gate_history.specs.declared.item.Item.TheVariants.{Asked, ClientWrong, ClientLeft, Told, HostWrong, HostLeft}
 use Rattle.gate_history.specs.declared.request.Request.{Request}

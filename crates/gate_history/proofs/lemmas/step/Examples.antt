@@ -16,7 +16,7 @@ use Rattle.redir_data.specs.declared.packet.RedirPacket.TheVariants.{Plain, Carr
 use Rattle.control_route.specs.Routes.{route_of}
 use Rattle.usbip_urb.specs.declared.client.ClientPacket.{ClientPacket}
 use Rattle.usbip_urb.specs.declared.client.ClientPacket.TheVariants.{Op, Urb}
-use Rattle.stream_buffers.specs.declared.inbox.TheConstants.{MAX_HELD}
+use Rattle.stream_buffers.specs.declared.up.TheConstants.{MAX_HELD}
 use Rattle.gate_history.specs.declared.note.Note.{Note}
 use Rattle.gate_history.specs.declared.note.Note.TheVariants as note
 use Rattle.gate_history.specs.declared.item.Item.{Item}

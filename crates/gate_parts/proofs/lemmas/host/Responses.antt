@@ -1,5 +1,5 @@
 -- What a row says of an answer is what its submit says of it.
-use Rattle.std.proofs.Common.{◌≡◌, ℕ, zero, suc, ◌+◌, ◌≤◌, ◌&&◌, ◌⊎◌, inl, inr, Bool, true, false, cond, not, eqb, ltb, List, [], ◌∷◌, length, map, take, Option, Some, None, refl, sym, ap, subst, ◌∙◌, arith}
+use Rattle.std.proofs.Common.{◌≡◌, ℕ, zero, suc, ◌+◌, ◌<◌, ◌≤◌, ◌&&◌, ◌⊎◌, inl, inr, Bool, true, false, cond, not, eqb, ltb, List, [], ◌∷◌, length, map, take, Option, Some, None, refl, sym, ap, subst, ◌∙◌, arith}
 use Rattle.std.specs.Prelude.{is_none, pos}
 use Rattle.std.proofs.lemmas.Bool.{eqb-true, ne_eqb, ltb-false, false≢true}
 use Rattle.usb_base.specs.declared.side.Side.TheVariants.{Host}
@@ -13,6 +13,8 @@ use Rattle.usbip_urb.specs.declared.client.ClientPacket.TheVariants.{Urb}
 use Rattle.usbip_urb.specs.Sizes.{body_size}
 use Rattle.redir_wire.specs.declared.packet.Caps.{Caps}
 use Rattle.redir_wire.specs.declared.packet.Way.TheVariants.{ToGuest}
+use Rattle.redir_wire.specs.Table.{plain_row}
+use Rattle.redir_data.specs.declared.redir.TheConstants.{FIRST_DATA}
 use Rattle.redir_data.specs.Spelling.{data_count}
 use Rattle.control_route.specs.declared.route.Route.{Route}
 use Rattle.control_route.specs.declared.route.Route.TheVariants as route
@@ -57,7 +59,7 @@ row-gets v ep = by-verdict (λ w. row_gets (kind_of w ep) ≡ gets w) (λ s. ref
 
 -- ---- what is wrong
 
-route-small : (r : Route) → route_answer r ≤ 11
+route-small : (r : Route) → (plain_row (route_answer r)).number < FIRST_DATA
 route-small route.Local = omega arith
 route-small (route.SetConfig configuration) = omega arith
 route-small route.GetConfig = omega arith
@@ -67,8 +69,8 @@ route-small route.Reset = omega arith
 route-small route.Plain = omega arith
 route-small route.Bad = omega arith
 
-no-route : (kind : ℕ) (r : Route) → 100 ≤ kind → eqb kind (route_answer r) ≡ false
-no-route kind r h = let few = route-small r in ne_eqb kind (route_answer r) (λ e. absurd (omega (arith, few, h, e)))
+no-route : (kind : ℕ) (r : Route) → FIRST_DATA ≤ kind → eqb kind (plain_row (route_answer r)).number ≡ false
+no-route kind r h = let few = route-small r in ne_eqb kind (plain_row (route_answer r)).number (λ e. absurd (omega (arith, few, h, e)))
 
 pub row-mismatch : (place head : ℕ) (s : Submission) (by : Option ℕ) (kind : ℕ) (r : Response) → ResponseFits kind (Some r) → row_mismatch place head (row_of s by) kind r ≡ mismatch place head s kind r
 row-mismatch place head s by kind (Status status value) h =
@@ -81,10 +83,10 @@ row-mismatch place head s by kind (Data endpoint length_place o) h = of s.verdic
     of (Wire Bulk) = refl
     of (Wire InterruptOut) = refl
     of (Routed r) =
-        ap (λ (b : Bool). cond (not b) (Some (mismatched place (route_answer r) kind))
+        ap (λ (b : Bool). cond (not b) (Some (mismatched place (plain_row (route_answer r)).number kind))
         (cond (not (eqb endpoint 0)) (Some (mismatched (place + head) 0 endpoint))
         (cond (ltb s.request.transfer.wanted o.done) (Some (mismatched (place + head + length_place) s.request.transfer.wanted o.done)) None))) (no-route kind r h.0)
-        ∙ sym (ap (λ (b : Bool). cond (not b) (Some (mismatched place (route_answer r) kind))
+        ∙ sym (ap (λ (b : Bool). cond (not b) (Some (mismatched place (plain_row (route_answer r)).number kind))
         (cond (not (eqb endpoint s.request.transfer.ep)) (Some (mismatched (place + head) s.request.transfer.ep endpoint))
         (cond (ltb s.request.transfer.wanted o.done) (Some (mismatched (place + head + length_place) s.request.transfer.wanted o.done)) None))) (no-route kind r h.0))
     of (IsoOut r) = refl

@@ -1,8 +1,6 @@
--- The places of a list that are set, and the streams in them.
-use Rattle.std.proofs.Common.{◌≡◌, ℕ, zero, suc, ◌+◌, List, [], ◌∷◌, ◌++◌, length, replicate, get_or, set, Option, Some, None, refl, ap, ◌∙◌, arith}
-use Rattle.gate_history.specs.state.Ups.{Up, is_ended, lower, no_streams}
-
--- ---- one place
+-- The places of a list that are set.
+use Rattle.std.proofs.Common.{◌≡◌, ℕ, zero, suc, ◌<◌, List, [], ◌∷◌, length, replicate, get_or, set, refl, sym, ap, ◌∙◌}
+use Rattle.std.proofs.lemmas.List.{ext_get_or, get_or-replicate, length-replicate}
 
 -- of two values that are set the last stands
 pub set-twice : {X : Type 0} (xs : List X) (i : ℕ) (a b : X) → set (set xs i a) i b ≡ set xs i b
@@ -16,20 +14,7 @@ set-back [] i d = refl
 set-back (x ∷ xs) zero d = refl
 set-back (x ∷ xs) (suc i) d = ap (λ l. x ∷ l) (set-back xs i d)
 
--- ---- all places
-
-all-down : (ups : List (Option Up)) → lower (is_ended None) ups ≡ replicate (length ups) None
-all-down [] = refl
-all-down (None ∷ ups) = ap (λ l. None ∷ l) (all-down ups)
-all-down (Some up ∷ ups) = ap (λ l. None ∷ l) (all-down ups)
-
--- with their client gone none is left
-pub cleared : (ups : List (Option Up)) → length ups ≡ 32 → lower (is_ended None) ups ≡ no_streams
-cleared ups long = all-down ups ∙ ap (λ n. replicate n None) long
-
-more : {X : Type 0} (n : ℕ) (x : X) → replicate n x ++ x ∷ [] ≡ replicate (suc n) x
-more zero x = refl
-more (suc n) x = ap (λ l. x ∷ l) (more n x)
-
-pub one-more : {X : Type 0} (n : ℕ) (x : X) → replicate n x ++ x ∷ [] ≡ replicate (n + 1) x
-one-more {X = X} n x = let one : suc n ≡ n + 1 = omega arith in more n x ∙ ap (λ (k : ℕ). replicate k x) one
+-- where each is the same
+pub each-same : {X : Type 0} (xs : List X) (n : ℕ) (a : X) → length xs ≡ n → ((i : ℕ) → i < n → get_or xs i a ≡ a) → xs ≡ replicate n a
+each-same xs n a long is =
+    ext_get_or a xs (replicate n a) (long ∙ sym (length-replicate n a)) (λ i within. let below : i < n = rw (sym long) within in is i below ∙ sym (get_or-replicate n i a a below))

@@ -3,7 +3,6 @@ use Rattle.std.specs.Prelude.{IsSome}
 use Rattle.std.proofs.lemmas.List.{append-nil}
 use Rattle.stream_buffers.specs.Cuts.{Cut}
 use Rattle.gate_history.specs.host.Fillings.{Given}
-use Rattle.stream_buffers.specs.Held.{Held}
 use Rattle.gate_history.specs.declared.note.Note.TheVariants as note
 use Rattle.gate_parts.specs.declared.host.fill.Filled.{Filled}
 use Rattle.gate_history.specs.state.Ups.{Up}
@@ -25,7 +24,7 @@ loop-nth-init c = record {
 
 pub returns-then-filled-held : goal.returns-then-filled-held
 returns-then-filled-held c =
-    let all = none-held c.loop-nth.invariant.so_far (c.if-filled-held.true ∙ c.len-held.ensures.len ∙ ap (λ (b : Held). length b.packets) c.inbox.ensures) in
+    let all = none-held c.loop-nth.invariant.so_far (c.if-filled-held.true ∙ c.len-held.ensures.len) in
     record { same = c.loop-nth.invariant.same; filled = record { requests = all.requests; few = all.few; left = all.left }; sent = all.gives; err = tt; wants = tt }
 
 -- no more wait

@@ -4,4 +4,4 @@ use Rattle.gate_parts.proofs.lemmas.Fronts.{mapped}
 use Rattle.gate_parts.proofs.state.streams.Streams.lower.Given as goal
 
 abbrev pub invariant-loop-place : goal.invariant-loop-place
-invariant-loop-place l = l.self-inside.ups.items ≡ mapped (unless (is_ended l.by)) l.place l.fn.self
+invariant-loop-place l = l.self-inside.ups ≡ mapped (unless (is_ended l.by)) l.place l.fn.self

@@ -3,8 +3,8 @@
 use std::alloc::Global;
 use std::process::Abort;
 use std::test::Fail;
-use stream_buffers::{Inbox, IsoFilling, IsoOutcome};
-use usb_base::{Bytes, List, Memory, Outcome, StreamPacket, UsbStatus};
+use stream_buffers::{IsoFilling, IsoOutcome, MAX_HELD, Up};
+use usb_base::{Bytes, EpAddr, EpKind, EpRow, List, Memory, Outcome, StreamPacket, UsbStatus};
 use usbip_urb::{Descs, IsoDesc};
 
 const OK: UsbStatus = UsbStatus::Success;
@@ -32,13 +32,25 @@ fn packet(
     Ok(StreamPacket { status, body })
 }
 
-// An inbox of an endpoint whose largest packet has two bytes.
-fn holding(alloc: Global) -> Result<Inbox, Memory> {
-    let mut inbox = Inbox::make(alloc, 2);
+// The stream of IN endpoint 1, whose largest packet has so many bytes.
+fn stream(alloc: Global, max_packet: u16) -> Result<Up, Fail> {
+    let ep = EpAddr::new(0x81).ok_or("it is an address")?;
+    let row = EpRow {
+        kind: EpKind::Interrupt,
+        interval: 1,
+        interface: 0,
+        max_packet,
+    };
+    Ok(Up::new(alloc, ep, row))
+}
+
+// That of packets of two bytes.
+fn holding(alloc: Global) -> Result<Up, Fail> {
+    let mut up = stream(alloc, 2)?;
     for (status, byte, count) in HELD {
-        inbox.offer(packet(alloc, status, byte, count)?)?;
+        up.receive(packet(alloc, status, byte, count)?)?;
     }
-    Ok(inbox)
+    Ok(up)
 }
 
 // Two descriptors, which ask for two bytes each.
@@ -74,15 +86,15 @@ fn is_given_iso(outcome: &Option<IsoOutcome>, bytes: &[u8]) -> bool {
     }
 }
 
-fn take(rt: &impl Abort, inbox: &mut Inbox, descs: &Descs) -> Result<(), Fail> {
-    assert!(rt; is_given(&inbox.cut_interrupt(4)?, &[1, 1, 2]));
-    assert!(rt; is_given_iso(&inbox.cut_iso(descs)?, &[3, 3, 4, 4]));
-    assert!(rt; inbox.len() == 2);
-    inbox.withdraw();
-    assert!(rt; inbox.len() == 1);
-    inbox.skip(1);
-    inbox.clear();
-    assert!(rt; inbox.len() == 0);
+fn take(rt: &impl Abort, up: &mut Up, descs: &Descs) -> Result<(), Fail> {
+    assert!(rt; is_given(&up.cut_interrupt(4)?, &[1, 1, 2]));
+    assert!(rt; is_given_iso(&up.cut_iso(descs)?, &[3, 3, 4, 4]));
+    assert!(rt; up.len() == 2);
+    up.withdraw();
+    assert!(rt; up.len() == 1);
+    up.skip(1);
+    up.clear();
+    assert!(rt; up.len() == 0);
     Ok(())
 }
 
@@ -92,44 +104,44 @@ fn requests_take_packets(rt: HostRuntime) -> Result<(), Fail> {
 }
 
 // Whether one more packet is held.
-fn holds_one_more(alloc: Global, inbox: &mut Inbox) -> Result<bool, Memory> {
-    inbox.offer(packet(alloc, OK, 7, 8)?)
+fn holds_one_more(alloc: Global, up: &mut Up) -> Result<bool, Memory> {
+    up.receive(packet(alloc, OK, 7, 8)?)
 }
 
-fn fill(rt: &(impl Abort + AllocGlobal), inbox: &mut Inbox) -> Result<(), Fail> {
-    for _ in 0..1024 {
-        assert!(rt; holds_one_more(rt.alloc(), inbox)?);
+fn fill(rt: &(impl Abort + AllocGlobal), up: &mut Up) -> Result<(), Fail> {
+    for _ in 0..MAX_HELD {
+        assert!(rt; holds_one_more(rt.alloc(), up)?);
     }
-    assert!(rt; !holds_one_more(rt.alloc(), inbox)?);
-    assert!(rt; inbox.len() == 1024);
+    assert!(rt; !holds_one_more(rt.alloc(), up)?);
+    assert!(rt; up.len() == MAX_HELD);
     Ok(())
 }
 
 #[test]
 fn no_more_than_1024_packets_are_held(rt: HostRuntime) -> Result<(), Fail> {
-    fill(&rt, &mut Inbox::make(rt.alloc(), 8))
+    fill(&rt, &mut stream(rt.alloc(), 8)?)
 }
 
-fn bodies_behind_one(rt: &impl Abort, inbox: &mut Inbox, out: &mut Bytes) -> Result<(), Fail> {
-    assert!(rt; 1 <= inbox.len());
-    let filling = inbox.filling(1, 9).ok_or("it is filled")?;
+fn bodies_behind_one(rt: &impl Abort, up: &mut Up, out: &mut Bytes) -> Result<(), Fail> {
+    assert!(rt; 1 <= up.len());
+    let filling = up.filling(1, 9).ok_or("it is filled")?;
     assert!(rt; (filling.count, filling.status, filling.done) == (1, OK, 1));
-    inbox.append_bodies(1, filling, out)?;
+    up.behind(1).append_bodies(filling, out)?;
     assert!(rt; out.as_slice() == [2].as_slice());
     Ok(())
 }
 
 fn pieces_behind_three(
     rt: &impl Abort,
-    inbox: &Inbox,
+    up: &Up,
     descs: &Descs,
     out: &mut Bytes,
 ) -> Result<(), Fail> {
-    assert!(rt; (inbox.len(), descs.len()) == (6, 2));
+    assert!(rt; (up.len(), descs.len()) == (6, 2));
     let filling = IsoFilling { done: 3, errors: 2 };
-    assert!(rt; inbox.iso_filling(3, descs) == Some(filling));
-    inbox.append_pieces(3, descs, out)?;
-    inbox.append_filled(3, descs, out)?;
+    assert!(rt; up.behind(3).iso_filling(descs) == Some(filling));
+    up.behind(3).append_pieces(descs, out)?;
+    up.behind(3).append_filled(descs, out)?;
     Ok(())
 }
 
@@ -142,12 +154,12 @@ const FILLED: [u8; 36] = [
 
 fn append_behind_others(
     rt: &impl Abort,
-    inbox: &mut Inbox,
+    up: &mut Up,
     descs: &Descs,
     out: &mut Bytes,
 ) -> Result<(), Fail> {
-    bodies_behind_one(rt, inbox, out)?;
-    pieces_behind_three(rt, inbox, descs, out)?;
+    bodies_behind_one(rt, up, out)?;
+    pieces_behind_three(rt, up, descs, out)?;
     assert!(rt; out.as_slice() == FILLED.as_slice());
     Ok(())
 }

@@ -1,7 +1,0 @@
-use Rattle.std.proofs.Common.{◌≡◌, ◌++◌, take, drop}
-use Rattle.usbip_urb.specs.Spelling.{descs_bytes}
-use Rattle.stream_buffers.specs.Iso.{all_filled}
-use Rattle.stream_buffers.proofs.iso.append_filled.Given as goal
-
-abbrev pub invariant-loop-place : goal.invariant-loop-place
-invariant-loop-place l = l.out ≡ l.fn.out ++ descs_bytes (all_filled (take l.place l.descs) (drop l.from l.packets.items))
