@@ -8,9 +8,6 @@ ghost use Rattle.gate_history.specs.step.Meaning.{fact_of};
 use redir_wire::{Connect, InterfaceInfo, RedirControl};
 use usb_base::EpTable;
 
-/// How many endpoints a device's table has places for.
-pub const ENDPOINTS: usize = 32;
-
 /// What the host has told of its device since the device was last lost: of each fact the last.
 #[derive(Clone, Copy)]
 pub struct Facts {

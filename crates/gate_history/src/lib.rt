@@ -12,7 +12,7 @@ mod request;
 mod verdict;
 
 pub use event::Event;
-pub use facts::{ENDPOINTS, Facts};
+pub use facts::Facts;
 pub use item::Item;
 pub use laws::{
     events_add_items, ids_fly_once, losses_end_all, machine_is_past, refusals_have_causes,

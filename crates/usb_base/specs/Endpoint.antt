@@ -4,6 +4,7 @@ use Rattle.usb_base.specs.declared.endpoint.EpKind.{EpKind}
 use Rattle.usb_base.specs.declared.endpoint.EpKind.TheVariants.{Control, Iso, Bulk, Interrupt, Invalid}
 use Rattle.usb_base.specs.declared.endpoint.EpRow.{EpRow}
 use Rattle.usb_base.specs.declared.endpoint.EpTable.{EpTable}
+use Rattle.usb_base.specs.declared.endpoint.TheConstants.{ENDPOINTS}
 
 -- bits 4 to 6 are all 0: the byte is n or 128 + n, with n below 16
 abbrev pub IsEndpoint : ℕ → Type 0
@@ -32,7 +33,7 @@ abbrev pub no_endpoint : EpRow
 no_endpoint = record { kind = Invalid; interval = 0; interface = 0; max_packet = 0 }
 
 abbrev pub no_endpoints : EpTable
-no_endpoints = record { rows = replicate 32 no_endpoint }
+no_endpoints = record { rows = replicate ENDPOINTS no_endpoint }
 
 -- the row of an endpoint's address
 abbrev pub row_of : EpTable → ℕ → EpRow

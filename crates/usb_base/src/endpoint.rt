@@ -2,8 +2,12 @@
 
 ghost use Rattle.std.specs.Prelude.{◌≡◌, ◌<◌, ◌↔◌, IsSome, IfSome};
 ghost use Rattle.usb_base.specs.Endpoint.{IsEndpoint, endpoint_index, in_endpoints, is_in_endpoint, kind_of_byte, no_endpoints, out_endpoints, row_of};
+ghost use Rattle.usb_base.specs.declared.endpoint.TheConstants.{ENDPOINTS};
 
 use std::marker::Model;
+
+/// How many endpoints a device's table has places for.
+pub const ENDPOINTS: usize = 32;
 
 /// The address of an endpoint: the number in bits 0 to 3, and in bit 7 whether it is an IN endpoint, from
 /// the device to the host. Contracts see it as its byte.
@@ -96,7 +100,7 @@ impl EpAddr {
     /// Its place in a table of endpoints: n for OUT endpoint n, and 16 + n for IN endpoint n.
     pub fn index(self) -> usize
         ensures value { result ≡ endpoint_index self }
-        ensures in_range { result < 32 }
+        ensures in_range { result < ENDPOINTS }
     {
         if self.byte < 0x80 {
             self.byte as usize
@@ -162,7 +166,7 @@ pub struct EpRow {
 /// A device's endpoints by their index: places 0 to 15 are those to the device, 16 to 31 those from it.
 #[derive(Clone, Copy)]
 pub struct EpTable {
-    pub rows: [EpRow; 32],
+    pub rows: [EpRow; ENDPOINTS],
 }
 
 impl EpTable {
@@ -176,7 +180,7 @@ impl EpTable {
                 interval: 0,
                 interface: 0,
                 max_packet: 0,
-            }; 32],
+            }; ENDPOINTS],
         }
     }
 

@@ -15,7 +15,7 @@ mod speed;
 mod status;
 mod transfer;
 
-pub use endpoint::{EpAddr, EpKind, EpRow, EpTable};
+pub use endpoint::{ENDPOINTS, EpAddr, EpKind, EpRow, EpTable};
 pub use list::{Bytes, List};
 pub use memory::Memory;
 pub use number::{

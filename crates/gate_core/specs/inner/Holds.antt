@@ -11,7 +11,7 @@ use Rattle.gate_parts.specs.declared.write.outputs.Outputs.{Outputs}
 use Rattle.gate_core.specs.declared.state.kept.Kept.{Kept}
 use Rattle.gate_parts.specs.declared.state.calls.Called.{Called}
 use Rattle.usb_base.specs.Number.{capped}
-use Rattle.gate_history.specs.declared.facts.TheConstants.{ENDPOINTS}
+use Rattle.usb_base.specs.declared.endpoint.TheConstants.{ENDPOINTS}
 use Rattle.gate_history.specs.step.Marks.{Mark}
 use Rattle.gate_history.specs.state.Facts.{no_facts}
 use Rattle.gate_history.specs.state.Ups.{no_streams}

@@ -7,7 +7,7 @@ use Rattle.usb_base.specs.Endpoint.{endpoint_index}
 use Rattle.redir_wire.specs.declared.packet.RedirControl.TheVariants as plain
 use Rattle.redir_data.specs.declared.packet.RedirPacket.{RedirPacket}
 use Rattle.redir_data.specs.declared.packet.RedirPacket.TheVariants.{Plain}
-use Rattle.gate_history.specs.declared.facts.TheConstants.{ENDPOINTS}
+use Rattle.usb_base.specs.declared.endpoint.TheConstants.{ENDPOINTS}
 use Rattle.gate_history.specs.step.Folds.{rfold}
 use Rattle.gate_history.specs.step.Marks.{Effect, StreamTold, Mark}
 use Rattle.gate_history.specs.state.Sides.{leaves, is_loss}

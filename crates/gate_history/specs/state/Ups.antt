@@ -9,7 +9,7 @@ use Rattle.control_route.specs.declared.route.Route.{Route}
 use Rattle.control_route.specs.Changes.{touches}
 pub use Rattle.stream_buffers.specs.Held.{Up}
 use Rattle.gate_history.specs.step.Folds.{rfold}
-use Rattle.gate_history.specs.declared.facts.TheConstants.{ENDPOINTS}
+use Rattle.usb_base.specs.declared.endpoint.TheConstants.{ENDPOINTS}
 use Rattle.gate_history.specs.declared.verdict.Verdict.{Verdict}
 use Rattle.gate_history.specs.declared.verdict.Verdict.TheVariants.{Routed, IsoOut, Stream}
 use Rattle.gate_history.specs.step.Marks.{Effect, Opens, Waits, Arrives, StreamTold, Mark}

@@ -6,9 +6,8 @@ ghost use Rattle.gate_history.specs.state.Ids.{holds};
 ghost use Rattle.gate_history.specs.state.Calls.{no_calls, started, stopped, call_ids, lifted};
 ghost use Rattle.gate_parts.specs.state.Ids.{is_id};
 
-use gate_history::ENDPOINTS;
 use std::marker::Model;
-use usb_base::EpAddr;
+use usb_base::{ENDPOINTS, EpAddr};
 
 /// Of each endpoint's place in the table the id of its last start, and that of the last stop after it.
 #[derive(Clone, Copy)]

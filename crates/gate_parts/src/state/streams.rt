@@ -2,17 +2,16 @@
 
 ghost use Rattle.std.specs.Prelude.{◌≡◌, [], Some, None, length, option_copied, slice_set};
 ghost use Rattle.usb_base.specs.Endpoint.{endpoint_index};
-ghost use Rattle.gate_history.specs.declared.facts.TheConstants.{ENDPOINTS};
+ghost use Rattle.usb_base.specs.declared.endpoint.TheConstants.{ENDPOINTS};
 ghost use Rattle.gate_history.specs.client.Verdict.{is_iso};
 ghost use Rattle.gate_history.specs.state.Ups.{no_streams, stream_at, raise, lower, lower_at, unless, is_ended};
 
 use control_route::{Route, touches};
-use gate_history::ENDPOINTS;
 use std::alloc::Global;
 use std::array::from_fn;
 use std::marker::Model;
 use stream_buffers::Up;
-use usb_base::{EpAddr, EpKind, EpRow};
+use usb_base::{ENDPOINTS, EpAddr, EpKind, EpRow};
 
 /// The streams that are up, by their endpoints' places in a table; contracts see them as that list.
 #[derive(Drop)]
@@ -22,7 +21,7 @@ pub struct Streams {
 
 impl Model for Streams {
     ghost use Rattle.std.specs.Prelude.{◌≡◌, List, Option, length};
-    ghost use Rattle.gate_history.specs.declared.facts.TheConstants.{ENDPOINTS};
+    ghost use Rattle.usb_base.specs.declared.endpoint.TheConstants.{ENDPOINTS};
     ghost use Rattle.gate_history.specs.state.Ups.{Up as Seen};
 
     ghost Value = { List (Option Seen) };

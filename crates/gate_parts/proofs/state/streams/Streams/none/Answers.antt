@@ -1,5 +1,5 @@
 use Rattle.std.proofs.Common.{rules, None}
-use Rattle.gate_history.specs.declared.facts.TheConstants.{ENDPOINTS}
+use Rattle.usb_base.specs.declared.endpoint.TheConstants.{ENDPOINTS}
 use Rattle.gate_parts.proofs.lemmas.state.Places.{each-same}
 use Rattle.gate_parts.proofs.state.streams.Streams.none.Goals as goal
 
