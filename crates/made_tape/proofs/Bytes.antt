@@ -6,6 +6,8 @@ use Rattle.std.proofs.lemmas.List.{length-append, length-replicate, get_or-repli
 use Rattle.usb_base.specs.Number.{be, AreBytes}
 use Rattle.usb_base.proofs.Numbers.{AreBytes-append, AreBytes-be, length-be}
 use Rattle.usbip_urb.specs.Spelling.{words}
+use Rattle.made_tape.specs.declared.packet.TheConstants.{UNLINKS}
+use Rattle.made_tape.specs.declared.task.TheConstants.{MOST_MOVED}
 use Rattle.made_tape.specs.Packets.{import_bytes, configure_bytes, send_bytes, ask_bytes, take_back_bytes}
 
 -- ---- bytes
@@ -94,7 +96,7 @@ configure-piece =
     packet-piece (numbers_of 1 0 0 0) (0 ∷ 9 ∷ 1 ∷ 0 ∷ 0 ∷ 0 ∷ 0 ∷ 0 ∷ []) [] (omega arith) (omega arith)
     (AreBytes-cons 0 (9 ∷ 1 ∷ 0 ∷ 0 ∷ 0 ∷ 0 ∷ 0 ∷ []) (lit< tt) (AreBytes-cons 9 (1 ∷ 0 ∷ 0 ∷ 0 ∷ 0 ∷ 0 ∷ []) (lit< tt) (AreBytes-cons 1 (0 ∷ 0 ∷ 0 ∷ 0 ∷ 0 ∷ []) (lit< tt) (zeros 5)))) AreBytes-nil
 
-pub send-piece : (round size : ℕ) → size ≤ 512 → ArePiece (send_bytes round size)
+pub send-piece : (round size : ℕ) → size ≤ MOST_MOVED → ArePiece (send_bytes round size)
 send-piece round size few =
     packet-piece (numbers_of (2 * round) 0 1 size) (replicate 8 0) (replicate size (round % 256)) (omega arith) (omega (arith, length-replicate size (round % 256))) (zeros 8)
     (AreBytes-replicate size (round % 256) (omega arith))
@@ -103,4 +105,4 @@ pub ask-piece : (round size : ℕ) → ArePiece (ask_bytes round size)
 ask-piece round size = packet-piece (numbers_of (2 * round + 1) 1 1 size) (replicate 8 0) [] (omega arith) (omega arith) (zeros 8) AreBytes-nil
 
 pub take_back-piece : (round : ℕ) → ArePiece (take_back_bytes round)
-take_back-piece round = words-piece (2 ∷ (2147483648 + round) ∷ 65538 ∷ 0 ∷ 0 ∷ (2 * round + 1) ∷ []) (replicate 24 0) (omega arith) (omega arith) (zeros 24)
+take_back-piece round = words-piece (2 ∷ (UNLINKS + round) ∷ 65538 ∷ 0 ∷ 0 ∷ (2 * round + 1) ∷ []) (replicate 24 0) (omega arith) (omega arith) (zeros 24)

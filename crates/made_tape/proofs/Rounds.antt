@@ -4,10 +4,12 @@ use Rattle.std.proofs.lemmas.List.{length-append}
 use Rattle.std.proofs.lemmas.Grind.{flat_map-append}
 use Rattle.packet_show.specs.declared.tape.TapeLine.{TapeLine}
 use Rattle.packet_show.specs.Number.{IsNumber}
+use Rattle.made_tape.specs.declared.made.TheConstants.{MOST_ROUNDS}
+use Rattle.made_tape.specs.declared.task.TheConstants.{ALL, MOST_MOVED}
 use Rattle.made_tape.specs.declared.task.Task.{Task}
 use Rattle.made_tape.specs.declared.task.Task.TheVariants.{Import, Configure, Send, Ask, TakeBack, OneToHost, AllToHost, OneToGate, AllToGate, PerformControl, PerformOut, PerformIn}
 use Rattle.made_tape.specs.Lines.{line_of, tape_text}
-use Rattle.made_tape.specs.Rounds.{ALL, said, size_of, opening, ordered, tasks_of, next_number, rounds, made_lines}
+use Rattle.made_tape.specs.Rounds.{said, size_of, opening, ordered, tasks_of, next_number, rounds, made_lines}
 use Rattle.made_tape.specs.Again.{AreReadAgain, TapeAgain}
 use Rattle.made_tape.proofs.Bytes.{import-piece, configure-piece, send-piece, ask-piece, take_back-piece}
 use Rattle.made_tape.proofs.Lines.{IsLine, client-line, perform-line, to_host-line, to_gate-line}
@@ -79,7 +81,7 @@ few-ordered way =
 
 few-tasks : (x : ℕ) → length (tasks_of x) ≤ 8
 unfolding tasks_of
-few-tasks x = omega (arith, few-ordered (x / 512 % 4))
+few-tasks x = omega (arith, few-ordered (x / MOST_MOVED % 4))
 
 more-room : (lines : List TapeLine) (m n : ℕ) → m ≤ n → AreLines lines m → AreLines lines n
 more-room lines m n le p = record { again = p.again; short = omega (arith, p.short) }
@@ -91,7 +93,7 @@ rounds-lines (suc more) round x =
     more-room _ _ _ (omega (arith, few-tasks (next_number x)))
     (AreLines-append (map (said (round + 1) (next_number x)) (tasks_of (next_number x))) (rounds more (round + 1) (next_number x)) _ _ first (rounds-lines more (round + 1) (next_number x)))
 
-pub tape-again : (count : ℕ) → count ≤ 1000 → TapeAgain (made_lines count)
+pub tape-again : (count : ℕ) → count ≤ MOST_ROUNDS → TapeAgain (made_lines count)
 tape-again count few =
     let whole = AreLines-append (map (said 0 count) opening) (rounds count 0 count) _ _ (tasks-lines 0 count opening) (rounds-lines count 0 count) in record {
       each = whole.again;
@@ -117,4 +119,4 @@ none-left tasks round x count none last =
 
 pub some-tasks : {A : Type 0} (next : List Task) (x : ℕ) → next ≡ tasks_of x → next ≡ [] → A
 unfolding tasks_of
-some-tasks next x is none = let e : (Send ∷ Ask ∷ ordered (x / 512 % 4)) ≡ [] = sym is ∙ none in cc
+some-tasks next x is none = let e : (Send ∷ Ask ∷ ordered (x / MOST_MOVED % 4)) ≡ [] = sym is ∙ none in cc

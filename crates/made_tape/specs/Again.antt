@@ -3,6 +3,7 @@ use Rattle.std.specs.Prelude.{◌≡◌, ◌==◌, ◌≤◌, false, List, [], �
 use Rattle.std.specs.List.{list_any}
 use Rattle.packet_show.specs.declared.tape.TapeKind.TheVariants.{Model}
 use Rattle.packet_show.specs.declared.tape.TapeLine.{TapeLine}
+use Rattle.packet_show.specs.declared.tape.TheConstants.{TAPE_LIMIT}
 use Rattle.packet_show.specs.Tape.{tape_line}
 use Rattle.packet_show.specs.Line.{LF}
 use Rattle.made_tape.specs.Lines.{words_of, tape_text}
@@ -16,7 +17,7 @@ abbrev pub AreReadAgain : List TapeLine → Type 0
 AreReadAgain [] = Unit {0}
 AreReadAgain (said ∷ lines) = IsReadAgain said × AreReadAgain lines
 
--- of the whole tape, which has at most 64 MiB
+-- of the whole tape, which has no more bytes than a tape may have
 pub record TapeAgain (lines : List TapeLine) : Type 0 where
   pub each : AreReadAgain lines
-  pub short : length (tape_text lines) ≤ 67108864
+  pub short : length (tape_text lines) ≤ TAPE_LIMIT

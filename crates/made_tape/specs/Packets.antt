@@ -8,6 +8,7 @@ use Rattle.usbip_urb.specs.declared.packet.UrbPacket.{UrbPacket}
 use Rattle.usbip_urb.specs.declared.packet.UrbPacket.TheVariants.{Submit, Unlink}
 use Rattle.usbip_urb.specs.declared.code.TheConstants.{EXPORTED_DEVID, USBIP_DIR_IN, USBIP_DIR_OUT}
 use Rattle.usbip_urb.specs.Spelling.{spelling}
+use Rattle.made_tape.specs.declared.packet.TheConstants.{UNLINKS}
 
 -- of the device with the bus id 1-1
 abbrev pub import_bytes : List ℕ
@@ -41,4 +42,4 @@ abbrev pub ask_bytes : (round size : ℕ) → List ℕ
 ask_bytes round size = spelling (submit_packet (2 * round + 1) USBIP_DIR_IN 1 size (replicate 8 0) [])
 
 abbrev pub take_back_bytes : (round : ℕ) → List ℕ
-take_back_bytes round = spelling (Unlink (record { head = head_of (2147483648 + round) USBIP_DIR_OUT 0; target = 2 * round + 1; pad = replicate 24 0 }))
+take_back_bytes round = spelling (Unlink (record { head = head_of (UNLINKS + round) USBIP_DIR_OUT 0; target = 2 * round + 1; pad = replicate 24 0 }))

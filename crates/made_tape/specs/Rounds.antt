@@ -3,6 +3,7 @@
 use Rattle.std.specs.Prelude.{ℕ, zero, suc, ◌+◌, ◌*◌, ◌/◌, ◌%◌, ◌^◌, ◌==◌, if◌then◌else◌, List, [], ◌∷◌, ◌++◌, map}
 use Rattle.packet_show.specs.declared.tape.TapeLine.{TapeLine}
 use Rattle.packet_show.specs.declared.tape.TapeLine.TheVariants.{Client, ToHost, ToGate, Perform}
+use Rattle.made_tape.specs.declared.task.TheConstants.{ALL, MOST_MOVED}
 use Rattle.made_tape.specs.declared.task.Task.{Task}
 use Rattle.made_tape.specs.declared.task.Task.TheVariants.{Import, Configure, Send, Ask, TakeBack, OneToHost, AllToHost, OneToGate, AllToGate, PerformControl, PerformOut, PerformIn}
 use Rattle.made_tape.specs.Packets.{import_bytes, configure_bytes, send_bytes, ask_bytes, take_back_bytes}
@@ -13,11 +14,7 @@ next_number x = (1103515245 * x + 12345) % 2 ^ 31
 
 -- how many bytes a round with this number moves
 abbrev pub size_of : ℕ → ℕ
-size_of x = 1 + x % 512
-
--- all bytes that there are
-abbrev pub ALL : ℕ
-ALL = 4294967295
+size_of x = 1 + x % MOST_MOVED
 
 -- the line of a task in a round with this number
 abbrev pub said : (round x : ℕ) → Task → TapeLine
@@ -48,7 +45,7 @@ ordered way =
 
 -- in a round with this number
 unfoldable pub tasks_of : ℕ → List Task
-tasks_of x = Send ∷ Ask ∷ ordered (x / 512 % 4)
+tasks_of x = Send ∷ Ask ∷ ordered (x / MOST_MOVED % 4)
 
 -- so many rounds more behind a round with this number
 abbrev pub rounds : (more round x : ℕ) → List TapeLine

@@ -11,4 +11,4 @@ mod task;
 
 pub use again::read_again;
 pub use line::push_line;
-pub use made::{MadeTape, made_text};
+pub use made::{MOST_ROUNDS, MadeTape, made_text};

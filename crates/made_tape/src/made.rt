@@ -11,6 +11,9 @@ use std::alloc::Global;
 use std::marker::Model;
 use usb_base::{Bytes, Memory};
 
+/// How many rounds the tape of a number may have that the commands make.
+pub const MOST_ROUNDS: u16 = 1000;
+
 /// A made tape, seen as the lines that are still to come.
 #[derive(Drop)]
 pub struct MadeTape {

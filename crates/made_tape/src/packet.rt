@@ -22,7 +22,7 @@ const BUSID: [u8; 32] = [
 const CONFIGURE: [u8; 8] = [0, 9, 1, 0, 0, 0, 0, 0];
 
 /// The numbers of the unlinks begin behind this one.
-const UNLINKS: u32 = 0x8000_0000;
+pub const UNLINKS: u32 = 0x8000_0000;
 
 /// Asks for the device.
 pub fn import(alloc: Global) -> Result<Bytes, Memory>

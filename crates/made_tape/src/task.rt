@@ -35,7 +35,10 @@ pub enum Task {
 }
 
 /// All bytes that there are.
-const ALL: u32 = u32::MAX;
+pub const ALL: u32 = u32::MAX;
+
+/// How many bytes a round moves at most.
+pub const MOST_MOVED: u32 = 512;
 
 /// What is done before the first round.
 pub fn opening() -> &'static [Task]
@@ -57,7 +60,7 @@ pub fn opening() -> &'static [Task]
 pub fn tasks(number: u32) -> &'static [Task]
     ensures { result.now ≡ tasks_of number }
 {
-    match number / 512 % 4 {
+    match number / MOST_MOVED % 4 {
         0 => &[
             Task::Send,
             Task::Ask,
@@ -107,11 +110,11 @@ pub fn next_number(number: u32) -> u32
     ((1_103_515_245 * u64::from(number) + 12_345) % 0x8000_0000) as u32
 }
 
-/// How many bytes a round with this number moves, from 1 to 512.
+/// How many bytes a round with this number moves, one at least.
 fn size_of(number: u32) -> u16
     ensures { result ≡ size_of number }
 {
-    (1 + number % 512) as u16
+    (1 + number % MOST_MOVED) as u16
 }
 
 /// The endpoint with this address.

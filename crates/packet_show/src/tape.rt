@@ -8,6 +8,9 @@ use hex::{FromHex, FromHexError};
 use std::alloc::{AllocError, Global};
 use usb_base::{Bytes, EpAddr, Memory};
 
+/// How many bytes a tape may have, the LFs of its lines counted.
+pub const TAPE_LIMIT: u64 = 67_108_864;
+
 /// Which lines a tape has.
 #[derive(Clone, Copy)]
 pub enum TapeKind {

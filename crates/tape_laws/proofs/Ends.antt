@@ -19,8 +19,8 @@ use Rattle.bridge_run.specs.Serves.{MayRunOut, Reaches, NoneWaits, EndsSo, CutSh
 use Rattle.bridge_run.proofs.lemmas.events.Gather.{ended-waiting}
 use Rattle.usbgate_tapes.specs.declared.status.Status.{Status}
 use Rattle.usbgate_tapes.specs.declared.status.Status.TheVariants.{Done, Usage, Refused, ReadFault, WriteFault, LinkFault, OutOfMemory, BadTape, Idle, Spent}
-use Rattle.usbgate_tapes.specs.Text.{made_text, counts_line}
-use Rattle.usbgate_tapes.specs.declared.tape.lines.TheConstants.{TAPE_LIMIT as tape_limit}
+use Rattle.usbgate_tapes.specs.Text.{opening_text, counts_line}
+use Rattle.packet_show.specs.declared.tape.TheConstants.{TAPE_LIMIT as tape_limit}
 use Rattle.usbgate_tapes.specs.tape.TapeCommand.{Reading, last_text}
 use Rattle.usbgate_tapes.specs.tape.EventCommand.{over_events}
 use Rattle.usbgate_tapes.specs.Replay.{replay}
@@ -51,7 +51,7 @@ plays asked c d e new out held reaches tells tape-is room none s =
     let comes = recording-comes asked d.events s.fit fits in
     let all = all-read asked d.events held comes held-is in
     let command = over_events (replay asked.first_id) in
-    let made = made_text asked.first_id in
+    let made = opening_text asked.first_id in
     record {
       end = e;
       course = d;
@@ -343,7 +343,7 @@ plays-nothing : (asked : ServeSettings) (new : Outside) (held : List ℕ) → Is
 plays-nothing asked new held unserved front room =
     let read = first-line-read asked held front room in
     let command = over_events (replay asked.first_id) in
-    let made = made_text asked.first_id in
+    let made = opening_text asked.first_id in
     record {
       unserved = unserved;
       front = front;

@@ -23,7 +23,7 @@ use Rattle.bridge_run.specs.Prescribed.{gained}
 use Rattle.bridge_run.specs.Gate.{gate_events, gate_notes}
 use Rattle.usbgate_tapes.specs.tape.Tape.{event_said, host_ended}
 use Rattle.usbgate_tapes.specs.Text.{sent_text}
-use Rattle.usbgate_tapes.specs.declared.tape.lines.TheConstants.{TAPE_LIMIT as tape_limit}
+use Rattle.packet_show.specs.declared.tape.TheConstants.{TAPE_LIMIT as tape_limit}
 use Rattle.usbgate_tapes.specs.tape.TapeCommand.{TapeCommand, Progress, one_further}
 use Rattle.usbgate_tapes.specs.tape.EventCommand.{EventCommand, on_event, over_events}
 use Rattle.usbgate_tapes.specs.Replay.{replay}

@@ -12,8 +12,8 @@ use Rattle.packet_show.specs.declared.tape.TapeLine.TheVariants.{Skip}
 use Rattle.packet_show.specs.Tape.{tape_line}
 use Rattle.bridge_run.specs.Log.{IsFront}
 use Rattle.usbgate_tapes.specs.tape.Tape.{before_first, event_said, lines_of, content}
-use Rattle.usbgate_tapes.specs.Text.{made_text}
-use Rattle.usbgate_tapes.specs.declared.tape.lines.TheConstants.{TAPE_LIMIT as tape_limit}
+use Rattle.usbgate_tapes.specs.Text.{opening_text}
+use Rattle.packet_show.specs.declared.tape.TheConstants.{TAPE_LIMIT as tape_limit}
 use Rattle.usbgate_tapes.specs.tape.TapeCommand.{Progress, begin, one_further, next_line, Reading, on_line, read_lines, last_text}
 use Rattle.usbgate_tapes.specs.tape.EventCommand.{on_event, over_events}
 use Rattle.usbgate_tapes.specs.Replay.{replay}
@@ -71,10 +71,10 @@ all-read asked events held c is =
 
 -- its text begins with that of the events
 pub front-text : (asked : ServeSettings) (events : List LinkEvent) (x y : Reading (List GateEvent)) → x ≡ with_text (all_replayed asked events) y
-    → made_text asked.first_id ++ x.text ++ last_text (over_events (replay asked.first_id)) x ≡ made_text asked.first_id ++ all_replayed asked events ++ (y.text ++ last_text (over_events (replay asked.first_id)) (with_text (all_replayed asked events) y))
+    → opening_text asked.first_id ++ x.text ++ last_text (over_events (replay asked.first_id)) x ≡ opening_text asked.first_id ++ all_replayed asked events ++ (y.text ++ last_text (over_events (replay asked.first_id)) (with_text (all_replayed asked events) y))
 front-text asked events x y is =
     let command = over_events (replay asked.first_id) in
-    let made = made_text asked.first_id in
+    let made = opening_text asked.first_id in
     let all = all_replayed asked events in
     ap (λ (z : Reading (List GateEvent)). made ++ z.text ++ last_text command z) is
     ∙ ap (λ (l : List ℕ). l ++ last_text command (with_text all y)) (sym (append_assoc made all y.text))

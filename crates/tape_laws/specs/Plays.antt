@@ -18,9 +18,9 @@ use Rattle.bridge_run.specs.Recorded.{event_line, lines_of}
 use Rattle.bridge_run.specs.Serves.{Reaches}
 use Rattle.usbgate_tapes.specs.declared.status.Status.{Status}
 use Rattle.usbgate_tapes.specs.declared.status.Status.TheVariants.{Done, Usage, Refused, ReadFault, WriteFault, LinkFault, OutOfMemory, BadTape, Idle, Spent}
-use Rattle.usbgate_tapes.specs.Text.{made_text, counts_line}
+use Rattle.usbgate_tapes.specs.Text.{opening_text, counts_line}
 use Rattle.usbgate_tapes.specs.tape.Tape.{lines_of as tape_lines}
-use Rattle.usbgate_tapes.specs.tape.TapeCommand.{Progress, Reading, read_lines, read_tape, last_text, tape_text}
+use Rattle.usbgate_tapes.specs.tape.TapeCommand.{Progress, Reading, read_lines, read_tape, last_text, whole_text}
 use Rattle.usbgate_tapes.specs.tape.EventCommand.{over_events}
 use Rattle.usbgate_tapes.specs.Replay.{replay}
 use Rattle.usbgate_commands.specs.Serving.{ServeSettings}
@@ -34,7 +34,7 @@ abbrev pub read_of : ServeSettings → List ℕ → Reading (List GateEvent)
 read_of asked tape = read_tape (over_events (replay asked.first_id)) tape
 
 abbrev pub text_of : ServeSettings → List ℕ → List ℕ
-text_of asked tape = tape_text (over_events (replay asked.first_id)) tape
+text_of asked tape = whole_text (over_events (replay asked.first_id)) tape
 
 -- The run has ended by itself. The tape has the lines of all events that it took, and is read as these. Its replay prints
 -- what each of them sends, and the links were written just that, where they were up.
@@ -45,7 +45,7 @@ pub record Plays (asked : ServeSettings) (c : Course) (new : Outside) (held : Li
   pub held-is : held ≡ first_comment asked.first_id ++ recorded (served asked) course.events
   pub good : (read_of asked held).bad ≡ false
   pub events-are : (read_of asked held).after.kept ≡ gate_events course.events
-  pub prints : text_of asked held ≡ made_text asked.first_id ++ all_replayed asked course.events ++ counts_line (counts_of asked.first_id (history asked.first_id (gate_events course.events)))
+  pub prints : text_of asked held ≡ opening_text asked.first_id ++ all_replayed asked course.events ++ counts_line (counts_of asked.first_id (history asked.first_id (gate_events course.events)))
   pub client : new.client.written ≡ Some (to_clients (served asked) course.events)
   pub host : new.host.written ≡ Some (to_host (served asked) course.events)
 
@@ -104,7 +104,7 @@ pub record PlaysInPart (asked : ServeSettings) (c : Course) (new : Outside) (hel
   pub behind : Progress (List GateEvent)
   pub kept-is : behind.kept ≡ gate_events events
   pub bytes-are : behind.bytes ≡ length (first_comment asked.first_id ++ lines)
-  pub prints : text_of asked held ≡ made_text asked.first_id ++ all_replayed asked events ++ rest_text asked behind more
+  pub prints : text_of asked held ≡ opening_text asked.first_id ++ all_replayed asked events ++ rest_text asked behind more
   pub client : WroteFront new.client.written (to_clients (served asked) events)
   pub host : WroteFront new.host.written (to_host (served asked) events)
 
@@ -125,7 +125,7 @@ pub record PlaysNothing (asked : ServeSettings) (new : Outside) (held : List ℕ
   pub front : IsFront held (first_comment asked.first_id)
   pub good : (read_of asked held).bad ≡ false
   pub none : (read_of asked held).after.kept ≡ []
-  pub prints : text_of asked held ≡ made_text asked.first_id ++ counts_line (counts_of asked.first_id (history asked.first_id []))
+  pub prints : text_of asked held ≡ opening_text asked.first_id ++ counts_line (counts_of asked.first_id (history asked.first_id []))
 
 -- what a tape that told so much before has then, and what its replay prints
 abbrev pub Replays : Status → ServeSettings → Course → Option (List ℕ) → Outside → List ℕ → Type 0

@@ -6,7 +6,7 @@ ghost use Rattle.bridge_run.specs.Outside.{Outside, Written, Faults, written, Te
 ghost use Rattle.usbgate_tapes.specs.declared.status.Status.{Status as End};
 ghost use Rattle.usbgate_commands.specs.Serving.{ServeSettings};
 ghost use Rattle.usbgate_commands.specs.Serves.{Serves};
-ghost use Rattle.usbgate_tapes.specs.declared.tape.lines.TheConstants.{TAPE_LIMIT as tape_limit};
+ghost use Rattle.packet_show.specs.declared.tape.TheConstants.{TAPE_LIMIT as tape_limit};
 ghost use Rattle.tape_laws.specs.Begun.{IsFresh};
 ghost use Rattle.tape_laws.specs.Plays.{Replays};
 

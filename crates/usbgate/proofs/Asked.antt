@@ -7,7 +7,7 @@ use Rattle.gate_outside.specs.Calls.{Call}
 use Rattle.gate_outside.specs.Link.{Link, Door}
 use Rattle.bridge_run.specs.Outside.{Faults, Written}
 use Rattle.usbgate_tapes.specs.declared.status.Status.{Status}
-use Rattle.usbgate_tapes.specs.Prescribed.{Prescribed}
+use Rattle.usbgate_tapes.specs.Printout.{Printout}
 use Rattle.usbgate_tapes.specs.Logs.{RunLeaves, RunWrites}
 use Rattle.usbgate_tapes.proofs.lemmas.Unread.{leaves-unread}
 use Rattle.usbgate_commands.specs.declared.words.Command.{Command}
@@ -15,21 +15,21 @@ use Rattle.usbgate_commands.specs.declared.words.Command.TheVariants.{Serve, Hos
 use Rattle.usbgate_commands.specs.Lending.{AskedLent}
 use Rattle.usbgate_commands.specs.Logs.{RunServes, RunLends}
 use Rattle.usbgate_commands.specs.Serving.{ServeSettings}
-use Rattle.usbgate.specs.Prescribed.{prescribed}
+use Rattle.usbgate.specs.Printouts.{printout_of}
 
 -- a command that reads a tape isn't one of those that don't
-pub reads-tape : {A : Type 0} (x y : Command) (p : Prescribed) → x ≡ y → prescribed x ≡ Some p → p.taped ≡ true → IfSome (prescribed y) (λ q. q.taped ≡ false) → A
+pub reads-tape : {A : Type 0} (x y : Command) (p : Printout) → x ≡ y → printout_of x ≡ Some p → p.taped ≡ true → IfSome (printout_of y) (λ q. q.taped ≡ false) → A
 reads-tape x y p same of taped untaped =
-    let not_taped : p.taped ≡ false = subst (λ (o : Option Prescribed). IfSome o (λ q. q.taped ≡ false)) (sym (ap prescribed same) ∙ of) untaped in
+    let not_taped : p.taped ≡ false = subst (λ (o : Option Printout). IfSome o (λ q. q.taped ≡ false)) (sym (ap printout_of same) ∙ of) untaped in
     let e : true ≡ false = sym taped ∙ not_taped in cc
 
-pub leaves-asked : {S K : Type 0} {read_gives : S → List ℕ → Result ℕ Failed → S → Type 0} {write_gives : K → List ℕ → Result ℕ Failed → K → Type 0} {remaining : S → Option (List ℕ)} {contents : K → Option (List ℕ)} {status : Status} {tape tape' : S} {out out' : K} (x y : Command) (p q : Prescribed) → x ≡ y → prescribed x ≡ Some p → prescribed y ≡ Some q
+pub leaves-asked : {S K : Type 0} {read_gives : S → List ℕ → Result ℕ Failed → S → Type 0} {write_gives : K → List ℕ → Result ℕ Failed → K → Type 0} {remaining : S → Option (List ℕ)} {contents : K → Option (List ℕ)} {status : Status} {tape tape' : S} {out out' : K} (x y : Command) (p q : Printout) → x ≡ y → printout_of x ≡ Some p → printout_of y ≡ Some q
     → RunLeaves read_gives write_gives remaining contents status p tape tape' out out' → RunLeaves read_gives write_gives remaining contents status q tape tape' out out'
 leaves-asked {read_gives = read_gives} {write_gives = write_gives} {remaining = remaining} {contents = contents} {status = status} {tape = tape} {tape' = tape'} {out = out} {out' = out'} x y p q same of is leaves =
-    subst (λ (r : Prescribed). RunLeaves read_gives write_gives remaining contents status r tape tape' out out') (same_Some p q (sym of ∙ ap prescribed same ∙ is)) leaves
+    subst (λ (r : Printout). RunLeaves read_gives write_gives remaining contents status r tape tape' out out') (same_Some p q (sym of ∙ ap printout_of same ∙ is)) leaves
 
 -- of a run that reads no tape
-pub writes-asked : {S K : Type 0} {read_gives : S → List ℕ → Result ℕ Failed → S → Type 0} {write_gives : K → List ℕ → Result ℕ Failed → K → Type 0} {remaining : S → Option (List ℕ)} {contents : K → Option (List ℕ)} {status : Status} {tape : S} {out out' : K} (x y : Command) (p q : Prescribed) → x ≡ y → prescribed x ≡ Some p → prescribed y ≡ Some q
+pub writes-asked : {S K : Type 0} {read_gives : S → List ℕ → Result ℕ Failed → S → Type 0} {write_gives : K → List ℕ → Result ℕ Failed → K → Type 0} {remaining : S → Option (List ℕ)} {contents : K → Option (List ℕ)} {status : Status} {tape : S} {out out' : K} (x y : Command) (p q : Printout) → x ≡ y → printout_of x ≡ Some p → printout_of y ≡ Some q
     → RunWrites write_gives contents status p out out' → RunLeaves read_gives write_gives remaining contents status q tape tape out out'
 writes-asked {read_gives = read_gives} {write_gives = write_gives} {remaining = remaining} {contents = contents} {status = status} {tape = tape} {out = out} {out' = out'} x y p q same of is writes =
     leaves-asked x y p q same of is (leaves-unread read_gives write_gives remaining contents status p tape out out' writes)

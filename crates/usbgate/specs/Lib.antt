@@ -1,1 +1,1 @@
-pub mod Prescribed
+pub mod Printouts

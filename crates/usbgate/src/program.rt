@@ -9,8 +9,8 @@ ghost use Rattle.bridge_run.specs.Log.{Told};
 ghost use Rattle.bridge_run.specs.Outside.{written, faults, OneRose};
 ghost use Rattle.usbgate_tapes.specs.declared.model.device.Device.{Device as ADevice};
 ghost use Rattle.usbgate_tapes.specs.Logs.{RunLeaves};
-ghost use Rattle.usbgate_tapes.specs.Prescribed.{Prescribed};
-ghost use Rattle.usbgate.specs.Prescribed.{prescribed};
+ghost use Rattle.usbgate_tapes.specs.Printout.{Printout};
+ghost use Rattle.usbgate.specs.Printouts.{printout_of};
 ghost use Rattle.usbgate_tapes.specs.model.Simulated.{RunSimulates, MadeSimulates};
 ghost use Rattle.usbgate_commands.specs.Serving.{ServeSettings};
 ghost use Rattle.usbgate_commands.specs.Lending.{AskedLent};
@@ -42,7 +42,7 @@ pub fn run<S: Source, K: Sink, D: Doors, T: MakeTape>(
     recording: &mut T,
 ) -> Status
     requires down { ((D.link doors.old Client).up ≡ false) × ((D.link doors.old Host).up ≡ false) }
-    ensures leaves { (p : Prescribed) → prescribed (command_of (texts words.now)) ≡ Some p
+    ensures leaves { (p : Printout) → printout_of (command_of (texts words.now)) ≡ Some p
         → RunLeaves S.read_gives K.write_gives S.remaining K.contents result p tape.old tape.new out.old out.new }
     ensures simulates { (device : ADevice) → command_of (texts words.now) ≡ Command.Model device → RunSimulates S.read_gives S.remaining result device tape.old tape.new }
     ensures load_simulates { (count : ℕ) → command_of (texts words.now) ≡ Command.Load count → result ≡ Status.Done → MadeSimulates count }
@@ -53,7 +53,7 @@ pub fn run<S: Source, K: Sink, D: Doors, T: MakeTape>(
         → RunLends D.call_gives D.link D.door (Told K.write_gives out.old out.new) result asked doors.old doors.new
         (K.faults out.old) (K.faults out.new) (K.contents out.old) (K.contents out.new) }
     ensures usage { result ≡ Status.Usage → (command_of (texts words.now) ≡ Command.Unknown) ⊎ ((records (command_of (texts words.now)) ≡ true) × WasThere (T.counts recording.old) (T.counts recording.new)) }
-    ensures unread { IfSome (prescribed (command_of (texts words.now))) (λ p. p.taped ≡ false) → tape.new ≡ tape.old }
+    ensures unread { IfSome (printout_of (command_of (texts words.now))) (λ p. p.taped ≡ false) → tape.new ≡ tape.old }
     ensures read_fault { result ≡ Status.ReadFault → Rose (S.faults tape.old) (S.faults tape.new) }
     ensures write_fault { result ≡ Status.WriteFault → OneRose (faults (K.faults out.old) (T.counts recording.old)) (faults (K.faults out.new) (T.counts recording.new)) }
     ensures sink_fault { records (command_of (texts words.now)) ≡ false → result ≡ Status.WriteFault → Rose (K.faults out.old) (K.faults out.new) }
@@ -62,7 +62,7 @@ pub fn run<S: Source, K: Sink, D: Doors, T: MakeTape>(
     ensures recording_stands { result ≢ Status.WriteFault → result ≢ Status.Usage → T.counts recording.new ≡ T.counts recording.old }
     ensures link_fault { (side : ASide) → result ≡ Status.LinkFault side → Rose (D.link doors.old side).faults (D.link doors.new side).faults }
     ensures links_stand { (side : ASide) → result ≢ Status.LinkFault side → (D.link doors.new side).faults ≡ (D.link doors.old side).faults }
-    ensures doors { (p : Prescribed) → prescribed (command_of (texts words.now)) ≡ Some p → doors.new ≡ doors.old }
+    ensures doors { (p : Printout) → printout_of (command_of (texts words.now)) ≡ Some p → doors.new ≡ doors.old }
     ensures unrecorded { records (command_of (texts words.now)) ≡ false → recording.new ≡ recording.old }
 {
     let Ok(command) = Command::read(alloc, words) else {

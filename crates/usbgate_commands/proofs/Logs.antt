@@ -10,7 +10,7 @@ use Rattle.bridge_run.specs.Gate.{gate_sends}
 use Rattle.bridge_run.specs.GateStops.{gate_runs_out}
 use Rattle.bridge_run.specs.Log.{Terms, Told}
 use Rattle.bridge_run.specs.Outside.{Faults, Written, outside}
-use Rattle.bridge_run.specs.Prescribed.{Prescribed as Sends}
+use Rattle.bridge_run.specs.Prescribed.{Prescribed}
 use Rattle.usbgate_tapes.specs.declared.status.Status.TheVariants.{OutOfMemory}
 use Rattle.usbgate_commands.specs.Lending.{AskedLent}
 use Rattle.usbgate_commands.specs.Logs.{HasLog, terms_of, terms_lent, RunServes, RunLends}
@@ -23,7 +23,7 @@ pub untold : {K : Type 0} → (gives : K → List ℕ → Result ℕ Failed → 
 untold gives now = record { moves = []; called = refl; all = refl }
 
 -- nothing was asked
-pub unlogged : {D K : Type 0} → (gives : D → Call → D → Type 0) (runs_out : List LinkEvent → LinkEvent → List ℕ → List ℕ → Type 0) (writes : K → List ℕ → Result ℕ Failed → K → Type 0) (terms : Terms) (p : Sends) (now : D) (out : K) → HasLog gives runs_out (Told writes out out) terms p OutOfMemory now now
+pub unlogged : {D K : Type 0} → (gives : D → Call → D → Type 0) (runs_out : List LinkEvent → LinkEvent → List ℕ → List ℕ → Type 0) (writes : K → List ℕ → Result ℕ Failed → K → Type 0) (terms : Terms) (p : Prescribed) (now : D) (out : K) → HasLog gives runs_out (Told writes out out) terms p OutOfMemory now now
 unlogged gives runs_out writes terms p now out = record {
   end = end.Memory;
   status-is = refl;

@@ -12,14 +12,14 @@ use Rattle.bridge_run.specs.Gate.{gate_sends}
 use Rattle.bridge_run.specs.GateStops.{gate_runs_out}
 use Rattle.bridge_run.specs.Log.{Terms, Logged}
 use Rattle.bridge_run.specs.Outside.{Faults, Written, faults, outside, written}
-use Rattle.bridge_run.specs.Prescribed.{Prescribed as Sends}
+use Rattle.bridge_run.specs.Prescribed.{Prescribed}
 use Rattle.usbgate_tapes.specs.declared.status.Status.{Status}
 use Rattle.usbgate_commands.specs.declared.serve.TheConstants.{BUDGET}
 use Rattle.usbgate_commands.specs.Lending.{AskedLent}
 use Rattle.usbgate_commands.specs.Serves.{device_sends, device_runs_out, ended_as, setting_lent, EndsOf, Serves}
 use Rattle.usbgate_commands.specs.Serving.{ServeSettings}
 
-pub record HasLog {D : Type 0} (gives : D → Call → D → Type 0) (runs_out : List LinkEvent → LinkEvent → List ℕ → List ℕ → Type 0) (tells : List ℕ → Type 0) (terms : Terms) (p : Sends) (status : Status) (old new : D) : Type 0 where
+pub record HasLog {D : Type 0} (gives : D → Call → D → Type 0) (runs_out : List LinkEvent → LinkEvent → List ℕ → List ℕ → Type 0) (tells : List ℕ → Type 0) (terms : Terms) (p : Prescribed) (status : Status) (old new : D) : Type 0 where
   pub end : ServeEnd
   pub status-is : status ≡ ended_as end
   pub log : Logged end gives runs_out tells terms p old new

@@ -12,7 +12,7 @@ use Rattle.bridge_run.specs.LentStops.{LentStops}
 use Rattle.session_tape.specs.Tapes.{counts}
 use Rattle.session_tape.specs.Lines.{first_comment}
 use Rattle.bridge_run.specs.Outside.{Outside, Written, Faults, written, faults, Tells, HasCause, HasReason}
-use Rattle.bridge_run.specs.Prescribed.{Prescribed as Sends}
+use Rattle.bridge_run.specs.Prescribed.{Prescribed}
 use Rattle.bridge_run.specs.Serves.{NothingYet, Leaves}
 use Rattle.usbgate_tapes.specs.declared.model.device.Device.{Device}
 use Rattle.usbgate_tapes.specs.model.Device.{as_plugged}
@@ -28,7 +28,7 @@ abbrev pub setting_of : ServeSettings → Setting
 setting_of asked = record { served = gate_sends asked.after_loss asked.first_id; idle = asked.idle }
 
 -- a modelled device, which begins as it was plugged in
-abbrev pub device_sends : Device → Sends
+abbrev pub device_sends : Device → Prescribed
 device_sends device = as_plugged (λ S m s. lent_sends m s) device
 
 -- where memory runs out in it

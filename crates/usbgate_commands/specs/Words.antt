@@ -16,6 +16,7 @@ use Rattle.usbgate_commands.specs.declared.command_table.Verb.TheVariants as ver
 use Rattle.usbgate_commands.specs.declared.command_table.CommandRow.{CommandRow}
 use Rattle.usbgate_commands.specs.declared.command_table.TheConstants.{ROWS}
 use Rattle.usbgate_commands.specs.CommandLine.{options, found}
+use Rattle.made_tape.specs.declared.made.TheConstants.{MOST_ROUNDS}
 use Rattle.usbgate_tapes.specs.declared.model.device.Device.{Device}
 use Rattle.usbgate_tapes.specs.model.Device.{named, device_of}
 use Rattle.bridge_run.specs.declared.after_loss.AfterLoss.{AfterLoss}
@@ -75,9 +76,9 @@ abbrev pub lending_of : Option Device → (listen : Option Text) → (idle : Opt
 lending_of (Some device) (Some listen) (Some idle) = Some (record { device = device; listen = listen; idle = idle })
 lending_of _ _ _ = None
 
--- how many rounds a made tape has, 1,000 at most
+-- how many rounds a made tape has
 abbrev pub count_of : Option Text → Option ℕ
-count_of text = option_and_then (λ n. if nat_le n 1000 then Some n else None) (option_and_then number_of text)
+count_of text = option_and_then (λ n. if nat_le n MOST_ROUNDS then Some n else None) (option_and_then number_of text)
 
 abbrev pub asked_by : Verb → (Text → Option Text) → Option Command
 asked_by verb.Replay given = option_map Replay (first_id_of (given (codes "first-id")))
@@ -94,11 +95,11 @@ command_in given = option_and_then (λ row. if is_met row given then asked_by ro
 abbrev pub command_of : List Text → Command
 command_of words = unwrap_or (option_and_then (λ rows. command_in (λ name. first_of name rows)) (found words)) Unknown
 
--- its numbers are from 1 to 4294967295, and those of made tapes at most 1,000
+-- its numbers aren't 0 and fit 32 bits, and those of made tapes aren't more than there may be rounds
 abbrev pub HasNumbers : Command → Type 0
 HasNumbers (Replay first) = (1 ≤ first) × (first < 2 ^ 32)
 HasNumbers (Serve asked) = (1 ≤ asked.idle) × ((1 ≤ asked.first_id) × (asked.first_id < 2 ^ 32))
 HasNumbers (HostLent asked) = 1 ≤ asked.idle
-HasNumbers (Make count) = count ≤ 1000
-HasNumbers (Load count) = count ≤ 1000
+HasNumbers (Make count) = count ≤ MOST_ROUNDS
+HasNumbers (Load count) = count ≤ MOST_ROUNDS
 HasNumbers command = Unit {0}

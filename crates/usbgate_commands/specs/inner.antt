@@ -1,2 +1,3 @@
 -- What the code keeps, tied to the definitions.
 pub mod Given
+pub mod Lent

@@ -6,6 +6,12 @@ ghost use Rattle.usbgate_commands.specs.Interval.{doubled, micros, part_micros, 
 use chapter9::Part;
 use usb_base::{EpKind, Speed};
 
+/// How many microseconds a frame has, at full and low speed.
+pub const FRAME: u64 = 1000;
+
+/// How many a microframe has, at high speed and above.
+pub const MICROFRAME: u64 = 125;
+
 /// The shortest interval in microseconds of the IN endpoints among these descriptors that have one.
 #[tactic(auto, using(crate::proofs::Intervals::shorter_assoc))]
 pub fn shortest_micros(speed: Speed, parts: &[Part]) -> Option<u64>
@@ -49,16 +55,18 @@ fn micros(speed: Speed, kind: EpKind, interval: u8) -> Option<u64>
     ensures { result ≡ micros speed kind interval }
 {
     match (speed, kind) {
-        (Speed::High | Speed::Super, EpKind::Interrupt | EpKind::Iso) => doubled(125, interval),
-        (_, EpKind::Iso) => doubled(1000, interval),
-        (_, EpKind::Interrupt) if interval > 0 => Some(1000 * u64::from(interval)),
+        (Speed::High | Speed::Super, EpKind::Interrupt | EpKind::Iso) => doubled(
+            MICROFRAME, interval,
+        ),
+        (_, EpKind::Iso) => doubled(FRAME, interval),
+        (_, EpKind::Interrupt) if interval > 0 => Some(FRAME * u64::from(interval)),
         _ => None,
     }
 }
 
 /// The unit, doubled once less than the interval says, which is from 1 to 16.
 fn doubled(unit: u64, interval: u8) -> Option<u64>
-    requires { unit ≤ 1000 }
+    requires { unit ≤ FRAME }
     ensures { result ≡ doubled unit interval }
 {
     match interval {

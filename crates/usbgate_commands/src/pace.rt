@@ -5,24 +5,38 @@ ghost use Rattle.model_device.specs.Transfer.{IsTransfer};
 use crate::interval::shortest_micros;
 use crate::words::Command;
 use chapter9::{WalkError, walk};
-use disk_gadget::Disk;
-use model_device::{Gadget, Keyboard, Loopback, Tone};
+use model_device::Gadget;
 use std::alloc::Global;
 use std::time::Duration;
 use usb_base::{Bytes, EpAddr, Memory, Setup, Speed, Transfer};
-use usbgate_tapes::{BLOCKS, Device};
+use usbgate_tapes::DeviceUser;
 
 /// The shortest interval of the endpoints of the device that the words ask for, by which it sends packets. None where
 /// they lend no device, or one that has no such endpoint.
 pub fn pace_of(alloc: Global, words: &[&str]) -> Result<Option<Duration>, Memory> {
     match Command::read(alloc, words)? {
-        Command::Host(lending) => match lending.device {
-            Device::Keyboard => shortest(alloc, Keyboard::make(alloc)?),
-            Device::Loopback => shortest(alloc, Loopback::make(alloc)?),
-            Device::Tone => shortest(alloc, Tone::make(alloc)?),
-            Device::Disk => shortest(alloc, Disk::make(alloc, BLOCKS)?),
-        },
+        Command::Host(lending) => lending.device.make_for(alloc, &mut Pacing { alloc })?,
         _ => Ok(None),
+    }
+}
+
+/// Asks a device for its pace, whichever it is.
+#[derive(Clone, Copy)]
+struct Pacing {
+    alloc: Global,
+}
+
+impl DeviceUser for Pacing {
+    type Answer = Result<Option<Duration>, Memory>;
+
+    ghost Ready = { λ pacing. Unit {0} };
+
+    ghost Holds = { λ old new answer. Unit {0} };
+
+    ghost Comes = { λ old new answer S m s. Unit {0} };
+
+    fn take<G: Gadget>(&mut self, gadget: G) -> Result<Option<Duration>, Memory> {
+        shortest(self.alloc, gadget)
     }
 }
 

@@ -11,13 +11,11 @@ use crate::given::Given;
 use crate::lending::Lending;
 use crate::serving::Serving;
 use bridge_run::AfterLoss;
+use made_tape::MOST_ROUNDS;
 use packet_show::read_number;
 use std::alloc::Global;
 use usb_base::{Memory, Side};
 use usbgate_tapes::Device;
-
-/// How many rounds a made tape may have.
-const MOST: u32 = 1000;
 
 /// What the words ask for.
 #[derive(Drop)]
@@ -143,10 +141,10 @@ fn host<'a>(given: &Given<'a>) -> Option<Command<'a>>
 /// The number of a made tape.
 fn count(given: &Given<'_>) -> Option<u16>
     ensures value { (words : List ℕ → Option (List ℕ)) → IsGiven given.now words → result ≡ count_of (words (codes "number")) }
-    ensures few { IfSome result (λ n. n ≤ 1000) }
+    ensures few { IfSome result (λ n. n ≤ MOST_ROUNDS) }
 {
     match read_number(given.number?.as_bytes())? {
-        number if number <= MOST => Some(number as u16),
+        number if number <= u32::from(MOST_ROUNDS) => Some(number as u16),
         _ => None,
     }
 }

@@ -3,7 +3,7 @@ pub mod Text
 pub mod Replay
 pub mod model
 pub mod Show
-pub mod Prescribed
+pub mod Printout
 pub mod Run
 pub mod Wants
 pub mod Logs

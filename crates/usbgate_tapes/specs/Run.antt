@@ -3,8 +3,8 @@ use Rattle.std.specs.Prelude.{◌≡◌, ◌≤◌, ℕ, ◌+◌, List, [], ◌�
 use Rattle.usbgate_tapes.specs.declared.status.Status.{Status}
 use Rattle.usbgate_tapes.specs.declared.status.Status.TheVariants.{Done, Refused, ReadFault, WriteFault, LinkFault, OutOfMemory, BadTape, Idle, Spent}
 use Rattle.packet_show.specs.Line.{LF}
-use Rattle.usbgate_tapes.specs.declared.tape.lines.TheConstants.{TAPE_LIMIT}
-use Rattle.usbgate_tapes.specs.Prescribed.{Prescribed}
+use Rattle.packet_show.specs.declared.tape.TheConstants.{TAPE_LIMIT}
+use Rattle.usbgate_tapes.specs.Printout.{Printout}
 
 -- it is empty, or its last byte is an LF
 abbrev pub EndsALine : List ℕ → Type 0
@@ -19,7 +19,7 @@ HasNoLF (b ∷ bs) = (b ≡ LF → ⊥) × HasNoLF bs
 
 -- Whole lines of the tape and a part of the next one were read, and the rest was not. None of those lines is bad, and
 -- the part doesn't pass the tape's limit. The text of the lines is written, and no last line.
-pub record ReadInPart (p : Prescribed) (tape : List ℕ) (remaining : Option (List ℕ)) (written : List ℕ) : Type 0 where
+pub record ReadInPart (p : Printout) (tape : List ℕ) (remaining : Option (List ℕ)) (written : List ℕ) : Type 0 where
   pub whole : List ℕ
   pub part : List ℕ
   pub rest : List ℕ
@@ -31,17 +31,17 @@ pub record ReadInPart (p : Prescribed) (tape : List ℕ) (remaining : Option (Li
   pub remaining-is : remaining ≡ Some rest
 
 -- a front of the text is written that is prescribed for the whole tape
-pub record WrittenInPart (p : Prescribed) (tape written : List ℕ) : Type 0 where
+pub record WrittenInPart (p : Printout) (tape written : List ℕ) : Type 0 where
   pub back : List ℕ
   pub text-is : p.text tape ≡ written ++ back
 
 -- all of that text is written, and this is how it ends
-pub record WrittenWhole (status : Status) (p : Prescribed) (tape written : List ℕ) : Type 0 where
+pub record WrittenWhole (status : Status) (p : Printout) (tape written : List ℕ) : Type 0 where
   pub text-is : p.text tape ≡ written
   pub status-is : status ≡ p.status tape
 
 -- what of this tape remains, and what was written
-abbrev pub LeavesTold : Status → Prescribed → List ℕ → Option (List ℕ) → List ℕ → Type 0
+abbrev pub LeavesTold : Status → Printout → List ℕ → Option (List ℕ) → List ℕ → Type 0
 LeavesTold (BadTape n) p tape remaining written = WrittenWhole (BadTape n) p tape written
 LeavesTold ReadFault p tape remaining written = ReadInPart p tape remaining written
 LeavesTold WriteFault p tape remaining written = WrittenInPart p tape written
@@ -52,7 +52,7 @@ LeavesTold Spent p tape remaining written = ⊥
 LeavesTold status p tape remaining written = (remaining ≡ Some (p.rest tape)) × WrittenWhole status p tape written
 
 -- over a tape and a sink that tell their bytes
-abbrev pub LeavesWhereTold : Status → Prescribed → Option (List ℕ) → Option (List ℕ) → Option (List ℕ) → Option (List ℕ) → Type 0
+abbrev pub LeavesWhereTold : Status → Printout → Option (List ℕ) → Option (List ℕ) → Option (List ℕ) → Option (List ℕ) → Type 0
 LeavesWhereTold status p remaining_old remaining_new contents_old contents_new =
     (tape text : List ℕ) → remaining_old ≡ Some tape → contents_old ≡ Some text
     → (written : List ℕ) × (contents_new ≡ Some (text ++ written)) × LeavesTold status p tape remaining_new written

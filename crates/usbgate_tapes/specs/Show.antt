@@ -1,6 +1,6 @@
 -- The command `show`: a line for each packet of one side's stream, at its place. A wrong place has a line, too, which is
 -- the last of its stream. Each client's stream is split by itself.
-use Rattle.std.specs.Prelude.{ℕ, ◌||◌, Bool, false, if◌then◌else◌, List, [], ◌∷◌, ◌++◌, length, drop, Option, Some, None, is_some}
+use Rattle.std.specs.Prelude.{ℕ, ◌||◌, Bool, false, if◌then◌else◌, List, [], ◌∷◌, ◌++◌, Option, Some, None, is_some}
 use Rattle.std.specs.List.{flat_map}
 use Rattle.usb_base.specs.declared.side.Side.{Side}
 use Rattle.usb_base.specs.declared.side.Side.TheVariants.{Client, Host}
@@ -20,6 +20,7 @@ use Rattle.packet_show.specs.Redir.{redir_line}
 use Rattle.gate_history.specs.step.Events.{Event, client_bytes, host_bytes}
 use Rattle.gate_history.specs.step.Streams.{client_reader, client_start, host_reader, host_start}
 use Rattle.usbgate_tapes.specs.tape.EventCommand.{EventCommand}
+use Rattle.usbgate_tapes.specs.tape.Tape.{added}
 
 -- how a side is shown
 pub record Shown (S P : Type 0) : Type 0 where
@@ -46,6 +47,9 @@ split_text shown x = packet_lines shown x.packets ++ wrong_line shown.side x.wro
 abbrev pub stream_split : {S P : Type 0} → Shown S P → List Event → Splitting S P Reason
 stream_split shown events = split shown.reader shown.start (shown.bytes events)
 
+abbrev pub stream_text : {S P : Type 0} → Shown S P → List Event → List ℕ
+stream_text shown events = split_text shown (stream_split shown events)
+
 -- ---- events
 
 -- the side's present stream has met a wrong place
@@ -57,14 +61,10 @@ abbrev pub was_wrong : {S P : Type 0} → Shown S P → List Event → Bool
 was_wrong shown [] = false
 was_wrong shown (e ∷ events) = was_wrong shown events || is_wrong shown (e ∷ events)
 
--- the lines that the side's stream has with an event, and without it hasn't
-abbrev pub gained_lines : {S P : Type 0} → Shown S P → List Event → Event → List ℕ
-gained_lines shown events e = drop (length (split_text shown (stream_split shown events))) (split_text shown (stream_split shown (e ∷ events)))
-
 abbrev pub show_side : {S P : Type 0} → Shown S P → EventCommand
 show_side shown = record {
   opening = [];
-  text = λ events e. if is_wrong shown events then [] else gained_lines shown events e;
+  text = λ events e. if is_wrong shown events then [] else added (stream_text shown) events e;
   closing = λ events. [];
   refused = λ events. was_wrong shown events;
 }

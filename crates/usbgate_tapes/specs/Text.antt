@@ -1,6 +1,6 @@
 -- The text that commands over tapes print: for each event or step the bytes sent to each side, then the refusals; at the
 -- end the counts. A step's items come first.
-use Rattle.std.specs.Prelude.{ℕ, List, [], ◌∷◌, ◌++◌, length, drop, codes}
+use Rattle.std.specs.Prelude.{ℕ, List, [], ◌∷◌, ◌++◌, codes}
 use Rattle.std.specs.List.{flat_map}
 use Rattle.std.specs.Fmt.{decimal}
 use Rattle.hex.specs.Hex.{encode_lower}
@@ -9,7 +9,6 @@ use Rattle.gate_history.specs.declared.note.Note.{Note}
 use Rattle.gate_history.specs.declared.note.Note.TheVariants as note
 use Rattle.gate_history.specs.declared.note.Counts.{Counts}
 use Rattle.gate_history.specs.step.Events.{Event}
-use Rattle.gate_history.specs.step.Marks.{Mark}
 use Rattle.gate_history.specs.step.History.{history}
 use Rattle.gate_history.specs.write.Notes.{notes_of}
 use Rattle.gate_history.specs.write.All.{all_of}
@@ -17,6 +16,7 @@ use Rattle.gate_history.specs.write.Bytes.{out_client, out_host}
 use Rattle.direct_run.specs.declared.told.Told.{Told}
 use Rattle.direct_run.specs.Lines.{item_line}
 use Rattle.packet_show.specs.Line.{LF, SPACE}
+use Rattle.usbgate_tapes.specs.tape.Tape.{added}
 
 -- a letter, the bytes in lower-case hexadecimal and LF; nothing where there are no bytes
 abbrev pub bytes_line : List ℕ → List ℕ → List ℕ
@@ -32,16 +32,13 @@ note_line _ = []
 abbrev pub sent_text : List ℕ → List ℕ → List Note → List ℕ
 sent_text client host notes = bytes_line (codes "C") client ++ bytes_line (codes "H") host ++ flat_map note_line notes
 
--- what the past has with an event, and without it hasn't
-abbrev pub gained : {X : Type 0} → (ℕ → List Mark → List X) → ℕ → List Event → Event → List X
-gained out first events e = drop (length (out first (history first events))) (out first (history first (e ∷ events)))
-
 abbrev pub event_text : ℕ → List Event → Event → List ℕ
-event_text first events e = sent_text (gained out_client first events e) (gained out_host first events e) (gained (all_of notes_of) first events e)
+event_text first events e =
+    sent_text (added (λ es. out_client first (history first es)) events e) (added (λ es. out_host first (history first es)) events e) (added (λ es. all_of notes_of first (history first es)) events e)
 
 -- the bytes of the making come first
-abbrev pub made_text : ℕ → List ℕ
-made_text first = bytes_line (codes "H") (out_host first [])
+abbrev pub opening_text : ℕ → List ℕ
+opening_text first = bytes_line (codes "H") (out_host first [])
 
 -- what a step of a gateway and a modelled device tells; `D` are that host's bytes
 abbrev pub told_text : Told → List ℕ

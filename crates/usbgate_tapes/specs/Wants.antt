@@ -5,8 +5,8 @@ use Rattle.std.specs.Prelude.{◌≡◌, ◌⊎◌, ℕ, ◌+◌, ◌<◌, ◌�
 use Rattle.gate_outside.specs.Calls.{front_of}
 use Rattle.gate_outside.specs.Moved.{Move, moved}
 use Rattle.usbgate_tapes.specs.tape.Tape.{content}
-use Rattle.usbgate_tapes.specs.declared.tape.lines.TheConstants.{TAPE_LIMIT}
-use Rattle.usbgate_tapes.specs.Prescribed.{Prescribed}
+use Rattle.packet_show.specs.declared.tape.TheConstants.{TAPE_LIMIT}
+use Rattle.usbgate_tapes.specs.Printout.{Printout}
 use Rattle.usbgate_tapes.specs.Run.{EndsALine, HasNoLF, ReadInPart}
 
 -- the line has come in parts, which are joined
@@ -15,12 +15,12 @@ IsJoined pending last = (0 < length pending) × (0 < length last)
 
 -- Behind whole lines a line ends, of which a part was there before: its parts are joined, or it is good, and says
 -- something.
-abbrev pub LineWants : Prescribed → List ℕ → List ℕ → List ℕ → Type 0
+abbrev pub LineWants : Printout → List ℕ → List ℕ → List ℕ → Type 0
 LineWants p whole pending last = IsJoined pending last ⊎ ((p.says (content (pending ++ last)) ≡ true) × IsSome (p.front (whole ++ (pending ++ last))))
 
 -- Behind what was read, and behind lines of its own, a piece brings the end of such a line, or at its own end a part of
 -- a line, which is kept. The lines before are good, and this one doesn't pass the limit.
-pub record PieceWants (p : Prescribed) (read piece : List ℕ) : Type 0 where
+pub record PieceWants (p : Printout) (read piece : List ℕ) : Type 0 where
   pub lines : List ℕ
   pub last : List ℕ
   pub rest : List ℕ
@@ -37,11 +37,11 @@ pub record PieceWants (p : Prescribed) (read piece : List ℕ) : Type 0 where
   pub wants : (HasNoLF last × (rest ≡ [])) ⊎ (EndsALine last × LineWants p whole pending last)
 
 -- a read found the end of a tape whose lines are good, or brought such a piece
-abbrev pub ReadWants : Prescribed → List ℕ → List ℕ → Type 0
+abbrev pub ReadWants : Printout → List ℕ → List ℕ → Type 0
 ReadWants p read piece = ((piece ≡ []) × IsSome (p.front read)) ⊎ PieceWants p read piece
 
 -- Behind the last of these reads memory may run out, and what is then written is what it would be had that read failed:
 -- the text of all whole lines before it. Where none was made, the run has only begun, and nothing is written.
-abbrev pub RunsOut : Prescribed → List Move → List ℕ → Type 0
+abbrev pub RunsOut : Printout → List Move → List ℕ → Type 0
 RunsOut p [] written = written ≡ []
 RunsOut p (move ∷ moves) written = ReadInPart p (moved moves) (Some []) written × ReadWants p (moved moves) (front_of move.answer move.bytes)

@@ -9,9 +9,10 @@ mod status;
 mod tape;
 mod text;
 
-pub use model::device::{BLOCKS, Device};
+pub use model::device::Device;
 pub use model::load::load;
 pub use model::make::make;
+pub use model::user::DeviceUser;
 pub use status::Status;
 pub use text::USAGE;
 pub use text::printed::print;

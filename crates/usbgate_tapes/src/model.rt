@@ -11,6 +11,7 @@ ghost use Rattle.usbgate_tapes.specs.inner.model.Model.{HasDone, TakesSaid, has_
 pub mod device;
 pub mod load;
 pub mod make;
+pub mod user;
 
 use crate::tape::command::TapeCommand;
 use crate::text::{push_counts, push_told};

@@ -3,9 +3,9 @@
 ghost use Rattle.std.specs.Prelude.{◌≡◌, ◌++◌, ◌∷◌, ◌≤◌, ◌||◌, [], ℕ, List, IfOk, OnOk};
 ghost use Rattle.std.specs.List.{list_any};
 ghost use Rattle.gate_history.specs.step.Events.{Event as PastEvent, event_of};
-ghost use Rattle.usbgate_tapes.specs.Text.{made_text, sent_text};
+ghost use Rattle.usbgate_tapes.specs.Text.{opening_text, sent_text};
 ghost use Rattle.usbgate_tapes.specs.Replay.{replay};
-ghost use Rattle.usbgate_tapes.specs.inner.Replay.{is_refusal, HasSeen as HasPast, Sees, Replays};
+ghost use Rattle.usbgate_tapes.specs.inner.Replay.{is_refusal, HasReplayed, PutsEvent, Replays};
 
 use crate::tape::events::EventCommand;
 use crate::text::{push_bytes, push_counts, push_notes};
@@ -31,7 +31,7 @@ impl Replay {
     pub fn start(alloc: Global, first_id: u32, text: &mut Bytes) -> Result<Replay, Memory>
         requires { 1 ≤ first_id }
         ensures start { IfOk result (λ made. Replays (replay first_id) made []) }
-        ensures text { OnOk result (text.new ≡ text.old ++ made_text first_id) }
+        ensures text { OnOk result (text.new ≡ text.old ++ opening_text first_id) }
     {
         let mut to_host = Bytes::new(alloc);
         let gate = Gate::make(alloc, u64::from(first_id), &mut to_host)?;
@@ -47,7 +47,7 @@ impl Replay {
 
     /// Puts the event to the gate, and appends what it sends and tells.
     fn put(&mut self, alloc: Global, event: Event, text: &mut Bytes) -> Result<(), Memory>
-        ensures { OnOk result ((first : ℕ) (events : List PastEvent) → HasPast first self.old events → Sees first self.new events (event_of event.entry) text.old text.new) }
+        ensures { OnOk result ((first : ℕ) (events : List PastEvent) → HasReplayed first self.old events → PutsEvent first self.new events (event_of event.entry) text.old text.new) }
     {
         let notes = self
             .gate

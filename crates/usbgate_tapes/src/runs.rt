@@ -6,7 +6,7 @@ ghost use Rattle.gate_outside.specs.Faults.{HasCause};
 ghost use Rattle.gate_outside.specs.Front.{AppendsFront};
 ghost use Rattle.gate_outside.specs.Moved.{Moves, MovesFront};
 ghost use Rattle.usbgate_tapes.specs.Logs.{RunLeaves};
-ghost use Rattle.usbgate_tapes.specs.Prescribed.{over_tape as tape_prescribed};
+ghost use Rattle.usbgate_tapes.specs.Printout.{tape_printout};
 ghost use Rattle.usbgate_tapes.specs.tape.EventCommand.{over_events};
 ghost use Rattle.usbgate_tapes.specs.Replay.{replay as replaying};
 ghost use Rattle.usbgate_tapes.specs.model.Model.{model as modelling, model_of};
@@ -14,10 +14,13 @@ ghost use Rattle.usbgate_tapes.specs.model.Simulated.{AreSimulated, RunSimulates
 ghost use Rattle.usbgate_tapes.specs.Show.{show as showing, show_side};
 ghost use Rattle.usbgate_tapes.specs.inner.show.Show.{shown_by};
 ghost use Rattle.usbgate_tapes.specs.Causes.{HasCauses};
+ghost use Rattle.usbgate_tapes.specs.declared.status.Status.TheVariants.{Usage};
+ghost use Rattle.usbgate_tapes.specs.inner.model.Model.{IsModelled};
 ghost use Rattle.usbgate_tapes.specs.inner.tape.TapeReader.{Stage, Runs, end_text};
 
 use crate::model::ModelRun;
-use crate::model::device::{BLOCKS, Device};
+use crate::model::device::Device;
+use crate::model::user::DeviceUser;
 use crate::replay::Replay;
 use crate::show::Show;
 use crate::show::format::ShownFormat;
@@ -27,9 +30,8 @@ use crate::tape::events::EventTape;
 use crate::tape::reader::TapeReader;
 use crate::text::bad_line;
 use direct_proof::systems_are_direct;
-use disk_gadget::Disk;
 use gate_outside::{Failed, Sink, Source, write_all};
-use model_device::{Gadget, Keyboard, Loopback, Tone};
+use model_device::Gadget;
 use redir_data::FromHost;
 use std::alloc::Global;
 use usb_base::{Bytes, Side};
@@ -41,7 +43,7 @@ const CHUNK: usize = 65_536;
 /// Puts the events of a tape to a gate, and prints what that sends and which sides it refuses.
 pub fn replay<S: Source, K: Sink>(alloc: Global, first_id: u32, tape: &mut S, out: &mut K) -> Status
     requires { 1 ≤ first_id }
-    ensures leaves { RunLeaves S.read_gives K.write_gives S.remaining K.contents result (tape_prescribed (over_events (replaying first_id))) tape.old tape.new out.old out.new }
+    ensures leaves { RunLeaves S.read_gives K.write_gives S.remaining K.contents result (tape_printout (over_events (replaying first_id))) tape.old tape.new out.old out.new }
     ensures causes { HasCauses result (S.faults tape.old) (S.faults tape.new) (K.faults out.old) (K.faults out.new) }
     ensures command { result ≢ Status.Usage }
 {
@@ -54,28 +56,36 @@ pub fn replay<S: Source, K: Sink>(alloc: Global, first_id: u32, tape: &mut S, ou
 
 /// Does the steps of a tape with a gateway and a modelled device, and prints what each tells.
 pub fn model<S: Source, K: Sink>(alloc: Global, device: Device, tape: &mut S, out: &mut K) -> Status
-    ensures leaves { RunLeaves S.read_gives K.write_gives S.remaining K.contents result (tape_prescribed (model_of device)) tape.old tape.new out.old out.new }
+    ensures leaves { RunLeaves S.read_gives K.write_gives S.remaining K.contents result (tape_printout (model_of device)) tape.old tape.new out.old out.new }
     ensures simulates { RunSimulates S.read_gives S.remaining result device tape.old tape.new }
     ensures causes { HasCauses result (S.faults tape.old) (S.faults tape.new) (K.faults out.old) (K.faults out.new) }
     ensures command { result ≢ Status.Usage }
 {
-    match device {
-        Device::Keyboard => match Keyboard::make(alloc) {
-            Ok(keyboard) => model_with(alloc, keyboard, tape, out),
-            Err(_) => Status::OutOfMemory,
-        },
-        Device::Loopback => match Loopback::make(alloc) {
-            Ok(loopback) => model_with(alloc, loopback, tape, out),
-            Err(_) => Status::OutOfMemory,
-        },
-        Device::Tone => match Tone::make(alloc) {
-            Ok(tone) => model_with(alloc, tone, tape, out),
-            Err(_) => Status::OutOfMemory,
-        },
-        Device::Disk => match Disk::make(alloc, BLOCKS) {
-            Ok(disk) => model_with(alloc, disk, tape, out),
-            Err(_) => Status::OutOfMemory,
-        },
+    match device.make_for(alloc, &mut Modelling { alloc, tape, out }) {
+        Ok(status) => status,
+        Err(_) => Status::OutOfMemory,
+    }
+}
+
+/// The steps of a tape that are done with a device, whichever it is.
+#[derive(Drop)]
+struct Modelling<'a, S, K> {
+    alloc: Global,
+    tape: &'a mut S,
+    out: &'a mut K,
+}
+
+impl<'a, S: Source, K: Sink> DeviceUser for Modelling<'a, S, K> {
+    type Answer = Status;
+
+    ghost Ready = { λ user. Unit {0} };
+
+    ghost Holds = { λ old new status. (new.tape.ghost_name ≡ old.tape.ghost_name) × (new.out.ghost_name ≡ old.out.ghost_name) × (status ≢ Usage) × HasCauses status (S.faults old.tape.now) (S.faults new.tape.now) (K.faults old.out.now) (K.faults new.out.now) };
+
+    ghost Comes = { λ old new status D m s. IsModelled S.read_gives K.write_gives S.remaining K.contents status m s old.tape.now new.tape.now old.out.now new.out.now };
+
+    fn take<G: Gadget>(&mut self, gadget: G) -> Status {
+        model_with(self.alloc, gadget, self.tape, self.out)
     }
 }
 
@@ -85,7 +95,7 @@ fn model_with<G: Gadget, S: Source, K: Sink>(
     tape: &mut S,
     out: &mut K,
 ) -> Status
-    ensures leaves { RunLeaves S.read_gives K.write_gives S.remaining K.contents result (tape_prescribed (modelling G.meaning gadget)) tape.old tape.new out.old out.new }
+    ensures leaves { RunLeaves S.read_gives K.write_gives S.remaining K.contents result (tape_printout (modelling G.meaning gadget)) tape.old tape.new out.old out.new }
     ensures simulates { AreSimulated S.read_gives S.remaining result G.meaning gadget tape.old tape.new }
     ensures causes { HasCauses result (S.faults tape.old) (S.faults tape.new) (K.faults out.old) (K.faults out.new) }
     ensures command { result ≢ Status.Usage }
@@ -100,7 +110,7 @@ fn model_with<G: Gadget, S: Source, K: Sink>(
 
 /// Prints the packets of one side's stream in a tape.
 pub fn show<S: Source, K: Sink>(alloc: Global, side: Side, tape: &mut S, out: &mut K) -> Status
-    ensures leaves { RunLeaves S.read_gives K.write_gives S.remaining K.contents result (tape_prescribed (over_events (showing side))) tape.old tape.new out.old out.new }
+    ensures leaves { RunLeaves S.read_gives K.write_gives S.remaining K.contents result (tape_printout (over_events (showing side))) tape.old tape.new out.old out.new }
     ensures causes { HasCauses result (S.faults tape.old) (S.faults tape.new) (K.faults out.old) (K.faults out.new) }
     ensures command { result ≢ Status.Usage }
 {
@@ -115,7 +125,7 @@ fn show_stream<F: ShownFormat, S: Source, K: Sink>(
     tape: &mut S,
     out: &mut K,
 ) -> Status
-    ensures leaves { RunLeaves S.read_gives K.write_gives S.remaining K.contents result (tape_prescribed (over_events (show_side (shown_by F.the_side F.format F.after F.first_state F.bytes F.line)))) tape.old tape.new out.old out.new }
+    ensures leaves { RunLeaves S.read_gives K.write_gives S.remaining K.contents result (tape_printout (over_events (show_side (shown_by F.the_side F.format F.after F.first_state F.bytes F.line)))) tape.old tape.new out.old out.new }
     ensures causes { HasCauses result (S.faults tape.old) (S.faults tape.new) (K.faults out.old) (K.faults out.new) }
     ensures command { result ≢ Status.Usage }
 {

@@ -2,7 +2,7 @@
 
 ghost use Rattle.std.specs.Prelude.{◌≡◌, ◌++◌, ◌∷◌, [], ℕ, List, OnOk};
 ghost use Rattle.gate_history.specs.step.Events.{Event as PastEvent};
-ghost use Rattle.usbgate_tapes.specs.inner.show.Show.{shown_by, HasShown, IsShow, Sees, ShowsPackets};
+ghost use Rattle.usbgate_tapes.specs.inner.show.Show.{shown_by, HasShown, IsShow, ShowsEvent, ShowsPackets};
 
 pub mod format;
 
@@ -35,7 +35,7 @@ impl<F: ShownFormat> Show<F> {
     /// Takes a piece of the stream, and shows the packets that it makes whole. Behind a wrong place there are none.
     fn take_piece(&mut self, alloc: Global, piece: &[u8], text: &mut Bytes) -> Result<(), Memory>
         ensures { OnOk result ((events : List PastEvent) (e : PastEvent) → F.bytes (e ∷ events) ≡ F.bytes events ++ piece.now
-            → Sees (shown_by F.the_side F.format F.after F.first_state F.bytes F.line) events e self.old.refused self.new.refused self.old.stream self.new.stream text.old text.new) }
+            → ShowsEvent (shown_by F.the_side F.format F.after F.first_state F.bytes F.line) events e self.old.refused self.new.refused self.old.stream self.new.stream text.old text.new) }
     {
         self.stream.put(piece)?;
         match show_packets(alloc, &mut self.stream, text) {
@@ -57,7 +57,7 @@ impl<F: ShownFormat> Show<F> {
     /// The side's next stream begins.
     fn begin(&mut self, alloc: Global)
         ensures { (events : List PastEvent) (e : PastEvent) (text : List ℕ) → F.bytes (e ∷ events) ≡ []
-            → Sees (shown_by F.the_side F.format F.after F.first_state F.bytes F.line) events e self.old.refused self.new.refused self.old.stream self.new.stream text text }
+            → ShowsEvent (shown_by F.the_side F.format F.after F.first_state F.bytes F.line) events e self.old.refused self.new.refused self.old.stream self.new.stream text text }
     {
         self.stream = Stream::new(alloc, F::first_state());
     }
@@ -65,7 +65,7 @@ impl<F: ShownFormat> Show<F> {
     /// A law: an event of the other side shows nothing.
     fn pass(&self)
         ensures { (events : List PastEvent) (e : PastEvent) (text : List ℕ) → F.bytes (e ∷ events) ≡ F.bytes events
-            → Sees (shown_by F.the_side F.format F.after F.first_state F.bytes F.line) events e self.now.refused self.now.refused self.now.stream self.now.stream text text }
+            → ShowsEvent (shown_by F.the_side F.format F.after F.first_state F.bytes F.line) events e self.now.refused self.now.refused self.now.stream self.now.stream text text }
     {}
 }
 

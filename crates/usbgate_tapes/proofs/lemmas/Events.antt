@@ -20,9 +20,10 @@ use Rattle.gate_history.specs.write.Bytes.{out_client, out_host}
 use Rattle.gate_history.specs.Headline.{Gains}
 use Rattle.gate_core.specs.step.Stands.{Takes}
 use Rattle.usbgate_tapes.specs.declared.replay.Replay.{Replay}
-use Rattle.usbgate_tapes.specs.Text.{gained, sent_text}
+use Rattle.usbgate_tapes.specs.Text.{sent_text}
+use Rattle.usbgate_tapes.specs.tape.Tape.{added}
 use Rattle.usbgate_tapes.specs.Replay.{has_refusal}
-use Rattle.usbgate_tapes.specs.inner.Replay.{is_refusal, HasSeen, Sees}
+use Rattle.usbgate_tapes.specs.inner.Replay.{is_refusal, HasReplayed, PutsEvent}
 
 -- ---- a side was refused where a note tells it
 
@@ -83,17 +84,19 @@ more-is old new before after more none new_is after_is = new_is ∙ ap (λ (l : 
 gains-is : (old new before after : List ℕ) → old ≡ [] → Gains old new before after → new ≡ drop (length before) after
 gains-is old new before after none g = more-is old new before after _ none g.new-is g.after-is
 
-pub sees : (first : ℕ) (old new : Replay) (events : List Event) (e : Event) (client host text_old text_new : List ℕ) (notes : List Note) → HasSeen first old events
+pub sees : (first : ℕ) (old new : Replay) (events : List Event) (e : Event) (client host text_old text_new : List ℕ) (notes : List Note) → HasReplayed first old events
     → Takes first new.gate events e old.to_client client old.to_host host notes → text_new ≡ text_old ++ sent_text client host notes → new.to_client ≡ [] → new.to_host ≡ []
-    → new.refused ≡ (old.refused || list_any is_refusal notes) → Sees first new events e text_old text_new
+    → new.refused ≡ (old.refused || list_any is_refusal notes) → PutsEvent first new events e text_old text_new
 sees first old new events e client host text_old text_new notes h t text no_client no_host refused =
-    let to_client : client ≡ gained out_client first events e = gains-is old.to_client client _ _ h.to_client t.client in
-    let to_host : host ≡ gained out_host first events e = gains-is old.to_host host _ _ h.to_host t.host in
-    let told : notes ≡ gained (all_of notes_of) first events e =
+    let clients : List Event → List ℕ = λ es. out_client first (history first es) in
+    let hosts : List Event → List ℕ = λ es. out_host first (history first es) in
+    let to_client : client ≡ added clients events e = gains-is old.to_client client _ _ h.to_client t.client in
+    let to_host : host ≡ added hosts events e = gains-is old.to_host host _ _ h.to_host t.host in
+    let told : notes ≡ added (λ es. all_of notes_of first (history first es)) events e =
     sym (drop_at (all_of notes_of first (history first events)) notes _ refl) ∙ ap (drop (length (all_of notes_of first (history first events)))) (sym t.told) in
     record {
-      text = text ∙ ap (λ (l : List ℕ). text_old ++ l) (ap (λ (l : List ℕ). sent_text l host notes) to_client ∙ ap (λ (l : List ℕ). sent_text (gained out_client first events e) l notes) to_host
-          ∙ ap (λ (l : List Note). sent_text (gained out_client first events e) (gained out_host first events e) l) told);
+      text = text ∙ ap (λ (l : List ℕ). text_old ++ l) (ap (λ (l : List ℕ). sent_text l host notes) to_client ∙ ap (λ (l : List ℕ). sent_text (added clients events e) l notes) to_host
+          ∙ ap (λ (l : List Note). sent_text (added clients events e) (added hosts events e) l) told);
       seen = record {
         gate = t.stands;
         to_client = no_client;

@@ -11,9 +11,9 @@ use Rattle.usbgate_tapes.specs.declared.tape.reader.TapeReader.{TapeReader}
 use Rattle.usbgate_tapes.specs.declared.status.Status.{Status}
 use Rattle.usbgate_tapes.specs.declared.status.Status.TheVariants.{Done, Usage, Refused, ReadFault, WriteFault, LinkFault, OutOfMemory, BadTape, Idle, Spent}
 use Rattle.usbgate_tapes.specs.tape.Tape.{lines_of}
-use Rattle.usbgate_tapes.specs.declared.tape.lines.TheConstants.{TAPE_LIMIT}
-use Rattle.usbgate_tapes.specs.tape.TapeCommand.{TapeCommand, begin, Reading, read_lines, read_tape, tape_text}
-use Rattle.usbgate_tapes.specs.Prescribed.{Prescribed, over_tape}
+use Rattle.packet_show.specs.declared.tape.TheConstants.{TAPE_LIMIT}
+use Rattle.usbgate_tapes.specs.tape.TapeCommand.{TapeCommand, begin, Reading, read_lines, read_tape, whole_text}
+use Rattle.usbgate_tapes.specs.Printout.{Printout, tape_printout}
 use Rattle.usbgate_tapes.specs.Causes.{HasCauses, OpensNoLink}
 use Rattle.usbgate_tapes.specs.Run.{ReadInPart, WrittenInPart, WrittenWhole, LeavesTold, ComesToEnd}
 use Rattle.usbgate_tapes.specs.Logs.{LeavesByLog}
@@ -75,7 +75,7 @@ refused-bad : {A : Type 0} (n : ℕ) → Refused ≡ BadTape n → A
 refused-bad n e = cc
 
 -- the tape has come to its end, or the status is that of a bad line
-ends_by : (status : Status) (p : Prescribed) (tape text : List ℕ) (remaining : Option (List ℕ)) → is_quiet status ≡ true → WrittenWhole status p tape text
+ends_by : (status : Status) (p : Printout) (tape text : List ℕ) (remaining : Option (List ℕ)) → is_quiet status ≡ true → WrittenWhole status p tape text
     → ((number : ℕ) × (status ≡ BadTape number)) ⊎ (remaining ≡ Some (p.rest tape)) → LeavesTold status p tape remaining text
 ends_by Done p tape text remaining e written (inl b) = done-bad b.0 b.1
 ends_by Done p tape text remaining e written (inr none) = (none, written)
@@ -134,16 +134,16 @@ closes-remembers {T = T} command Keeps {piece = piece} read c e =
 module _ {C T : Type 0} {command : TapeCommand T} {Keeps : C → T → Type 0} where
   -- all text is written
   end-whole : {status : Status} {q : TapeReader C} {bytes written : List ℕ} (piece read : List ℕ) → Closes command Keeps status q piece read written → bytes ≡ q.text ++ end_text status → (later : List ℕ) → (piece ≡ [] → later ≡ [])
-      → LeavesTold status (over_tape command) ((read ++ piece) ++ later) (Some later) (written ++ bytes)
+      → LeavesTold status (tape_printout command) ((read ++ piece) ++ later) (Some later) (written ++ bytes)
   end-whole {status = status} {bytes = bytes} {written = written} piece read c bytes-is later none =
-      ends_by status (over_tape command) ((read ++ piece) ++ later) (written ++ bytes) (Some later) (closes-is_quiet command Keeps read c) (record {
+      ends_by status (tape_printout command) ((read ++ piece) ++ later) (written ++ bytes) (Some later) (closes-is_quiet command Keeps read c) (record {
         text-is = c.text later none ∙ ap (λ (l : List ℕ). written ++ l) (sym bytes-is);
         status-is = sym (c.outcome later none);
       }) (closed piece later status (Some later) c.bad none refl)
 
   -- a front of it is
   last-part : {status : Status} {q : TapeReader C} {written : List ℕ} (piece read front back : List ℕ) → Closes command Keeps status q piece read written → q.text ++ end_text status ≡ front ++ back → (later : List ℕ) → (piece ≡ [] → later ≡ [])
-      → WrittenInPart (over_tape command) ((read ++ piece) ++ later) (written ++ front)
+      → WrittenInPart (tape_printout command) ((read ++ piece) ++ later) (written ++ front)
   last-part {written = written} piece read front back c parts later none = record {
     back = back;
     text-is = c.text later none ∙ ap (λ (l : List ℕ). written ++ l) parts ∙ sym (append_assoc written front back);
@@ -200,10 +200,10 @@ module _ {C T S K : Type 0} {command : TapeCommand T} {Keeps : C → T → Type 
 
   -- memory runs out before anything was read
   pub runs-none : (tape : S) (out : K) → Runs command Keeps read_gives write_gives remaining contents OutOfMemory tape tape out out
-  runs-none tape out = record { leaves = leaves-none read_gives write_gives remaining contents (over_tape command) tape out; kept = record { by_log = tt; where_told = tt } }
+  runs-none tape out = record { leaves = leaves-none read_gives write_gives remaining contents (tape_printout command) tape out; kept = record { by_log = tt; where_told = tt } }
 
   -- a front of the text is written
-  in_part : {tape_old tape : S} {out_old out : K} {p : TapeReader C} (g : Goes command Keeps read_gives write_gives remaining contents tape_old tape out_old out p) (front back : List ℕ) → p.text ≡ front ++ back → (later : List ℕ) → WrittenInPart (over_tape command) (moved g.reads ++ later) (g.written ++ front)
+  in_part : {tape_old tape : S} {out_old out : K} {p : TapeReader C} (g : Goes command Keeps read_gives write_gives remaining contents tape_old tape out_old out p) (front back : List ℕ) → p.text ≡ front ++ back → (later : List ℕ) → WrittenInPart (tape_printout command) (moved g.reads ++ later) (g.written ++ front)
   in_part g front back parts later =
       let begins = text_begins command Keeps g.stage later in
       record {
@@ -223,14 +223,14 @@ module _ {C T S K : Type 0} {command : TapeCommand T} {Keeps : C → T → Type 
         leaves = λ later follows. in_part g m.front m.back (sym bytes-is ∙ m.parts) later;
         wants = λ e. write-memory e;
       };
-      where_told = leaves-told WriteFault (over_tape command) (remaining tape_old) (remaining tape) (contents out_old) (contents new) (moved g.reads) (g.written ++ f.front) g.consumed
+      where_told = leaves-told WriteFault (tape_printout command) (remaining tape_old) (remaining tape) (contents out_old) (contents new) (moved g.reads) (g.written ++ f.front) g.consumed
           (Appends-trans (contents out_old) (contents out) (contents new) g.written f.front g.wrote f.appends) (λ later told. in_part g f.front f.back (sym bytes-is ∙ f.parts) later);
     };
     kept = record { by_log = tt; where_told = tt };
   }
 
   -- the text of whole lines is written
-  read-part : {tape_old tape : S} {out_old out : K} {p : TapeReader C} (g : Goes command Keeps read_gives write_gives remaining contents tape_old tape out_old out p) → p.text ≡ [] → (later : List ℕ) → ReadInPart (over_tape command) (moved g.reads ++ later) (Some later) g.written
+  read-part : {tape_old tape : S} {out_old out : K} {p : TapeReader C} (g : Goes command Keeps read_gives write_gives remaining contents tape_old tape out_old out p) → p.text ≡ [] → (later : List ℕ) → ReadInPart (tape_printout command) (moved g.reads ++ later) (Some later) g.written
   read-part {p = p} g none later =
       let s = g.stage in
       let written : g.written ≡ command.opening ++ s.text = sym (append-nil g.written) ∙ ap (λ (l : List ℕ). g.written ++ l) (sym none) ∙ s.text-is in
@@ -247,13 +247,13 @@ module _ {C T S K : Type 0} {command : TapeCommand T} {Keeps : C → T → Type 
       }
 
   -- what was read before, and nothing behind it
-  part-alone : {tape_old tape : S} {out_old out : K} {p : TapeReader C} (g : Goes command Keeps read_gives write_gives remaining contents tape_old tape out_old out p) → p.text ≡ [] → (later : List ℕ) → ReadInPart (over_tape command) ((moved g.reads ++ []) ++ later) (Some later) g.written
-  part-alone g none later = subst (λ (l : List ℕ). ReadInPart (over_tape command) (l ++ later) (Some later) g.written) (sym (append-nil (moved g.reads))) (read-part g none later)
+  part-alone : {tape_old tape : S} {out_old out : K} {p : TapeReader C} (g : Goes command Keeps read_gives write_gives remaining contents tape_old tape out_old out p) → p.text ≡ [] → (later : List ℕ) → ReadInPart (tape_printout command) ((moved g.reads ++ []) ++ later) (Some later) g.written
+  part-alone g none later = subst (λ (l : List ℕ). ReadInPart (tape_printout command) (l ++ later) (Some later) g.written) (sym (append-nil (moved g.reads))) (read-part g none later)
 
   -- one read more was made, behind which nothing is written
   one-read : {status : Status} {tape_old tape new : S} {out_old out : K} {p : TapeReader C} (buf : List ℕ) (answer : Result ℕ Failed) (g : Goes command Keeps read_gives write_gives remaining contents tape_old tape out_old out p) → read_gives tape buf answer new
-      → ((later : List ℕ) → MayFollow (record { bytes = buf; answer = answer } ∷ g.reads) later → LeavesTold status (over_tape command) (moved (record { bytes = buf; answer = answer } ∷ g.reads) ++ later) (Some later) g.written)
-      → (status ≡ OutOfMemory → RunsOut (over_tape command) (record { bytes = buf; answer = answer } ∷ g.reads) g.written) → LeavesByLog read_gives write_gives status (over_tape command) tape_old new out_old out
+      → ((later : List ℕ) → MayFollow (record { bytes = buf; answer = answer } ∷ g.reads) later → LeavesTold status (tape_printout command) (moved (record { bytes = buf; answer = answer } ∷ g.reads) ++ later) (Some later) g.written)
+      → (status ≡ OutOfMemory → RunsOut (tape_printout command) (record { bytes = buf; answer = answer } ∷ g.reads) g.written) → LeavesByLog read_gives write_gives status (tape_printout command) tape_old new out_old out
   one-read {tape = tape} buf answer g gives leaves wants = record {
     reads = record { bytes = buf; answer = answer } ∷ g.reads;
     read = (tape, (g.read, gives));
@@ -269,28 +269,28 @@ module _ {C T S K : Type 0} {command : TapeCommand T} {Keeps : C → T → Type 
   runs-read {tape_old = tape_old} {tape = tape} {new = new} {out_old = out_old} {out = out} buf failed g none kept gives = record {
     leaves = record {
       by_log = one-read buf (Err failed) g gives (λ later follows. part-alone g none later) (λ e. read-memory e);
-      where_told = leaves-told ReadFault (over_tape command) (remaining tape_old) (remaining new) (contents out_old) (contents out) (moved g.reads) g.written
+      where_told = leaves-told ReadFault (tape_printout command) (remaining tape_old) (remaining new) (contents out_old) (contents out) (moved g.reads) g.written
           (Consumes-kept (remaining tape_old) (remaining tape) (remaining new) (moved g.reads) g.consumed kept) g.wrote (λ later told. read-part g none later);
     };
     kept = record { by_log = tt; where_told = tt };
   }
 
   -- memory runs out after a piece was read
-  memory-part : {tape_old tape : S} {out_old out : K} {p : TapeReader C} (g : Goes command Keeps read_gives write_gives remaining contents tape_old tape out_old out p) (piece later : List ℕ) → WrittenInPart (over_tape command) ((moved g.reads ++ piece) ++ later) g.written
+  memory-part : {tape_old tape : S} {out_old out : K} {p : TapeReader C} (g : Goes command Keeps read_gives write_gives remaining contents tape_old tape out_old out p) (piece later : List ℕ) → WrittenInPart (tape_printout command) ((moved g.reads ++ piece) ++ later) g.written
   memory-part {p = p} g piece later =
       let begins = text_begins command Keeps g.stage (piece ++ later) in
       record {
         back = p.text ++ begins.0;
-        text-is = ap (tape_text command) (append_assoc (moved g.reads) piece later) ∙ begins.1 ∙ append_assoc g.written p.text begins.0;
+        text-is = ap (whole_text command) (append_assoc (moved g.reads) piece later) ∙ begins.1 ∙ append_assoc g.written p.text begins.0;
       }
 
   pub runs-memory : {tape_old tape new : S} {out_old out : K} {p : TapeReader C} (n : ℕ) (buf : List ℕ) (g : Goes command Keeps read_gives write_gives remaining contents tape_old tape out_old out p) → p.text ≡ [] → Consumes (remaining tape) (remaining new) (take n buf) → read_gives tape buf (Ok n) new
-      → ReadWants (over_tape command) (moved g.reads) (take n buf) → Runs command Keeps read_gives write_gives remaining contents OutOfMemory tape_old new out_old out
+      → ReadWants (tape_printout command) (moved g.reads) (take n buf) → Runs command Keeps read_gives write_gives remaining contents OutOfMemory tape_old new out_old out
   runs-memory {tape_old = tape_old} {tape = tape} {new = new} {out_old = out_old} {out = out} n buf g none read gives wants = record {
     leaves = record {
       by_log = one-read buf (Ok n) g gives (λ later follows. memory-part g (take n buf) later)
-          (λ e. (subst (λ (l : List ℕ). ReadInPart (over_tape command) l (Some []) g.written) (append-nil (moved g.reads)) (read-part g none []), wants));
-      where_told = leaves-told OutOfMemory (over_tape command) (remaining tape_old) (remaining new) (contents out_old) (contents out) (moved g.reads ++ take n buf) g.written
+          (λ e. (subst (λ (l : List ℕ). ReadInPart (tape_printout command) l (Some []) g.written) (append-nil (moved g.reads)) (read-part g none []), wants));
+      where_told = leaves-told OutOfMemory (tape_printout command) (remaining tape_old) (remaining new) (contents out_old) (contents out) (moved g.reads ++ take n buf) g.written
           (Consumes-trans (remaining tape_old) (remaining tape) (remaining new) (moved g.reads) (take n buf) g.consumed read) g.wrote (λ later told. memory-part g (take n buf) later);
     };
     kept = record { by_log = tt; where_told = tt };
@@ -316,7 +316,7 @@ module _ {C T S K : Type 0} {command : TapeCommand T} {Keeps : C → T → Type 
             leaves = λ later follows. end-whole piece (moved g.reads) c bytes-is later (at_end n buf g.reads later bound follows);
             wants = λ e. absurd (closes-remembers command Keeps (moved g.reads) c e);
           };
-          where_told = leaves-told status (over_tape command) (remaining tape_old) (remaining new) (contents out_old) (contents last) (moved g.reads ++ piece) (g.written ++ bytes) consumed
+          where_told = leaves-told status (tape_printout command) (remaining tape_old) (remaining new) (contents out_old) (contents last) (moved g.reads ++ piece) (g.written ++ bytes) consumed
               (Appends-trans (contents out_old) (contents out) (contents last) g.written bytes g.wrote a) (λ later told. end-whole piece (moved g.reads) c bytes-is later (λ e. at_end_told (remaining new) later (end e) told));
         };
         kept = record {
@@ -343,7 +343,7 @@ module _ {C T S K : Type 0} {command : TapeCommand T} {Keeps : C → T → Type 
             leaves = λ later follows. last-part piece (moved g.reads) m.front m.back c (sym bytes-is ∙ m.parts) later (at_end n buf g.reads later bound follows);
             wants = λ e. write-memory e;
           };
-          where_told = leaves-told WriteFault (over_tape command) (remaining tape_old) (remaining new) (contents out_old) (contents last) (moved g.reads ++ piece) (g.written ++ f.front)
+          where_told = leaves-told WriteFault (tape_printout command) (remaining tape_old) (remaining new) (contents out_old) (contents last) (moved g.reads ++ piece) (g.written ++ f.front)
               (Consumes-trans (remaining tape_old) (remaining tape) (remaining new) (moved g.reads) piece g.consumed read) (Appends-trans (contents out_old) (contents out) (contents last) g.written f.front g.wrote f.appends)
               (λ later told. last-part piece (moved g.reads) f.front f.back c (sym bytes-is ∙ f.parts) later (λ e. at_end_told (remaining new) later (end e) told));
         };

@@ -13,9 +13,10 @@ use Rattle.packet_stream.specs.Split.{Reader, Splitting, split}
 use Rattle.packet_stream.specs.Streams.{StreamView, capped, passed, FollowsBy, Follows, Drained, Wrongs, Answered, Nexts, Changes, after_piece, after_piece_by, Puts}
 use Rattle.packet_stream.proofs.Loops.{changed_to}
 use Rattle.gate_history.specs.step.Events.{Event}
-use Rattle.usbgate_tapes.specs.Show.{Shown, packet_lines, wrong_line, split_text, stream_split, was_wrong, is_wrong, gained_lines, show_side}
+use Rattle.usbgate_tapes.specs.Show.{Shown, packet_lines, wrong_line, split_text, stream_split, was_wrong, is_wrong, stream_text, show_side}
+use Rattle.usbgate_tapes.specs.tape.Tape.{added}
 use Rattle.usbgate_tapes.specs.inner.show.Shown.{HasNone}
-use Rattle.usbgate_tapes.specs.inner.show.Show.{HasShown, Sees, Shows, GoesOn, Showed, ShowsPackets}
+use Rattle.usbgate_tapes.specs.inner.show.Show.{HasShown, ShowsEvent, Shows, ShowsSoFar, Showed, ShowsPackets}
 
 -- ---- lines
 
@@ -25,8 +26,8 @@ lines-append shown (x ∷ xs) ys =
     ap (λ (l : List ℕ). shown.line (capped x.0) x.1 ++ l) (lines-append shown xs ys) ∙ sym (append_assoc (shown.line (capped x.0) x.1) (packet_lines shown xs) (packet_lines shown ys))
 
 -- behind the lines that there were
-gained : (before more : List ℕ) → drop (length (before ++ [])) (before ++ more) ≡ more
-gained before more = ap (λ (l : List ℕ). drop (length l) (before ++ more)) (append-nil before) ∙ drop_at before more (length before) refl
+behind : (before more : List ℕ) → drop (length (before ++ [])) (before ++ more) ≡ more
+behind before more = ap (λ (l : List ℕ). drop (length l) (before ++ more)) (append-nil before) ∙ drop_at before more (length before) refl
 
 abbrev nothing_there : List ℕ
 nothing_there = []
@@ -44,8 +45,8 @@ module _ {S P : Type 0} (shown : Shown S P) where
       subst (λ (x : Result (Option (ℕ × P)) ReadError). Answered shown.reader takes shown.start x new bytes given) is (next shown.start bytes given f)
 
   -- one more is shown
-  pub goes-more : (takes : P → Bool) (old kept new : StreamView S) (text_old text text_new : List ℕ) (result : Result (Option (ℕ × P)) ReadError) (i : ℕ × P) → GoesOn shown old kept text_old text → Nexts shown.reader takes result kept new
-      → result ≡ Ok (Some i) → text_new ≡ text ++ shown.line i.0 i.1 → GoesOn shown old new text_old text_new
+  pub goes-more : (takes : P → Bool) (old kept new : StreamView S) (text_old text text_new : List ℕ) (result : Result (Option (ℕ × P)) ReadError) (i : ℕ × P) → ShowsSoFar shown old kept text_old text → Nexts shown.reader takes result kept new
+      → result ≡ Ok (Some i) → text_new ≡ text ++ shown.line i.0 i.1 → ShowsSoFar shown old new text_old text_new
   goes-more takes old kept new text_old text text_new result i goes next is text-is = λ bytes given f.
       let w = goes bytes given f in
       let n = next_at takes kept new bytes (given ++ w.more) result (Ok (Some i)) next is w.follows in
@@ -71,7 +72,7 @@ module _ {S P : Type 0} (shown : Shown S P) where
   refused-none v place reason is = cc
 
   -- all are shown
-  pub shows-all : (takes : P → Bool) (v : Unit {0}) (old kept new : StreamView S) (text_old text : List ℕ) (result : Result (Option (ℕ × P)) ReadError) → kept.over ≡ old.over → GoesOn shown old kept text_old text → Changes result kept new → Nexts shown.reader takes result kept new
+  pub shows-all : (takes : P → Bool) (v : Unit {0}) (old kept new : StreamView S) (text_old text : List ℕ) (result : Result (Option (ℕ × P)) ReadError) → kept.over ≡ old.over → ShowsSoFar shown old kept text_old text → Changes result kept new → Nexts shown.reader takes result kept new
       → result ≡ Ok None → ShowsPackets shown (Ok v) old new text_old text
   shows-all takes v old kept new text_old text result over goes changes next is =
       let same = changed_to kept new result (Ok None) changes is in
@@ -110,7 +111,7 @@ module _ {S P : Type 0} (shown : Shown S P) where
   err-is x y r one other = cc
 
   -- the next one is wrong, or memory runs out for it
-  pub shows-err : (takes : P → Bool) (old kept new : StreamView S) (text_old text : List ℕ) (result : Result (Option (ℕ × P)) ReadError) (e : ReadError) → kept.over ≡ old.over → GoesOn shown old kept text_old text → Changes result kept new
+  pub shows-err : (takes : P → Bool) (old kept new : StreamView S) (text_old text : List ℕ) (result : Result (Option (ℕ × P)) ReadError) (e : ReadError) → kept.over ≡ old.over → ShowsSoFar shown old kept text_old text → Changes result kept new
       → Nexts shown.reader takes result kept new → result ≡ Err e → ShowsPackets shown (Err e) old new text_old text
   shows-err takes old kept new text_old text result e over goes changes next is = record {
     over = λ v is. err-ok e v is;
@@ -119,7 +120,7 @@ module _ {S P : Type 0} (shown : Shown S P) where
   }
 
   -- an error that is handed on
-  pub shows-handed : (takes : P → Bool) (old kept new : StreamView S) (text_old text : List ℕ) (result : Result (Option (ℕ × P)) ReadError) (e : ReadError) (last : Result (Unit {0}) ReadError) → kept.over ≡ old.over → GoesOn shown old kept text_old text
+  pub shows-handed : (takes : P → Bool) (old kept new : StreamView S) (text_old text : List ℕ) (result : Result (Option (ℕ × P)) ReadError) (e : ReadError) (last : Result (Unit {0}) ReadError) → kept.over ≡ old.over → ShowsSoFar shown old kept text_old text
       → Changes result kept new → Nexts shown.reader takes result kept new → result ≡ Err e → IsErrAnd last (λ y. y ≡ e) → ShowsPackets shown last old new text_old text
   shows-handed takes old kept new text_old text result e (Ok v) over goes changes next is on = absurd on
   shows-handed takes old kept new text_old text result e (Err y) over goes changes next is on =
@@ -147,12 +148,12 @@ module _ {S P : Type 0} (shown : Shown S P) where
   none-wrong (Some w) is = absurd (false≢true (sym is))
 
   -- what an event adds to a stream that isn't wrong, and to one that is
-  adds : (events : List Event) (e : Event) (text more : List ℕ) → is_wrong shown events ≡ false → gained_lines shown events e ≡ more → text ++ more ≡ text ++ (show_side shown).text events e
+  adds : (events : List Event) (e : Event) (text more : List ℕ) → is_wrong shown events ≡ false → added (stream_text shown) events e ≡ more → text ++ more ≡ text ++ (show_side shown).text events e
   adds events e text more right is =
-      ap (λ (l : List ℕ). text ++ l) (sym is ∙ ap (λ (b : Bool). cond b [] (gained_lines shown events e)) (sym right))
+      ap (λ (l : List ℕ). text ++ l) (sym is ∙ ap (λ (b : Bool). cond b [] (added (stream_text shown) events e)) (sym right))
 
   adds-none : (events : List Event) (e : Event) (text : List ℕ) → is_wrong shown events ≡ true → text ≡ text ++ (show_side shown).text events e
-  adds-none events e text wrong = sym (append-nil text) ∙ ap (λ (b : Bool). text ++ cond b [] (gained_lines shown events e)) (sym wrong)
+  adds-none events e text wrong = sym (append-nil text) ∙ ap (λ (b : Bool). text ++ cond b [] (added (stream_text shown) events e)) (sym wrong)
 
   -- whether a stream was wrong, with an event behind which the present one is or isn't
   wrong-after : (refused now : Bool) (events : List Event) (e : Event) → refused ≡ was_wrong shown events → is_wrong shown (e ∷ events) ≡ now → (refused || now) ≡ was_wrong shown (e ∷ events)
@@ -168,17 +169,17 @@ module _ {S P : Type 0} (shown : Shown S P) where
   right-text x right = ap (λ (w : Option (ℕ × Reason)). packet_lines shown x.packets ++ wrong_line shown.side w) right
 
   -- more packets, and perhaps a wrong place
-  gained-more : (events : List Event) (e : Event) (more : List (ℕ × P)) (w : Option (ℕ × Reason)) → (stream_split shown events).wrong ≡ None → (stream_split shown (e ∷ events)).packets ≡ (stream_split shown events).packets ++ more
-      → (stream_split shown (e ∷ events)).wrong ≡ w → gained_lines shown events e ≡ packet_lines shown more ++ wrong_line shown.side w
-  gained-more events e more w right packets wrong =
+  added-more : (events : List Event) (e : Event) (more : List (ℕ × P)) (w : Option (ℕ × Reason)) → (stream_split shown events).wrong ≡ None → (stream_split shown (e ∷ events)).packets ≡ (stream_split shown events).packets ++ more
+      → (stream_split shown (e ∷ events)).wrong ≡ w → added (stream_text shown) events e ≡ packet_lines shown more ++ wrong_line shown.side w
+  added-more events e more w right packets wrong =
       let x = stream_split shown events in
       let y = stream_split shown (e ∷ events) in
       let before = packet_lines shown x.packets in
-      let added = packet_lines shown more ++ wrong_line shown.side w in
-      let after : split_text shown y ≡ before ++ added =
+      let later = packet_lines shown more ++ wrong_line shown.side w in
+      let after : split_text shown y ≡ before ++ later =
       ap (λ (o : Option (ℕ × Reason)). packet_lines shown y.packets ++ wrong_line shown.side o) wrong ∙ ap (λ (l : List (ℕ × P)). packet_lines shown l ++ wrong_line shown.side w) packets
       ∙ ap (λ (l : List ℕ). l ++ wrong_line shown.side w) (lines-append shown x.packets more) ∙ append_assoc before (packet_lines shown more) (wrong_line shown.side w) in
-      ap (λ (l : List ℕ). drop (length l) (split_text shown y)) (right-text x right) ∙ ap (drop (length (before ++ []))) after ∙ gained before added
+      ap (λ (l : List ℕ). drop (length l) (split_text shown y)) (right-text x right) ∙ ap (drop (length (before ++ []))) after ∙ behind before later
 
   over_after : (kept : StreamView S) (piece : List ℕ) (over : Bool) → kept.over ≡ over → (after_piece kept piece).over ≡ over
   over_after kept piece true is = ap (λ (b : Bool). (after_piece_by kept piece b).over) is ∙ is
@@ -232,7 +233,7 @@ module _ {S P : Type 0} (shown : Shown S P) where
       let follows = subst (λ (b : List ℕ). Follows shown.reader shown.start new b (x ++ all.more)) (sym bytes-is) all.follows in
       let now : is_wrong shown (e ∷ events) ≡ false = ap (λ (w : Option (ℕ × Reason)). is_some w) drained.right in (
         all.text-is ∙ adds events e text_old (packet_lines shown all.more) right
-            (gained-more events e all.more None (none-wrong (stream_split shown events).wrong right) drained.packets drained.right ∙ append-nil (packet_lines shown all.more)),
+            (added-more events e all.more None (none-wrong (stream_split shown events).wrong right) drained.packets drained.right ∙ append-nil (packet_lines shown all.more)),
         record {
           refused-is = or-same refused false (λ t. absurd (false≢true t)) ∙ wrong-after refused false events e h.refused-is now;
           over-is = going ∙ sym now;
@@ -249,14 +250,14 @@ module _ {S P : Type 0} (shown : Shown S P) where
 
   -- a piece has come, and its packets are all shown
   pub sees-all : (events : List Event) (e : Event) (piece : List ℕ) (refused : Bool) (old put new : StreamView S) (text_old text_new : List ℕ) (v : Unit {0}) → shown.bytes (e ∷ events) ≡ shown.bytes events ++ piece
-      → put ≡ after_piece old piece → Puts shown.reader piece old put → ShowsPackets shown (Ok v) put new text_old text_new → Sees shown events e refused refused old new text_old text_new
+      → put ≡ after_piece old piece → Puts shown.reader piece old put → ShowsPackets shown (Ok v) put new text_old text_new → ShowsEvent shown events e refused refused old new text_old text_new
   sees-all events e piece refused old put new text_old text_new v bytes-is put-is puts shows =
       record { sees = λ h. sees-by old.over events e piece refused old put new text_old text_new v refl bytes-is put-is puts shows h }
 
   -- a piece has come, and something in it is wrong
   pub sees-wrong : (events : List Event) (e : Event) (piece : List ℕ) (refused : Bool) (old put new : StreamView S) (text_old text text_new : List ℕ) (place : ℕ) (reason : Reason) → shown.bytes (e ∷ events) ≡ shown.bytes events ++ piece
       → put ≡ after_piece old piece → Puts shown.reader piece old put → ShowsPackets shown (Err (Refused place reason)) put new text_old text
-      → text_new ≡ text ++ refusal_line (record { side = shown.side; place = place; reason = reason; kept = None }) → Sees shown events e refused true old new text_old text_new
+      → text_new ≡ text ++ refusal_line (record { side = shown.side; place = place; reason = reason; kept = None }) → ShowsEvent shown events e refused true old new text_old text_new
   sees-wrong events e piece refused old put new text_old text text_new place reason bytes-is put-is puts shows line = record {
     sees = λ h.
         let ends = shows.ends place reason refl in
@@ -272,7 +273,7 @@ module _ {S P : Type 0} (shown : Shown S P) where
               ∙ append_assoc text_old (packet_lines shown all.more) (refusal_line (record { side = shown.side; place = place; reason = reason; kept = None }))
               ∙ ap (λ (n : ℕ). text_old ++ (packet_lines shown all.more ++ refusal_line (record { side = shown.side; place = n; reason = reason; kept = None }))) wrongs.place-is
               ∙ adds events e text_old (packet_lines shown all.more ++ wrong_line shown.side (Some at)) right
-              (gained-more events e all.more (Some at) (none-wrong (stream_split shown events).wrong right) wrongs.packets wrongs.wrong),
+              (added-more events e all.more (Some at) (none-wrong (stream_split shown events).wrong right) wrongs.packets wrongs.wrong),
           record {
             refused-is = sym (or-true refused) ∙ wrong-after refused true events e h.refused-is now;
             over-is = ends.1 ∙ sym now;
@@ -291,11 +292,11 @@ module _ {S P : Type 0} (shown : Shown S P) where
       was-going true is going = absurd (false≢true (sym going ∙ ap (λ (k : StreamView S). k.over) put-is ∙ over_after old piece true is))
 
   -- an event that isn't the side's
-  pub sees-other : (events : List Event) (e : Event) (refused : Bool) (kept : StreamView S) (text : List ℕ) → shown.bytes (e ∷ events) ≡ shown.bytes events → Sees shown events e refused refused kept kept text text
+  pub sees-other : (events : List Event) (e : Event) (refused : Bool) (kept : StreamView S) (text : List ℕ) → shown.bytes (e ∷ events) ≡ shown.bytes events → ShowsEvent shown events e refused refused kept kept text text
   sees-other events e refused kept text same = record {
     sees = λ h.
         let now : is_wrong shown (e ∷ events) ≡ kept.over = ap (λ (b : List ℕ). is_some (split shown.reader shown.start b).wrong) same ∙ sym h.over-is in (
-          none-gained (is_wrong shown events) refl,
+          none-added (is_wrong shown events) refl,
           record {
             refused-is = or-same refused kept.over h.over-refused ∙ wrong-after refused kept.over events e h.refused-is now;
             over-is = sym now;
@@ -305,20 +306,20 @@ module _ {S P : Type 0} (shown : Shown S P) where
         );
   }
     where
-      nothing : gained_lines shown events e ≡ []
+      nothing : added (stream_text shown) events e ≡ []
       nothing = ap (λ (b : List ℕ). drop (length (split_text shown (stream_split shown events))) (split_text shown (split shown.reader shown.start b))) same ∙ drop-length (split_text shown (stream_split shown events))
 
-      none-gained : (b : Bool) → is_wrong shown events ≡ b → text ≡ text ++ (show_side shown).text events e
-      none-gained true is = adds-none events e text is
-      none-gained false is = sym (append-nil text) ∙ adds events e text [] is nothing
+      none-added : (b : Bool) → is_wrong shown events ≡ b → text ≡ text ++ (show_side shown).text events e
+      none-added true is = adds-none events e text is
+      none-added false is = sym (append-nil text) ∙ adds events e text [] is nothing
 
   -- the end of a stream: the next one begins
   pub sees-end : (events : List Event) (e : Event) (refused : Bool) (old new : StreamView S) (text : List ℕ) → HasNone shown.reader shown.start → shown.bytes (e ∷ events) ≡ [] → new.over ≡ false → Follows shown.reader shown.start new [] []
-      → Sees shown events e refused refused old new text text
+      → ShowsEvent shown events e refused refused old new text text
   sees-end events e refused old new text none is going f = record {
     sees = λ h.
         let now : is_wrong shown (e ∷ events) ≡ false = ap (λ (b : List ℕ). is_some (split shown.reader shown.start b).wrong) is ∙ ap (λ (w : Option (ℕ × Reason)). is_some w) none.right in (
-          none-gained (is_wrong shown events) refl,
+          none-added (is_wrong shown events) refl,
           shown-new refused new (e ∷ events) none is (or-same refused false (λ t. absurd (false≢true t)) ∙ wrong-after refused false events e h.refused-is now) going f,
         );
   }
@@ -327,9 +328,9 @@ module _ {S P : Type 0} (shown : Shown S P) where
       text-none = ap (λ (b : List ℕ). split_text shown (split shown.reader shown.start b)) is ∙ ap (λ (ps : List (ℕ × P)). packet_lines shown ps ++ wrong_line shown.side (split shown.reader shown.start []).wrong) none.packets
           ∙ ap (λ (w : Option (ℕ × Reason)). wrong_line shown.side w) none.right
 
-      nothing : gained_lines shown events e ≡ []
+      nothing : added (stream_text shown) events e ≡ []
       nothing = ap (drop (length (split_text shown (stream_split shown events)))) text-none ∙ drop-none (length (split_text shown (stream_split shown events)))
 
-      none-gained : (b : Bool) → is_wrong shown events ≡ b → text ≡ text ++ (show_side shown).text events e
-      none-gained true is = adds-none events e text is
-      none-gained false is = sym (append-nil text) ∙ adds events e text [] is nothing
+      none-added : (b : Bool) → is_wrong shown events ≡ b → text ≡ text ++ (show_side shown).text events e
+      none-added true is = adds-none events e text is
+      none-added false is = sym (append-nil text) ∙ adds events e text [] is nothing

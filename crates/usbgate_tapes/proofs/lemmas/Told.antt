@@ -3,7 +3,7 @@ use Rattle.std.proofs.Common.{◌≡◌, ℕ, List, [], ◌++◌, Option, Some, 
 use Rattle.std.proofs.lemmas.Option.{none-some, same_Some}
 use Rattle.std.specs.Io.KnownBytes.{Appends, Consumes, IsAtEnd}
 use Rattle.usbgate_tapes.specs.declared.status.Status.{Status}
-use Rattle.usbgate_tapes.specs.Prescribed.{Prescribed}
+use Rattle.usbgate_tapes.specs.Printout.{Printout}
 use Rattle.usbgate_tapes.specs.Run.{LeavesTold, LeavesWhereTold}
 
 -- the tape, where it is told, is what was read and what is remaining
@@ -22,7 +22,7 @@ at_end_told None rest end e = absurd (none-some rest e)
 at_end_told (Some x) rest end e = same_Some rest x (sym e) ∙ end
 
 -- what is left of any tape that begins so is left of one that tells its bytes
-pub leaves-told : (status : Status) (p : Prescribed) (remaining_old remaining contents_old contents : Option (List ℕ)) (read written : List ℕ) → Consumes remaining_old remaining read → Appends contents_old contents written
+pub leaves-told : (status : Status) (p : Printout) (remaining_old remaining contents_old contents : Option (List ℕ)) (read written : List ℕ) → Consumes remaining_old remaining read → Appends contents_old contents written
     → ((later : List ℕ) → remaining ≡ Some later → LeavesTold status p (read ++ later) (Some later) written) → LeavesWhereTold status p remaining_old remaining contents_old contents
 leaves-told status p remaining_old remaining contents_old contents read written consumed wrote leaves = λ tape text tape_told text_told.
     let t = remaining_told remaining_old remaining read tape consumed tape_told in (

@@ -9,7 +9,7 @@ use Rattle.gate_outside.specs.Moved.{Moves, MovesFront}
 use Rattle.usbgate_tapes.specs.declared.status.Status.{Status}
 use Rattle.usbgate_tapes.specs.declared.status.Status.TheVariants.{Done, Usage, WriteFault, OutOfMemory}
 use Rattle.usbgate_tapes.specs.Run.{LeavesTold, LeavesWhereTold}
-use Rattle.usbgate_tapes.specs.Prescribed.{Prescribed, untaped}
+use Rattle.usbgate_tapes.specs.Printout.{Printout, untaped}
 use Rattle.usbgate_tapes.specs.Logs.{RunLeaves, RunWrites}
 use Rattle.gate_outside.proofs.Moving.{moves-none}
 use Rattle.usbgate_tapes.proofs.lemmas.Told.{leaves-told}
@@ -18,10 +18,10 @@ pub write-memory : {A : Type 0} → WriteFault ≡ OutOfMemory → A
 write-memory e = cc
 
 -- nothing was read or written
-told-none : (p : Prescribed) (remaining contents : Option (List ℕ)) → LeavesWhereTold OutOfMemory p remaining remaining contents contents
+told-none : (p : Printout) (remaining contents : Option (List ℕ)) → LeavesWhereTold OutOfMemory p remaining remaining contents contents
 told-none p remaining contents = λ tape text remaining-is contents-is. ([], contents-is ∙ ap (λ (l : List ℕ). Some l) (sym (append-nil text)), record { back = p.text tape; text-is = refl })
 
-pub leaves-none : {S K : Type 0} (read_gives : S → List ℕ → Result ℕ Failed → S → Type 0) (write_gives : K → List ℕ → Result ℕ Failed → K → Type 0) (remaining : S → Option (List ℕ)) (contents : K → Option (List ℕ)) (p : Prescribed) (tape : S) (out : K) → RunLeaves read_gives write_gives remaining contents OutOfMemory p tape tape out out
+pub leaves-none : {S K : Type 0} (read_gives : S → List ℕ → Result ℕ Failed → S → Type 0) (write_gives : K → List ℕ → Result ℕ Failed → K → Type 0) (remaining : S → Option (List ℕ)) (contents : K → Option (List ℕ)) (p : Printout) (tape : S) (out : K) → RunLeaves read_gives write_gives remaining contents OutOfMemory p tape tape out out
 leaves-none read_gives write_gives remaining contents p tape out = record {
   by_log = record {
     reads = [];
@@ -35,7 +35,7 @@ leaves-none read_gives write_gives remaining contents p tape out = record {
 }
 
 -- a text is written for which no tape is read
-pub leaves-unread : {S K : Type 0} (read_gives : S → List ℕ → Result ℕ Failed → S → Type 0) (write_gives : K → List ℕ → Result ℕ Failed → K → Type 0) (remaining : S → Option (List ℕ)) (contents : K → Option (List ℕ)) (status : Status) (p : Prescribed) (tape : S) (out_old out : K) → RunWrites write_gives contents status p out_old out
+pub leaves-unread : {S K : Type 0} (read_gives : S → List ℕ → Result ℕ Failed → S → Type 0) (write_gives : K → List ℕ → Result ℕ Failed → K → Type 0) (remaining : S → Option (List ℕ)) (contents : K → Option (List ℕ)) (status : Status) (p : Printout) (tape : S) (out_old out : K) → RunWrites write_gives contents status p out_old out
     → RunLeaves read_gives write_gives remaining contents status p tape tape out_old out
 leaves-unread read_gives write_gives remaining contents status p tape out_old out w = record {
   by_log = record {
@@ -50,7 +50,7 @@ leaves-unread read_gives write_gives remaining contents status p tape out_old ou
 }
 
 -- memory ran out before
-pub wrote-none : {K : Type 0} (write_gives : K → List ℕ → Result ℕ Failed → K → Type 0) (contents : K → Option (List ℕ)) (p : Prescribed) (out : K) → RunWrites write_gives contents OutOfMemory p out out
+pub wrote-none : {K : Type 0} (write_gives : K → List ℕ → Result ℕ Failed → K → Type 0) (contents : K → Option (List ℕ)) (p : Printout) (out : K) → RunWrites write_gives contents OutOfMemory p out out
 wrote-none write_gives contents p out = record {
   by_log = record {
     written = [];
@@ -62,7 +62,7 @@ wrote-none write_gives contents p out = record {
 }
 
 -- the text is written
-wrote-all : {K : Type 0} (write_gives : K → List ℕ → Result ℕ Failed → K → Type 0) (contents : K → Option (List ℕ)) (status : Status) (p : Prescribed) (text : List ℕ) (out_old out : K) → (status ≡ OutOfMemory → ⊥) → ((tape : List ℕ) → LeavesTold status p tape (Some tape) text) → Moves write_gives text out_old out
+wrote-all : {K : Type 0} (write_gives : K → List ℕ → Result ℕ Failed → K → Type 0) (contents : K → Option (List ℕ)) (status : Status) (p : Printout) (text : List ℕ) (out_old out : K) → (status ≡ OutOfMemory → ⊥) → ((tape : List ℕ) → LeavesTold status p tape (Some tape) text) → Moves write_gives text out_old out
     → Appends (contents out_old) (contents out) text → RunWrites write_gives contents status p out_old out
 wrote-all write_gives contents status p text out_old out remembers leaves m a = record {
   by_log = record { written = text; writes = m; leaves = leaves; wants = λ e. absurd (remembers e) };

@@ -14,19 +14,19 @@ abbrev pub is_refusal : Note → Bool
 is_refusal (note.Refused refusal) = true
 is_refusal _ = false
 
-pub record HasSeen (first : ℕ) (r : Replay) (events : List Event) : Type 0 where
+pub record HasReplayed (first : ℕ) (r : Replay) (events : List Event) : Type 0 where
   pub gate : Stands first r.gate events
   pub to_client : r.to_client ≡ []
   pub to_host : r.to_host ≡ []
   pub refused : r.refused ≡ has_refusal (history first events)
 
 -- the text of an event is put behind the text, and the event is seen
-pub record Sees (first : ℕ) (new : Replay) (events : List Event) (e : Event) (text_old text_new : List ℕ) : Type 0 where
+pub record PutsEvent (first : ℕ) (new : Replay) (events : List Event) (e : Event) (text_old text_new : List ℕ) : Type 0 where
   pub text : text_new ≡ text_old ++ event_text first events e
-  pub seen : HasSeen first new (e ∷ events)
+  pub seen : HasReplayed first new (e ∷ events)
 
 -- it is the replay that draws from some first id on
 pub record Replays (command : EventCommand) (r : Replay) (events : List Event) : Type 0 where
   pub first : ℕ
   pub command-is : command ≡ replay first
-  pub seen : HasSeen first r events
+  pub seen : HasReplayed first r events

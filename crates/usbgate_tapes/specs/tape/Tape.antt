@@ -1,5 +1,5 @@
 -- A replay tape: the lines of a text, and the event that each says.
-use Rattle.std.specs.Prelude.{ℕ, ◌==◌, Bool, true, false, not, if◌then◌else◌, List, [], ◌∷◌, Option, Some, None}
+use Rattle.std.specs.Prelude.{ℕ, ◌==◌, Bool, true, false, not, if◌then◌else◌, List, [], ◌∷◌, length, drop, Option, Some, None}
 use Rattle.std.specs.Io.BufRead.{strip_last}
 use Rattle.packet_show.specs.Line.{LF}
 use Rattle.packet_show.specs.declared.tape.TapeLine.{TapeLine}
@@ -42,3 +42,7 @@ abbrev pub may_happen : List Event → Event → Bool
 may_happen events (HostPiece b) = not (host_ended events)
 may_happen events HostEnd = not (host_ended events)
 may_happen events e = true
+
+-- what there is with an event, and without it isn't
+abbrev pub added : {X : Type 0} → (List Event → List X) → List Event → Event → List X
+added all events e = drop (length (all events)) (all (e ∷ events))

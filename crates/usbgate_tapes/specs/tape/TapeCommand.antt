@@ -2,7 +2,7 @@
 use Rattle.std.specs.Prelude.{ℕ, ◌+◌, Bool, true, false, nat_lt, if◌then◌else◌, List, [], ◌∷◌, ◌++◌, length, option_map, Option, Some, None}
 use Rattle.usbgate_tapes.specs.declared.status.Status.{Status}
 use Rattle.usbgate_tapes.specs.declared.status.Status.TheVariants.{Done, Refused, BadTape}
-use Rattle.usbgate_tapes.specs.declared.tape.lines.TheConstants.{TAPE_LIMIT}
+use Rattle.packet_show.specs.declared.tape.TheConstants.{TAPE_LIMIT}
 use Rattle.usbgate_tapes.specs.tape.Tape.{lines_of, content}
 use Rattle.usbgate_tapes.specs.Text.{bad_line}
 
@@ -60,8 +60,8 @@ abbrev pub last_text : {S : Type 0} → TapeCommand S → Reading S → List ℕ
 last_text command x = if x.bad then bad_line (x.after.lines + 1) else command.closing x.after.kept
 
 -- the text that a command prescribes for a tape, and how it then ends
-abbrev pub tape_text : {S : Type 0} → TapeCommand S → List ℕ → List ℕ
-tape_text command tape = let x = read_tape command tape in command.opening ++ x.text ++ last_text command x
+abbrev pub whole_text : {S : Type 0} → TapeCommand S → List ℕ → List ℕ
+whole_text command tape = let x = read_tape command tape in command.opening ++ x.text ++ last_text command x
 
 abbrev pub tape_status : {S : Type 0} → TapeCommand S → List ℕ → Status
 tape_status command tape =

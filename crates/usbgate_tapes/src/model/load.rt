@@ -2,9 +2,10 @@
 
 ghost use Rattle.std.specs.Prelude.{◌≡◌, ◌≢◌, ◌≤◌, [], ℕ, IfOk, OnOk};
 ghost use Rattle.direct_run.specs.Stands.{Stands};
+ghost use Rattle.made_tape.specs.declared.made.TheConstants.{MOST_ROUNDS};
 ghost use Rattle.made_tape.specs.Rounds.{made_lines};
 ghost use Rattle.usbgate_tapes.specs.model.Made.{loaded};
-ghost use Rattle.usbgate_tapes.specs.Prescribed.{printed};
+ghost use Rattle.usbgate_tapes.specs.Printout.{printed};
 ghost use Rattle.usbgate_tapes.specs.Logs.{RunWrites};
 ghost use Rattle.usbgate_tapes.specs.model.Simulated.{MadeSimulates};
 ghost use Rattle.usbgate_tapes.specs.Causes.{HasCauses};
@@ -24,7 +25,7 @@ use usb_base::{Bytes, Memory};
 
 /// Prints the counts.
 pub fn load<K: Sink>(alloc: Global, count: u16, out: &mut K) -> Status
-    requires { count ≤ 1000 }
+    requires { count ≤ MOST_ROUNDS }
     ensures leaves { RunWrites K.write_gives K.contents result (printed (loaded count)) out.old out.new }
     ensures causes { (faults : ℕ) → HasCauses result faults faults (K.faults out.old) (K.faults out.new) }
     ensures command { result ≢ Status.Usage }
@@ -38,7 +39,7 @@ pub fn load<K: Sink>(alloc: Global, count: u16, out: &mut K) -> Status
 
 /// The line of the counts.
 fn counted(alloc: Global, count: u16) -> Result<Bytes, Memory>
-    requires { count ≤ 1000 }
+    requires { count ≤ MOST_ROUNDS }
     ensures text { IfOk result (λ text. text ≡ loaded count) }
     ensures simulates { OnOk result (MadeSimulates count) }
 {

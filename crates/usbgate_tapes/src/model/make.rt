@@ -2,7 +2,7 @@
 
 ghost use Rattle.std.specs.Prelude.{◌≢◌, ℕ};
 ghost use Rattle.usbgate_tapes.specs.model.Made.{made};
-ghost use Rattle.usbgate_tapes.specs.Prescribed.{printed};
+ghost use Rattle.usbgate_tapes.specs.Printout.{printed};
 ghost use Rattle.usbgate_tapes.specs.Logs.{RunWrites};
 ghost use Rattle.usbgate_tapes.specs.Causes.{HasCauses};
 

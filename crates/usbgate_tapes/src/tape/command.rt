@@ -1,7 +1,7 @@
 //! What a command over a tape is.
 
 ghost use Rattle.std.specs.Prelude.{◌≡◌, ◌≢◌, ◌++◌, None, IfOk, OnOk, true};
-ghost use Rattle.usbgate_tapes.specs.tape.TapeCommand.{TapeCommand as Told};
+ghost use Rattle.usbgate_tapes.specs.tape.TapeCommand.{TapeCommand as Meant};
 ghost use Rattle.usbgate_tapes.specs.inner.tape.TapeReader.{TakesLine};
 ghost use Rattle.packet_show.specs.Tape.{want};
 
@@ -10,13 +10,13 @@ use std::alloc::Global;
 use usb_base::{Bytes, Memory};
 
 /// A command over a tape: it takes the lines one by one, and then ends. What it is to do is a task, which means plain
-/// data (`Told`, by what it keeps of the lines). `Keeps` says when it has that task and keeps that.
+/// data (`Meant`, by what it keeps of the lines). `Keeps` says when it has that task and keeps that.
 pub trait TapeCommand {
     ghost Kept: { Type 0 };
 
     ghost Task: { Type 0 };
 
-    ghost means: { Task → Told Kept };
+    ghost means: { Task → Meant Kept };
 
     ghost Keeps: { Task → Self → Kept → Type 0 };
 

@@ -5,7 +5,7 @@ ghost use Rattle.gate_history.specs.step.Events.{Event as PastEvent, event_of};
 ghost use Rattle.packet_show.specs.Tape.{tape_line};
 ghost use Rattle.packet_show.specs.declared.tape.TapeKind.TheVariants as kind;
 ghost use Rattle.usbgate_tapes.specs.tape.Tape.{event_said, host_ended};
-ghost use Rattle.usbgate_tapes.specs.tape.EventCommand.{EventCommand as Told, over_events};
+ghost use Rattle.usbgate_tapes.specs.tape.EventCommand.{EventCommand as Meant, over_events};
 ghost use Rattle.usbgate_tapes.specs.inner.tape.EventTape.{HasEvents, MayStand};
 
 use crate::tape::command::TapeCommand;
@@ -14,23 +14,23 @@ use packet_show::{LineError, TapeKind, TapeLine, read_line};
 use std::alloc::Global;
 use usb_base::{Bytes, Memory};
 
-/// A command over events. What it is to do is plain data (`Told`), and `HasSeen` says when it is that command and has
+/// A command over events. What it is to do is plain data (`Meant`), and `HasSeen` says when it is that command and has
 /// seen these events.
 pub trait EventCommand {
-    ghost HasSeen: { Told → Self → List PastEvent → Type 0 };
+    ghost HasSeen: { Meant → Self → List PastEvent → Type 0 };
 
     /// Takes the next event, and appends its text.
     fn see(&mut self, alloc: Global, event: Event, text: &mut Bytes) -> Result<(), Memory>
-        ensures { OnOk result ((command : Told) (events : List PastEvent) → HasSeen command self.old events
+        ensures { OnOk result ((command : Meant) (events : List PastEvent) → HasSeen command self.old events
             → (text.new ≡ text.old ++ command.text events (event_of event.entry)) × HasSeen command self.new (event_of event.entry ∷ events)) };
 
     /// Appends the text behind the last event.
     fn close(&self, alloc: Global, text: &mut Bytes) -> Result<(), Memory>
-        ensures { OnOk result ((command : Told) (events : List PastEvent) → HasSeen command self.now events → text.new ≡ text.old ++ command.closing events) };
+        ensures { OnOk result ((command : Meant) (events : List PastEvent) → HasSeen command self.now events → text.new ≡ text.old ++ command.closing events) };
 
     /// Whether the run ends in a refusal.
     fn has_refused(&self) -> bool
-        ensures { (command : Told) (events : List PastEvent) → HasSeen command self.now events → result ≡ command.refused events };
+        ensures { (command : Meant) (events : List PastEvent) → HasSeen command self.now events → result ≡ command.refused events };
 }
 
 /// The event that a line says, if there is one.
@@ -61,7 +61,7 @@ pub struct EventTape<E> {
 impl<E: EventCommand> EventTape<E> {
     /// Nothing has happened yet.
     pub fn start(command: E) -> EventTape<E>
-        ensures { (told : Told) → E.HasSeen told command [] → HasEvents E.HasSeen told result [] }
+        ensures { (meant : Meant) → E.HasSeen meant command [] → HasEvents E.HasSeen meant result [] }
     {
         EventTape {
             command,
@@ -72,7 +72,7 @@ impl<E: EventCommand> EventTape<E> {
     /// Whether the line isn't one of a host that has ended.
     fn may_stand(&self, line: &[u8]) -> bool
         ensures stands { result ≡ true → (events : List PastEvent) → self.now.host_ended ≡ host_ended events → MayStand events (tape_line kind.Replay line.now) }
-        ensures bad { result ≡ false → (told : Told) (events : List PastEvent) → self.now.host_ended ≡ host_ended events → (over_events told).line events line.now ≡ None }
+        ensures bad { result ≡ false → (meant : Meant) (events : List PastEvent) → self.now.host_ended ≡ host_ended events → (over_events meant).line events line.now ≡ None }
     {
         match line {
             [b'h', ..] => !self.host_ended,
@@ -94,7 +94,7 @@ impl<E: EventCommand> EventTape<E> {
 impl<E: EventCommand> TapeCommand for EventTape<E> {
     ghost Kept = { List PastEvent };
 
-    ghost Task = { Told };
+    ghost Task = { Meant };
 
     ghost means = { over_events };
 

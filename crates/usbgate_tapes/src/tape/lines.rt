@@ -3,16 +3,13 @@
 ghost use Rattle.std.specs.Prelude.{◌≡◌, ◌≢◌, ◌++◌, ◌+◌, ◌<◌, ◌≤◌, ◌↔◌, length, IfOk, OnOk, IsTrue, None, true};
 ghost use Rattle.usbgate_tapes.specs.tape.Tape.{content as content_of};
 ghost use Rattle.usbgate_tapes.specs.tape.TapeCommand.{Progress, begin, next_line};
-ghost use Rattle.usbgate_tapes.specs.inner.tape.TapeReader.{HasRead, GoesOn};
+ghost use Rattle.usbgate_tapes.specs.inner.tape.TapeReader.{HasRead, ReadsLine};
 ghost use Rattle.packet_show.specs.Tape.{want};
 
 use crate::tape::command::TapeCommand;
-use packet_show::LineError;
+use packet_show::{LineError, TAPE_LIMIT};
 use std::alloc::Global;
 use usb_base::{Bytes, Memory};
-
-/// How many bytes a tape may have.
-pub const TAPE_LIMIT: u64 = 67_108_864;
 
 /// A command, and what has been read of its tape.
 #[derive(Drop)]
@@ -46,7 +43,7 @@ impl<C: TapeCommand> TapeLines<C> {
     ) -> Result<(), LineError>
         requires some { 0 < length line.now }
         requires room { length line.now ≤ self.old.room }
-        ensures goes { OnOk result ((task : C.Task) (s : Progress C.Kept) → HasRead (C.Keeps task) self.old s → GoesOn (C.Keeps task) (next_line (C.means task) s line.now) self.new text.old text.new) }
+        ensures goes { OnOk result ((task : C.Task) (s : Progress C.Kept) → HasRead (C.Keeps task) self.old s → ReadsLine (C.Keeps task) (next_line (C.means task) s line.now) self.new text.old text.new) }
         ensures bad { result ≡ Err LineError.Bad → (task : C.Task) (s : Progress C.Kept) → HasRead (C.Keeps task) self.old s → next_line (C.means task) s line.now ≡ None }
         ensures same { result ≡ Err LineError.Bad → (self.new ≡ self.old) × (text.new ≡ text.old) }
         ensures memory { result ≡ Err (LineError.Memory want) → (task : C.Task) → (C.means task).says (content_of line.now) ≡ true }

@@ -1,11 +1,11 @@
 //! A tape that comes in pieces, read line by line.
 
 ghost use Rattle.std.specs.Prelude.{◌≡◌, ◌≢◌, ◌⊎◌, ◌++◌, ◌+◌, ◌<◌, ◌≤◌, ◌==◌, [], List, ℕ, length, IfOk, OnOk, OnErr, None, position, true, false};
-ghost use Rattle.usbgate_tapes.specs.Prescribed.{over_tape};
+ghost use Rattle.usbgate_tapes.specs.Printout.{tape_printout};
 ghost use Rattle.usbgate_tapes.specs.tape.Tape.{content as content_of};
 ghost use Rattle.usbgate_tapes.specs.Wants.{IsJoined, PieceWants, ReadWants};
 ghost use Rattle.usbgate_tapes.specs.tape.TapeCommand.{Progress, next_line, read_tape};
-ghost use Rattle.usbgate_tapes.specs.inner.tape.TapeReader.{HasRead, GoesOn, Stage, Took, Stepped, Finished, AllRead, TookLast, Spoils, TookLine, EndWants, Kept};
+ghost use Rattle.usbgate_tapes.specs.inner.tape.TapeReader.{HasRead, ReadsLine, Stage, Took, Stepped, Finished, AllRead, TookLast, Spoils, TookLine, EndWants, KeepsPart};
 ghost use Rattle.packet_show.specs.Tape.{want};
 
 use crate::status::Status;
@@ -42,7 +42,7 @@ impl<C: TapeCommand> TapeReader<C> {
     /// run ends: at the tape's end, or at a bad line, whose own line isn't among the text.
     pub fn step(&mut self, alloc: Global, piece: &[u8]) -> Result<Option<Status>, Memory>
         ensures ok { IfOk result (λ status. (task : C.Task) (read written : List ℕ) → Stage (C.means task) (C.Keeps task) self.old read written → Stepped (C.means task) (C.Keeps task) status self.new piece.now read written) }
-        ensures wants { OnErr result ((task : C.Task) (read written : List ℕ) → Stage (C.means task) (C.Keeps task) self.old read written → ReadWants (over_tape (C.means task)) read piece.now) }
+        ensures wants { OnErr result ((task : C.Task) (read written : List ℕ) → Stage (C.means task) (C.Keeps task) self.old read written → ReadWants (tape_printout (C.means task)) read piece.now) }
     {
         if piece.is_empty() {
             return Ok(Some(self.end(alloc)?));
@@ -54,7 +54,7 @@ impl<C: TapeCommand> TapeReader<C> {
     /// in the piece are read where they are.
     fn take(&mut self, alloc: Global, piece: &[u8]) -> Result<Option<Status>, Memory>
         ensures ok { IfOk result (λ status. (task : C.Task) (read written : List ℕ) → Stage (C.means task) (C.Keeps task) self.old read written → Took (C.means task) (C.Keeps task) status self.new (read ++ piece.now) written) }
-        ensures wants { OnErr result ((task : C.Task) (read written : List ℕ) → Stage (C.means task) (C.Keeps task) self.old read written → PieceWants (over_tape (C.means task)) read piece.now) }
+        ensures wants { OnErr result ((task : C.Task) (read written : List ℕ) → Stage (C.means task) (C.Keeps task) self.old read written → PieceWants (tape_printout (C.means task)) read piece.now) }
     {
         let mut from = 0;
         while let Some(len) = line_end(&piece[from..]) {
@@ -121,7 +121,7 @@ impl<C: TapeCommand> TapeReader<C> {
     fn put_line(&mut self, alloc: Global, last: &[u8]) -> Result<(), LineError>
         requires { 0 < length (self.old.pending ++ last.now) }
         ensures goes { OnOk result ((task : C.Task) (s : Progress C.Kept) → HasRead (C.Keeps task) self.old.lines s
-            → GoesOn (C.Keeps task) (next_line (C.means task) s (self.old.pending ++ last.now)) self.new.lines self.old.text self.new.text) }
+            → ReadsLine (C.Keeps task) (next_line (C.means task) s (self.old.pending ++ last.now)) self.new.lines self.old.text self.new.text) }
         ensures bad { result ≡ Err LineError.Bad → (task : C.Task) (s : Progress C.Kept) → HasRead (C.Keeps task) self.old.lines s → next_line (C.means task) s (self.old.pending ++ last.now) ≡ None }
         ensures same { result ≡ Err LineError.Bad → (self.new.lines ≡ self.old.lines) × (self.new.text ≡ self.old.text) }
         ensures memory { result ≡ Err (LineError.Memory want) → IsJoined self.old.pending last.now ⊎ ((task : C.Task) → (C.means task).says (content_of (self.old.pending ++ last.now)) ≡ true) }
@@ -142,7 +142,7 @@ impl<C: TapeCommand> TapeReader<C> {
 
     /// Keeps a part of a line, unless the line passes the limit.
     fn keep(&mut self, part: &[u8]) -> Result<Option<Status>, Memory>
-        ensures ok { IfOk result (λ status. (task : C.Task) (s : Progress C.Kept) → HasRead (C.Keeps task) self.old.lines s → Kept status s (self.old.pending ++ part.now) self.old self.new) }
+        ensures ok { IfOk result (λ status. (task : C.Task) (s : Progress C.Kept) → HasRead (C.Keeps task) self.old.lines s → KeepsPart status s (self.old.pending ++ part.now) self.old self.new) }
         ensures wants { OnErr result ((0 < length part.now) × (length (self.old.pending ++ part.now) ≤ self.old.lines.room)) }
     {
         if !self.lines.has_room(self.pending.as_slice(), part) {

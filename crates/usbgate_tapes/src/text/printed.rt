@@ -1,7 +1,7 @@
 //! Texts for which no tape is read.
 
 ghost use Rattle.std.specs.Prelude.{◌≡◌, ◌⊎◌, ℕ};
-ghost use Rattle.usbgate_tapes.specs.Prescribed.{untaped};
+ghost use Rattle.usbgate_tapes.specs.Printout.{untaped};
 ghost use Rattle.usbgate_tapes.specs.Logs.{RunWrites};
 ghost use Rattle.usbgate_tapes.specs.Causes.{HasCauses};
 

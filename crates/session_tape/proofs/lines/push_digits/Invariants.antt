@@ -1,12 +1,13 @@
-use Rattle.std.proofs.Common.{◌≡◌, ◌++◌, length}
+use Rattle.std.proofs.Common.{◌≡◌, ◌*◌, ◌++◌, length}
 use Rattle.std.specs.Slice.Iter.{chunks_rest, chunks_size}
 use Rattle.hex.specs.Hex.{encode_lower}
+use Rattle.session_tape.specs.declared.lines.TheConstants.{AT_ONCE}
 use Rattle.session_tape.proofs.lines.push_digits.Given as goal
 
 abbrev pub invariant-loop-front : goal.invariant-loop-front
 invariant-loop-front l =
     goal.iterator-loop-front.can_next l.front-iterator
     × goal.iterator-loop-front.is_finite l.front-iterator
-    × (chunks_size l.front-iterator ≡ 256)
-    × (length l.digits ≡ 512)
+    × (chunks_size l.front-iterator ≡ AT_ONCE)
+    × (length l.digits ≡ 2 * AT_ONCE)
     × (l.text ++ encode_lower (chunks_rest l.front-iterator) ≡ l.fn.text ++ encode_lower l.fn.bytes)

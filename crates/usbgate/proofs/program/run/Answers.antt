@@ -5,7 +5,7 @@ use Rattle.usbgate_tapes.specs.Replay.{replay}
 use Rattle.usbgate_tapes.specs.model.Model.{model_of}
 use Rattle.usbgate_tapes.specs.Show.{show}
 use Rattle.usbgate_tapes.specs.model.Made.{made, loaded}
-use Rattle.usbgate_tapes.specs.Prescribed.{over_tape, printed, usage}
+use Rattle.usbgate_tapes.specs.Printout.{tape_printout, printed, usage}
 use Rattle.usbgate_commands.specs.Recording.{records}
 use Rattle.usbgate_commands.proofs.Served.{links-stand, link-fault-of, link-stands}
 use Rattle.usbgate_tapes.proofs.lemmas.model.Simulated.{unsimulated}
@@ -31,13 +31,13 @@ pub returns-in_default-clause-simulates : goal.returns-in_default-clause-simulat
 returns-in_default-clause-simulates g c = λ device is. unsimulated g.S.Source.read_gives g.S.Source.remaining device c.args.tape.now c.args.tape.now
 
 pub returns-in-Replay-clause-leaves : goal.returns-in-Replay-clause-leaves
-returns-in-Replay-clause-leaves g c = λ p is. leaves-asked _ _ (over_tape (over_events (replay c.in-Replay.first_id))) p (sym c.in-Replay.is ∙ c.in-Ok.ensures.value) refl is c.replay.ensures.leaves
+returns-in-Replay-clause-leaves g c = λ p is. leaves-asked _ _ (tape_printout (over_events (replay c.in-Replay.first_id))) p (sym c.in-Replay.is ∙ c.in-Ok.ensures.value) refl is c.replay.ensures.leaves
 
 pub returns-in-Model-clause-leaves : goal.returns-in-Model-clause-leaves
-returns-in-Model-clause-leaves g c = λ p is. leaves-asked _ _ (over_tape (model_of c.in-Model.device)) p (sym c.in-Model.is ∙ c.in-Ok.ensures.value) refl is c.model.ensures.leaves
+returns-in-Model-clause-leaves g c = λ p is. leaves-asked _ _ (tape_printout (model_of c.in-Model.device)) p (sym c.in-Model.is ∙ c.in-Ok.ensures.value) refl is c.model.ensures.leaves
 
 pub returns-in-Show-clause-leaves : goal.returns-in-Show-clause-leaves
-returns-in-Show-clause-leaves g c = λ p is. leaves-asked _ _ (over_tape (over_events (show c.in-Show.side))) p (sym c.in-Show.is ∙ c.in-Ok.ensures.value) refl is c.show.ensures.leaves
+returns-in-Show-clause-leaves g c = λ p is. leaves-asked _ _ (tape_printout (over_events (show c.in-Show.side))) p (sym c.in-Show.is ∙ c.in-Ok.ensures.value) refl is c.show.ensures.leaves
 
 pub returns-in-Make-clause-leaves : goal.returns-in-Make-clause-leaves
 returns-in-Make-clause-leaves g c = λ p is. writes-asked _ _ (printed (made c.in-Make.count)) p (sym c.in-Make.is ∙ c.in-Ok.ensures.value) refl is c.make.ensures.leaves
@@ -91,10 +91,10 @@ pub returns-in-Load-clause-load_simulates : goal.returns-in-Load-clause-load_sim
 returns-in-Load-clause-load_simulates g c = λ count is done. simulates-count c.in-Load.count count (sym c.in-Load.is ∙ c.in-Ok.ensures.value ∙ is) (c.load.ensures.simulates done)
 
 pub returns-in-Replay-clause-unread : goal.returns-in-Replay-clause-unread
-returns-in-Replay-clause-unread g c = λ untaped. reads-tape _ _ (over_tape (over_events (replay c.in-Replay.first_id))) (sym c.in-Replay.is ∙ c.in-Ok.ensures.value) refl refl untaped
+returns-in-Replay-clause-unread g c = λ untaped. reads-tape _ _ (tape_printout (over_events (replay c.in-Replay.first_id))) (sym c.in-Replay.is ∙ c.in-Ok.ensures.value) refl refl untaped
 
 pub returns-in-Model-clause-unread : goal.returns-in-Model-clause-unread
-returns-in-Model-clause-unread g c = λ untaped. reads-tape _ _ (over_tape (model_of c.in-Model.device)) (sym c.in-Model.is ∙ c.in-Ok.ensures.value) refl refl untaped
+returns-in-Model-clause-unread g c = λ untaped. reads-tape _ _ (tape_printout (model_of c.in-Model.device)) (sym c.in-Model.is ∙ c.in-Ok.ensures.value) refl refl untaped
 
 pub returns-in-Show-clause-unread : goal.returns-in-Show-clause-unread
-returns-in-Show-clause-unread g c = λ untaped. reads-tape _ _ (over_tape (over_events (show c.in-Show.side))) (sym c.in-Show.is ∙ c.in-Ok.ensures.value) refl refl untaped
+returns-in-Show-clause-unread g c = λ untaped. reads-tape _ _ (tape_printout (over_events (show c.in-Show.side))) (sym c.in-Show.is ∙ c.in-Ok.ensures.value) refl refl untaped

@@ -14,7 +14,7 @@ use Rattle.made_tape.specs.Again.{IsReadAgain, AreReadAgain, TapeAgain}
 use Rattle.usbgate_tapes.specs.tape.Tape.{lines_of, content}
 use Rattle.usbgate_tapes.specs.Run.{HasNoLF}
 use Rattle.usbgate_tapes.specs.model.Model.{on_step, step_said, model}
-use Rattle.usbgate_tapes.specs.declared.tape.lines.TheConstants.{TAPE_LIMIT}
+use Rattle.packet_show.specs.declared.tape.TheConstants.{TAPE_LIMIT}
 use Rattle.usbgate_tapes.specs.tape.TapeCommand.{Progress, begin, one_further, next_line, Reading, on_line, read_lines, read_tape, last_text}
 use Rattle.usbgate_tapes.specs.Text.{bad_line}
 use Rattle.usbgate_tapes.specs.inner.model.Loaded.{with_step, steps_after}

@@ -12,7 +12,7 @@ use Rattle.direct_proof.specs.Simulates.{Simulates}
 use Rattle.made_tape.specs.Again.{TapeAgain}
 use Rattle.made_tape.specs.Rounds.{made_lines}
 use Rattle.usbgate_tapes.specs.declared.model.device.Device.{Device}
-use Rattle.usbgate_tapes.specs.declared.model.device.Device.TheVariants.{Keyboard, Loopback, Tone, Disk}
+use Rattle.usbgate_tapes.specs.declared.model.device.Device.TheVariants.{Keyboard}
 use Rattle.usbgate_tapes.specs.declared.status.Status.{Status}
 use Rattle.usbgate_tapes.specs.declared.status.Status.TheVariants.{OutOfMemory}
 use Rattle.usbgate_tapes.specs.model.Model.{model}
@@ -22,12 +22,6 @@ use Rattle.usbgate_tapes.specs.inner.model.Model.{HasDone}
 use Rattle.usbgate_tapes.specs.inner.tape.TapeReader.{ReadsTo}
 use Rattle.usbgate_tapes.proofs.lemmas.Going.{comes-too}
 use Rattle.usbgate_tapes.proofs.lemmas.model.Loaded.{kept-made}
-
--- of a device as it was made, which is the one that is named
-pub simulated-as : {S T : Type 0} (read_gives : T → List ℕ → Result ℕ Failed → T → Type 0) (remaining : T → Option (List ℕ)) (status : Status) (m : Meaning S) (old new : T) {device named : Device} {s t : S} → device ≡ named → s ≡ t
-    → (AreSimulated read_gives remaining status m t old new → RunSimulates read_gives remaining status named old new) → AreSimulated read_gives remaining status m s old new → RunSimulates read_gives remaining status device old new
-simulated-as read_gives remaining status m old new is made as_named h =
-    subst (λ d. RunSimulates read_gives remaining status d old new) (sym is) (as_named (subst (λ s. AreSimulated read_gives remaining status m s old new) made h))
 
 -- the law of systems
 abbrev pub SystemsAreDirect : {S : Type 0} → Meaning S → Type 0
@@ -46,9 +40,7 @@ are-simulated m s read_gives remaining status old new law reads = record {
 -- nothing is said of a run that memory was wanting for
 pub unsimulated : {T : Type 0} (read_gives : T → List ℕ → Result ℕ Failed → T → Type 0) (remaining : T → Option (List ℕ)) (device : Device) (old new : T) → RunSimulates read_gives remaining OutOfMemory device old new
 unsimulated read_gives remaining Keyboard old new = record { by_log = tt; where_told = tt }
-unsimulated read_gives remaining Loopback old new = record { by_log = tt; where_told = tt }
-unsimulated read_gives remaining Tone old new = record { by_log = tt; where_told = tt }
-unsimulated read_gives remaining Disk old new = record { by_log = tt; where_told = tt }
+unsimulated read_gives remaining _ old new = record { by_log = tt; where_told = tt }
 
 -- a made tape
 pub made-simulates : (count : ℕ) (gadget : State (List ℕ)) (k : SystemKept (State (List ℕ))) → gadget ≡ first_state loopback → TapeAgain (made_lines count) → SystemsAreDirect (meaning_of loopback)

@@ -9,10 +9,10 @@ use Rattle.usbgate_tapes.specs.declared.status.Status.{Status}
 use Rattle.usbgate_tapes.specs.declared.status.Status.TheVariants.{Done, Refused, BadTape}
 use Rattle.usbgate_tapes.specs.tape.Tape.{lines_of, content}
 use Rattle.usbgate_tapes.specs.Text.{bad_line}
-use Rattle.usbgate_tapes.specs.declared.tape.lines.TheConstants.{TAPE_LIMIT}
-use Rattle.usbgate_tapes.specs.tape.TapeCommand.{TapeCommand, Progress, begin, one_further, next_line, Reading, on_line, read_lines, read_tape, last_text, tape_text, tape_status}
+use Rattle.packet_show.specs.declared.tape.TheConstants.{TAPE_LIMIT}
+use Rattle.usbgate_tapes.specs.tape.TapeCommand.{TapeCommand, Progress, begin, one_further, next_line, Reading, on_line, read_lines, read_tape, last_text, whole_text, tape_status}
 use Rattle.usbgate_tapes.specs.Run.{EndsALine, HasNoLF}
-use Rattle.usbgate_tapes.specs.inner.tape.TapeReader.{IsKept, GoesOn, end_text, with_text, Stage, Spoilt, Took, Finished, Closes, Stepped, AllRead, TookLast, Spoils, TookLine, Kept}
+use Rattle.usbgate_tapes.specs.inner.tape.TapeReader.{IsKept, ReadsLine, end_text, with_text, Stage, Spoilt, Took, Finished, Closes, Stepped, AllRead, TookLast, Spoils, TookLine, KeepsPart}
 use Rattle.usbgate_tapes.proofs.lemmas.tape.Lines.{HasNoLF-append, EndsALine-append, EndsALine-line, lines_of-line, lines_of-last, first-part, line_end-some, line_end-none}
 
 -- the tape, cut behind its whole lines
@@ -101,7 +101,7 @@ module _ {C S : Type 0} (command : TapeCommand S) (Keeps : C → S → Type 0) w
   replay_line-bytes s line x e = line-bytes (nat_lt TAPE_LIMIT (s.bytes + length line)) s line x e
 
   stage-good : {old : TapeReader C} {read written : List ℕ} (new : TapeReader C) (piece front : List ℕ) (s : Stage command Keeps old read written) (o : Option (List ℕ × Progress S)) → old.pending ++ piece ≡ front ++ 10 ∷ []
-      → HasNoLF front → next_line command s.at (old.pending ++ piece) ≡ o → GoesOn Keeps o new.lines old.text new.text → new.pending ≡ [] → Stage command Keeps new (read ++ piece) written
+      → HasNoLF front → next_line command s.at (old.pending ++ piece) ≡ o → ReadsLine Keeps o new.lines old.text new.text → new.pending ≡ [] → Stage command Keeps new (read ++ piece) written
   stage-good new piece front s None line part e h cleared = absurd h
   stage-good {old = old} {read = read} {written = written} new piece front s (Some x) line part e h cleared = record {
     whole = s.whole ++ (old.pending ++ piece);
@@ -146,7 +146,7 @@ module _ {C S : Type 0} (command : TapeCommand S) (Keeps : C → S → Type 0) w
       (λ later. ap (λ (l : List ℕ). lines_of (l ++ later)) is ∙ (first-part b bs later none).is) (λ later. past_limit s.at (b ∷ bs) (first-part b bs later none).more past) h
 
   pub took-kept : {old : TapeReader C} {read written : List ℕ} (new : TapeReader C) (status : Option Status) (piece : List ℕ) (s : Stage command Keeps old read written) → HasNoLF piece
-      → Kept status s.at (old.pending ++ piece) old new → Took command Keeps status new (read ++ piece) written
+      → KeepsPart status s.at (old.pending ++ piece) old new → Took command Keeps status new (read ++ piece) written
   took-kept {old = old} {read = read} {written = written} new None piece s part h = subst (λ (p : TapeReader C). Stage command Keeps p (read ++ piece) written) (sym h.0) (record {
     whole = s.whole;
     text = s.text;
@@ -171,7 +171,7 @@ module _ {C S : Type 0} (command : TapeCommand S) (Keeps : C → S → Type 0) w
       record {
         number = s.number;
         status-is = s.status-is;
-        text = λ later. ap (tape_text command) (more later) ∙ s.text (drop n piece ++ later);
+        text = λ later. ap (whole_text command) (more later) ∙ s.text (drop n piece ++ later);
         outcome = λ later. ap (tape_status command) (more later) ∙ s.outcome (drop n piece ++ later);
         kept = λ later. subst (λ (l : List ℕ). IsKept Keeps (read_tape command l).after.kept) (sym (more later)) (s.kept (drop n piece ++ later));
       }
@@ -197,7 +197,7 @@ module _ {C S : Type 0} (command : TapeCommand S) (Keeps : C → S → Type 0) w
       ∙ ap (λ (x : Option (List ℕ × Progress S)). with_text s.text (on_line s.at (λ z. read_lines command z []) x)) e
 
   last-good : {old : TapeReader C} {read written : List ℕ} (new : TapeReader C) (s : Stage command Keeps old read written) (o : Option (List ℕ × Progress S)) → (old.pending ≡ [] → ⊥) → next_line command s.at old.pending ≡ o
-      → GoesOn Keeps o new.lines old.text new.text → AllRead command Keeps new read written
+      → ReadsLine Keeps o new.lines old.text new.text → AllRead command Keeps new read written
   last-good new s None some e h = absurd h
   last-good {old = old} {read = read} {written = written} new s (Some x) some e h = record {
     text = s.text ++ x.0;
@@ -234,7 +234,7 @@ module _ {C S : Type 0} (command : TapeCommand S) (Keeps : C → S → Type 0) w
   -- ---- a front of the text
 
   -- however the tape goes on, its text begins with what was told
-  pub text_begins : {p : TapeReader C} {read written : List ℕ} → Stage command Keeps p read written → (later : List ℕ) → (back : List ℕ) × (tape_text command (read ++ later) ≡ (written ++ p.text) ++ back)
+  pub text_begins : {p : TapeReader C} {read written : List ℕ} → Stage command Keeps p read written → (later : List ℕ) → (back : List ℕ) × (whole_text command (read ++ later) ≡ (written ++ p.text) ++ back)
   text_begins {p = p} {read = read} {written = written} s later =
       let y = read_lines command s.at (lines_of (p.pending ++ later)) in
       let plays : read_lines command (begin command) (lines_of (read ++ later)) ≡ with_text s.text y =
@@ -263,11 +263,11 @@ module _ {C S : Type 0} (command : TapeCommand S) (Keeps : C → S → Type 0) w
   -- what comes after the last LF of a piece
   pub took-rest : {old : TapeReader C} {written : List ℕ} (read : List ℕ) (new : TapeReader C) (status : Option Status) (piece : List ℕ) (from : ℕ) (s : Stage command Keeps old (read ++ take from piece) written)
       → None ≡ position (λ b. nat_eq b 10) (take (length piece - from) (drop from piece))
-      → Kept status s.at (old.pending ++ take (length piece - from) (drop from piece)) old new → Took command Keeps status new (read ++ piece) written
+      → KeepsPart status s.at (old.pending ++ take (length piece - from) (drop from piece)) old new → Took command Keeps status new (read ++ piece) written
   took-rest {old = old} {written = written} read new status piece from s e h =
       let none = line_end-none (drop from piece) (sym (e ∙ ap (λ (l : List ℕ). position (λ b. nat_eq b 10) l) (take_rest piece from))) in
       subst (λ (l : List ℕ). Took command Keeps status new l written) (append_assoc read (take from piece) (drop from piece) ∙ ap (λ (l : List ℕ). read ++ l) (take-append-drop from piece))
-      (took-kept new status (drop from piece) s none (subst (λ (l : List ℕ). Kept status s.at (old.pending ++ l) old new) (take_rest piece from) h))
+      (took-kept new status (drop from piece) s none (subst (λ (l : List ℕ). KeepsPart status s.at (old.pending ++ l) old new) (take_rest piece from) h))
 
   -- ---- what may still come
 
@@ -286,7 +286,7 @@ module _ {C S : Type 0} (command : TapeCommand S) (Keeps : C → S → Type 0) w
       let whole : (later : List ℕ) → later ≡ [] → (read ++ piece) ++ later ≡ read =
       λ later none. ap (λ (l : List ℕ). (read ++ l) ++ later) e ∙ ap (λ (l : List ℕ). (read ++ []) ++ l) none ∙ append-nil (read ++ []) ∙ append-nil read in
       record {
-        text = λ later none. ap (tape_text command) (whole later (none e)) ∙ f.text;
+        text = λ later none. ap (whole_text command) (whole later (none e)) ∙ f.text;
         outcome = λ later none. ap (tape_status command) (whole later (none e)) ∙ f.outcome;
         kept = λ later none. subst (λ (l : List ℕ). IsKept Keeps (read_tape command l).after.kept) (sym (whole later (none e))) f.kept;
         bad = λ some. absurd (some e);

@@ -5,9 +5,9 @@ use Rattle.std.specs.Result.{OnErr}
 use Rattle.std.proofs.lemmas.List.{append-nil, length-append, take-append-drop, take_rest}
 use Rattle.std.proofs.Math.Seq.{take-add}
 use Rattle.usbgate_tapes.specs.declared.tape.reader.TapeReader.{TapeReader}
-use Rattle.usbgate_tapes.specs.Prescribed.{over_tape}
+use Rattle.usbgate_tapes.specs.Printout.{tape_printout}
 use Rattle.usbgate_tapes.specs.tape.Tape.{lines_of, content}
-use Rattle.usbgate_tapes.specs.declared.tape.lines.TheConstants.{TAPE_LIMIT}
+use Rattle.packet_show.specs.declared.tape.TheConstants.{TAPE_LIMIT}
 use Rattle.usbgate_tapes.specs.tape.TapeCommand.{TapeCommand, Progress, begin, next_line, Reading, on_line, read_lines, read_tape, front_text}
 use Rattle.usbgate_tapes.specs.Run.{EndsALine, HasNoLF}
 use Rattle.usbgate_tapes.specs.Wants.{IsJoined, LineWants, PieceWants, ReadWants}
@@ -68,13 +68,13 @@ module _ {C S : Type 0} (command : TapeCommand S) (Keeps : C → S → Type 0) w
   pub all-good : {p : TapeReader C} {tape written : List ℕ} → AllRead command Keeps p tape written → (read_tape command tape).bad ≡ false
   all-good all = ap (λ (x : Reading S). x.bad) all.reads
 
-  pub end-wanted : (read piece : List ℕ) → piece ≡ [] → (read_tape command read).bad ≡ false → ReadWants (over_tape command) read piece
+  pub end-wanted : (read piece : List ℕ) → piece ≡ [] → (read_tape command read).bad ≡ false → ReadWants (tape_printout command) read piece
   end-wanted read piece none good = inl (none, good-front command.opening (read_tape command read) good)
 
   -- ---- a line that ends in the piece
 
   line-wants : {old : TapeReader C} {read written : List ℕ} (s : Stage command Keeps old read written) (last front : List ℕ) → last ≡ front ++ 10 ∷ [] → HasNoLF front
-      → IsJoined old.pending last ⊎ ((command.says (content (old.pending ++ last)) ≡ true) × (next_line command s.at (old.pending ++ last) ≡ None → ⊥)) → LineWants (over_tape command) s.whole old.pending last
+      → IsJoined old.pending last ⊎ ((command.says (content (old.pending ++ last)) ≡ true) × (next_line command s.at (old.pending ++ last) ≡ None → ⊥)) → LineWants (tape_printout command) s.whole old.pending last
   line-wants s last front is part (inl joined) = inl joined
   line-wants {old = old} s last front is part (inr good) = inr (
     good.0,
@@ -83,7 +83,7 @@ module _ {C S : Type 0} (command : TapeCommand S) (Keeps : C → S → Type 0) w
   )
 
   pub line-wanted : {old : TapeReader C} {written : List ℕ} (read piece : List ℕ) (from len : ℕ) (s : Stage command Keeps old (read ++ take from piece) written) → EndsALine (take from piece)
-      → Some len ≡ position (λ b. nat_eq b 10) (take (length piece - from) (drop from piece)) → EndWants command s.at old.pending (take (from + len + 1 - from) (drop from piece)) → PieceWants (over_tape command) read piece
+      → Some len ≡ position (λ b. nat_eq b 10) (take (length piece - from) (drop from piece)) → EndWants command s.at old.pending (take (from + len + 1 - from) (drop from piece)) → PieceWants (tape_printout command) read piece
   line-wanted {old = old} read piece from len s ends e wants =
       let at = line_end-some (drop from piece) len (sym (e ∙ ap (λ (l : List ℕ). position (λ b. nat_eq b 10) l) (take_rest piece from))) in
       let more : from + len + 1 - from ≡ len + 1 = omega arith in
@@ -110,7 +110,7 @@ module _ {C S : Type 0} (command : TapeCommand S) (Keeps : C → S → Type 0) w
 
   pub part-wanted : {old : TapeReader C} {written : List ℕ} (read piece : List ℕ) (from : ℕ) (s : Stage command Keeps old (read ++ take from piece) written) → EndsALine (take from piece)
       → None ≡ position (λ b. nat_eq b 10) (take (length piece - from) (drop from piece)) → 0 < length (take (length piece - from) (drop from piece))
-      → length (old.pending ++ take (length piece - from) (drop from piece)) ≤ old.lines.room → PieceWants (over_tape command) read piece
+      → length (old.pending ++ take (length piece - from) (drop from piece)) ≤ old.lines.room → PieceWants (tape_printout command) read piece
   part-wanted {old = old} read piece from s ends e some room =
       let none = line_end-none (drop from piece) (sym (e ∙ ap (λ (l : List ℕ). position (λ b. nat_eq b 10) l) (take_rest piece from))) in
       let room : length (old.pending ++ drop from piece) ≤ old.lines.room = subst (λ (l : List ℕ). length (old.pending ++ l) ≤ old.lines.room) (take_rest piece from) room in

@@ -1,6 +1,6 @@
 use Rattle.std.proofs.Common.{ℕ, List, ◌++◌, ap, ◌∙◌}
 use Rattle.usbgate_tapes.specs.model.Model.{model}
-use Rattle.usbgate_tapes.specs.Prescribed.{over_tape}
+use Rattle.usbgate_tapes.specs.Printout.{tape_printout}
 use Rattle.usbgate_tapes.proofs.lemmas.model.Simulated.{are-simulated}
 use Rattle.usbgate_tapes.proofs.lemmas.Unread.{leaves-none}
 use Rattle.usbgate_tapes.proofs.runs.model_with.Goals as goal
@@ -22,4 +22,4 @@ returns-in-Ok-clause-simulates g c =
     (c.over_tape.ensures.runs c.args.gadget c.in-Ok.ensures.start (c.in-Ok.ensures.text ∙ ap (λ (l : List ℕ). l ++ opening) c.new-text.ensures)).kept
 
 pub returns-in-Err-clause-leaves : goal.returns-in-Err-clause-leaves
-returns-in-Err-clause-leaves g c = leaves-none g.S.Source.read_gives g.K.Sink.write_gives g.S.Source.remaining g.K.Sink.contents (over_tape (model g.G.Gadget.meaning c.args.gadget)) c.args.tape.now c.args.out.now
+returns-in-Err-clause-leaves g c = leaves-none g.S.Source.read_gives g.K.Sink.write_gives g.S.Source.remaining g.K.Sink.contents (tape_printout (model g.G.Gadget.meaning c.args.gadget)) c.args.tape.now c.args.out.now

@@ -1,7 +1,7 @@
 use Rattle.std.proofs.Common.{ℕ, List, ◌++◌, ap, ◌∙◌}
 use Rattle.usbgate_tapes.specs.Replay.{replay}
 use Rattle.usbgate_tapes.specs.tape.EventCommand.{over_events}
-use Rattle.usbgate_tapes.specs.Prescribed.{over_tape}
+use Rattle.usbgate_tapes.specs.Printout.{tape_printout}
 use Rattle.usbgate_tapes.proofs.lemmas.Unread.{leaves-none}
 use Rattle.usbgate_tapes.proofs.runs.replay.Goals as goal
 
@@ -16,4 +16,4 @@ returns-in-Ok-clause-leaves g c =
     (c.over_tape.ensures.runs command (c.start-in-Ok.ensures command c.in-Ok.ensures.start) (c.in-Ok.ensures.text ∙ ap (λ (l : List ℕ). l ++ command.opening) c.new-text.ensures)).leaves
 
 pub returns-in-Err-clause-leaves : goal.returns-in-Err-clause-leaves
-returns-in-Err-clause-leaves g c = leaves-none g.S.Source.read_gives g.K.Sink.write_gives g.S.Source.remaining g.K.Sink.contents (over_tape (over_events (replay c.args.first_id))) c.args.tape.now c.args.out.now
+returns-in-Err-clause-leaves g c = leaves-none g.S.Source.read_gives g.K.Sink.write_gives g.S.Source.remaining g.K.Sink.contents (tape_printout (over_events (replay c.args.first_id))) c.args.tape.now c.args.out.now

@@ -1,6 +1,7 @@
 -- What a modelled run keeps of the steps that it has done.
-use Rattle.std.specs.Prelude.{◌≡◌, Bool, true, false, List, [], ◌∷◌, Option, Some, None}
+use Rattle.std.specs.Prelude.{◌≡◌, ℕ, Bool, true, false, List, [], ◌∷◌, Option, Some, None, Result}
 use Rattle.usb_base.specs.declared.refusal.Refusal.{Refusal}
+use Rattle.gate_outside.specs.declared.fault.Failed.{Failed}
 use Rattle.gate_history.specs.step.History.{history}
 use Rattle.model_device.specs.Meaning.{Meaning}
 use Rattle.direct_run.specs.declared.told.Told.{Told}
@@ -9,7 +10,12 @@ use Rattle.direct_run.specs.Stands.{Stands, Takes}
 use Rattle.direct_run.specs.Steps.{Step}
 use Rattle.direct_run.specs.World.{first_id, course}
 use Rattle.usbgate_tapes.specs.declared.model.ModelRun.{ModelRun}
+use Rattle.usbgate_tapes.specs.declared.status.Status.{Status}
+use Rattle.usbgate_tapes.specs.Logs.{RunLeaves}
+use Rattle.usbgate_tapes.specs.Printout.{tape_printout}
 use Rattle.usbgate_tapes.specs.Replay.{has_refusal}
+use Rattle.usbgate_tapes.specs.model.Model.{model}
+use Rattle.usbgate_tapes.specs.model.Simulated.{AreSimulated}
 
 -- it is the modelled run of a device that began in state s, with which these steps were done
 pub record HasDone {S : Type 0} (m : Meaning S) (s : S) (r : ModelRun S) (steps : List Step) : Type 0 where
@@ -26,3 +32,8 @@ TakesSaid m s new steps (Some x) (Some told) = Takes m s new steps x told
 abbrev pub has_some : List Refusal → Bool
 has_some [] = false
 has_some (r ∷ rs) = true
+
+-- what is left where the steps of a tape were done with a device, whichever it is
+pub record IsModelled {S T K : Type 0} (read_gives : T → List ℕ → Result ℕ Failed → T → Type 0) (write_gives : K → List ℕ → Result ℕ Failed → K → Type 0) (remaining : T → Option (List ℕ)) (contents : K → Option (List ℕ)) (status : Status) (m : Meaning S) (s : S) (tape_old tape_new : T) (out_old out_new : K) : Type 0 where
+  pub leaves : RunLeaves read_gives write_gives remaining contents status (tape_printout (model m s)) tape_old tape_new out_old out_new
+  pub simulates : AreSimulated read_gives remaining status m s tape_old tape_new

@@ -27,7 +27,7 @@ pub record IsShow {S P : Type 0} (shown : Shown S P) (command : EventCommand) (r
   pub has_shown : HasShown shown refused kept events
 
 -- the lines of an event are put behind the text, and it has been shown
-pub record Sees {S P : Type 0} (shown : Shown S P) (events : List Event) (e : Event) (refused_old refused_new : Bool) (old new : StreamView S) (text_old text_new : List ℕ) : Type 0 where
+pub record ShowsEvent {S P : Type 0} (shown : Shown S P) (events : List Event) (e : Event) (refused_old refused_new : Bool) (old new : StreamView S) (text_old text_new : List ℕ) : Type 0 where
   pub sees : HasShown shown refused_old old events → (text_new ≡ text_old ++ (show_side shown).text events e) × HasShown shown refused_new new (e ∷ events)
 
 -- ---- the packets that a piece makes whole
@@ -39,8 +39,8 @@ pub record Shows {S P : Type 0} (shown : Shown S P) (kept : StreamView S) (bytes
   pub text-is : text_new ≡ text_old ++ packet_lines shown more
 
 -- so far
-abbrev pub GoesOn : {S P : Type 0} → Shown S P → StreamView S → StreamView S → List ℕ → List ℕ → Type 0
-GoesOn {S = S} {P = P} shown old new text_old text_new =
+abbrev pub ShowsSoFar : {S P : Type 0} → Shown S P → StreamView S → StreamView S → List ℕ → List ℕ → Type 0
+ShowsSoFar {S = S} {P = P} shown old new text_old text_new =
     (bytes : List ℕ) (given : List (ℕ × P)) → Follows shown.reader shown.start old bytes given → Shows shown new bytes given text_old text_new
 
 -- all were given

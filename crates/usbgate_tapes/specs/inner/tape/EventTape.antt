@@ -7,8 +7,8 @@ use Rattle.usbgate_tapes.specs.tape.Tape.{event_said, host_ended, may_happen}
 use Rattle.usbgate_tapes.specs.tape.EventCommand.{EventCommand}
 
 -- it is this command over events, which has seen these
-pub record HasEvents {E : Type 0} (HasSeen : EventCommand → E → List Event → Type 0) (told : EventCommand) (t : EventTape E) (events : List Event) : Type 0 where
-  pub seen : HasSeen told t.command events
+pub record HasEvents {E : Type 0} (HasSeen : EventCommand → E → List Event → Type 0) (command : EventCommand) (t : EventTape E) (events : List Event) : Type 0 where
+  pub seen : HasSeen command t.command events
   pub host_ended-is : t.host_ended ≡ host_ended events
 
 -- the event that a line says, if there is one, may happen behind these

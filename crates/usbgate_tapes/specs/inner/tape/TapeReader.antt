@@ -8,9 +8,9 @@ use Rattle.usbgate_tapes.specs.declared.status.Status.{Status}
 use Rattle.usbgate_tapes.specs.declared.status.Status.TheVariants.{Done, Usage, Refused, ReadFault, WriteFault, LinkFault, OutOfMemory, BadTape, Idle, Spent}
 use Rattle.usbgate_tapes.specs.tape.Tape.{lines_of, content}
 use Rattle.usbgate_tapes.specs.Text.{bad_line}
-use Rattle.usbgate_tapes.specs.declared.tape.lines.TheConstants.{TAPE_LIMIT}
-use Rattle.usbgate_tapes.specs.tape.TapeCommand.{TapeCommand, Progress, begin, next_line, Reading, read_lines, read_tape, tape_text, tape_status}
-use Rattle.usbgate_tapes.specs.Prescribed.{over_tape}
+use Rattle.packet_show.specs.declared.tape.TheConstants.{TAPE_LIMIT}
+use Rattle.usbgate_tapes.specs.tape.TapeCommand.{TapeCommand, Progress, begin, next_line, Reading, read_lines, read_tape, whole_text, tape_status}
+use Rattle.usbgate_tapes.specs.Printout.{tape_printout}
 use Rattle.usbgate_tapes.specs.Run.{EndsALine, HasNoLF, ComesToEnd}
 use Rattle.usbgate_tapes.specs.Logs.{HoldsOfRead, RunLeaves}
 use Rattle.usbgate_tapes.specs.Wants.{IsJoined}
@@ -34,9 +34,9 @@ TakesLine Keeps None new text_old text_new = ⊥
 TakesLine Keeps (Some x) new text_old text_new = (text_new ≡ text_old ++ x.0) × Keeps new x.1
 
 -- of a line that is good its text is put behind the text
-abbrev pub GoesOn : {C S : Type 0} → (C → S → Type 0) → Option (List ℕ × Progress S) → TapeLines C → List ℕ → List ℕ → Type 0
-GoesOn Keeps None new text_old text_new = ⊥
-GoesOn Keeps (Some x) new text_old text_new = (text_new ≡ text_old ++ x.0) × HasRead Keeps new x.1
+abbrev pub ReadsLine : {C S : Type 0} → (C → S → Type 0) → Option (List ℕ × Progress S) → TapeLines C → List ℕ → List ℕ → Type 0
+ReadsLine Keeps None new text_old text_new = ⊥
+ReadsLine Keeps (Some x) new text_old text_new = (text_new ≡ text_old ++ x.0) × HasRead Keeps new x.1
 
 -- memory was wanting for the line after s: to join its parts, or it is good, and says something; it doesn't pass the limit
 pub record EndWants {S : Type 0} (command : TapeCommand S) (s : Progress S) (pending last : List ℕ) : Type 0 where
@@ -80,7 +80,7 @@ pub record Stage {C S : Type 0} (command : TapeCommand S) (Keeps : C → S → T
 pub record Spoilt {C S : Type 0} (command : TapeCommand S) (Keeps : C → S → Type 0) (status : Status) (p : TapeReader C) (read written : List ℕ) : Type 0 where
   pub number : ℕ
   pub status-is : status ≡ BadTape number
-  pub text : (later : List ℕ) → tape_text command (read ++ later) ≡ written ++ (p.text ++ end_text status)
+  pub text : (later : List ℕ) → whole_text command (read ++ later) ≡ written ++ (p.text ++ end_text status)
   pub outcome : (later : List ℕ) → tape_status command (read ++ later) ≡ status
   pub kept : (later : List ℕ) → IsKept Keeps (read_tape command (read ++ later)).after.kept
 
@@ -90,13 +90,13 @@ Took command Keeps (Some status) p read written = Spoilt command Keeps status p 
 
 -- the tape has come to its end, and so has its text
 pub record Finished {C S : Type 0} (command : TapeCommand S) (Keeps : C → S → Type 0) (status : Status) (p : TapeReader C) (tape written : List ℕ) : Type 0 where
-  pub text : tape_text command tape ≡ written ++ (p.text ++ end_text status)
+  pub text : whole_text command tape ≡ written ++ (p.text ++ end_text status)
   pub outcome : tape_status command tape ≡ status
   pub kept : IsKept Keeps (read_tape command tape).after.kept
 
 -- the run ends: at the tape's end, where an empty piece comes, or at a bad line, however the tape goes on
 pub record Closes {C S : Type 0} (command : TapeCommand S) (Keeps : C → S → Type 0) (status : Status) (p : TapeReader C) (piece read written : List ℕ) : Type 0 where
-  pub text : (later : List ℕ) → (piece ≡ [] → later ≡ []) → tape_text command ((read ++ piece) ++ later) ≡ written ++ (p.text ++ end_text status)
+  pub text : (later : List ℕ) → (piece ≡ [] → later ≡ []) → whole_text command ((read ++ piece) ++ later) ≡ written ++ (p.text ++ end_text status)
   pub outcome : (later : List ℕ) → (piece ≡ [] → later ≡ []) → tape_status command ((read ++ piece) ++ later) ≡ status
   pub kept : (later : List ℕ) → (piece ≡ [] → later ≡ []) → IsKept Keeps (read_tape command ((read ++ piece) ++ later)).after.kept
   pub bad : (piece ≡ [] → ⊥) → (number : ℕ) × (status ≡ BadTape number)
@@ -125,13 +125,13 @@ pub record Spoils {S : Type 0} (status : Status) (s : Progress S) (text_old text
   pub text-is : text_new ≡ text_old
 
 abbrev pub TookLine : {C S : Type 0} → TapeCommand S → (C → S → Type 0) → Option Status → Progress S → List ℕ → TapeReader C → TapeReader C → Type 0
-TookLine command Keeps None s line old new = GoesOn Keeps (next_line command s line) new.lines old.text new.text × (new.pending ≡ [])
+TookLine command Keeps None s line old new = ReadsLine Keeps (next_line command s line) new.lines old.text new.text × (new.pending ≡ [])
 TookLine command Keeps (Some status) s line old new = (next_line command s line ≡ None) × Spoils status s old.text new.text
 
 -- a part of a line is kept, unless the line passes the limit
-abbrev pub Kept : {C S : Type 0} → Option Status → Progress S → List ℕ → TapeReader C → TapeReader C → Type 0
-Kept None s part old new = (new ≡ record old { pending = part }) × (s.bytes + length part ≤ TAPE_LIMIT)
-Kept (Some status) s part old new = (TAPE_LIMIT < s.bytes + length part) × Spoils status s old.text new.text
+abbrev pub KeepsPart : {C S : Type 0} → Option Status → Progress S → List ℕ → TapeReader C → TapeReader C → Type 0
+KeepsPart None s part old new = (new ≡ record old { pending = part }) × (s.bytes + length part ≤ TAPE_LIMIT)
+KeepsPart (Some status) s part old new = (TAPE_LIMIT < s.bytes + length part) × Spoils status s old.text new.text
 
 -- ---- a whole run
 
@@ -144,5 +144,5 @@ pub record ReadsTo {C S T : Type 0} (read_gives : T → List ℕ → Result ℕ 
 -- what a run leaves, and to what it has read
 pub record Runs {C T S K : Type 0} (command : TapeCommand T) (Keeps : C → T → Type 0) (read_gives : S → List ℕ → Result ℕ Failed → S → Type 0) (write_gives : K → List ℕ → Result ℕ Failed → K → Type 0) (remaining : S → Option (List ℕ)) (contents : K → Option (List ℕ))
     (status : Status) (tape_old tape_new : S) (out_old out_new : K) : Type 0 where
-  pub leaves : RunLeaves read_gives write_gives remaining contents status (over_tape command) tape_old tape_new out_old out_new
+  pub leaves : RunLeaves read_gives write_gives remaining contents status (tape_printout command) tape_old tape_new out_old out_new
   pub kept : ReadsTo read_gives remaining status Keeps command tape_old tape_new

@@ -1,5 +1,5 @@
 use Rattle.usbgate_tapes.specs.model.Made.{loaded}
-use Rattle.usbgate_tapes.specs.Prescribed.{printed}
+use Rattle.usbgate_tapes.specs.Printout.{printed}
 use Rattle.usbgate_tapes.proofs.lemmas.Unread.{wrote-none}
 use Rattle.usbgate_tapes.proofs.model.load.load.Goals as goal
 

@@ -1,5 +1,5 @@
 use Rattle.usbgate_tapes.specs.model.Made.{made}
-use Rattle.usbgate_tapes.specs.Prescribed.{printed}
+use Rattle.usbgate_tapes.specs.Printout.{printed}
 use Rattle.usbgate_tapes.proofs.lemmas.Unread.{wrote-none}
 use Rattle.usbgate_tapes.proofs.model.make.make.Goals as goal
 

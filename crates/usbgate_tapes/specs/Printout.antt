@@ -3,9 +3,9 @@ use Rattle.std.specs.Prelude.{Bool, true, false, List, [], ◌∷◌, ◌++◌, 
 use Rattle.usbgate_tapes.specs.declared.status.Status.{Status}
 use Rattle.usbgate_tapes.specs.declared.status.Status.TheVariants.{Done, Usage}
 use Rattle.packet_show.specs.Line.{LF}
-use Rattle.usbgate_tapes.specs.tape.TapeCommand.{TapeCommand, tape_text, tape_status, front_text}
+use Rattle.usbgate_tapes.specs.tape.TapeCommand.{TapeCommand, whole_text, tape_status, front_text}
 
-pub record Prescribed : Type 0 where
+pub record Printout : Type 0 where
   -- whether a tape is read
   pub taped : Bool
   -- the whole text of a tape
@@ -18,15 +18,15 @@ pub record Prescribed : Type 0 where
   -- whether a line of a tape says something, by its content; only what it says may take memory
   pub says : List ℕ → Bool
 
-abbrev pub over_tape : {S : Type 0} → TapeCommand S → Prescribed
-over_tape command = record { taped = true; text = λ tape. tape_text command tape; status = λ tape. tape_status command tape; front = λ whole. front_text command whole; rest = λ tape. []; says = command.says }
+abbrev pub tape_printout : {S : Type 0} → TapeCommand S → Printout
+tape_printout command = record { taped = true; text = λ tape. whole_text command tape; status = λ tape. tape_status command tape; front = λ whole. front_text command whole; rest = λ tape. []; says = command.says }
 
 -- a text for which no tape is read
-abbrev pub untaped : Status → List ℕ → Prescribed
+abbrev pub untaped : Status → List ℕ → Printout
 untaped status text = record { taped = false; text = λ tape. text; status = λ tape. status; front = λ whole. None; rest = λ tape. tape; says = λ line. false }
 
-abbrev pub usage : Prescribed
+abbrev pub usage : Printout
 usage = untaped Usage (codes "usage: usbgate COMMAND [options]" ++ LF ∷ [])
 
-abbrev pub printed : List ℕ → Prescribed
+abbrev pub printed : List ℕ → Printout
 printed text = untaped Done text

@@ -2,7 +2,7 @@
 use Rattle.std.specs.Prelude.{Option, Some, None}
 use Rattle.usbgate_commands.specs.declared.words.Command.{Command}
 use Rattle.usbgate_commands.specs.declared.words.Command.TheVariants.{Replay, Model, Show, Make, Load, Unknown}
-use Rattle.usbgate_tapes.specs.Prescribed.{Prescribed, over_tape, printed, usage}
+use Rattle.usbgate_tapes.specs.Printout.{Printout, tape_printout, printed, usage}
 use Rattle.usbgate_tapes.specs.tape.EventCommand.{over_events}
 use Rattle.usbgate_tapes.specs.Replay.{replay}
 use Rattle.usbgate_tapes.specs.model.Model.{model_of}
@@ -10,11 +10,11 @@ use Rattle.usbgate_tapes.specs.Show.{show}
 use Rattle.usbgate_tapes.specs.model.Made.{made, loaded}
 
 -- none where sockets are what it works on
-abbrev pub prescribed : Command → Option Prescribed
-prescribed (Replay first) = Some (over_tape (over_events (replay first)))
-prescribed (Model device) = Some (over_tape (model_of device))
-prescribed (Show side) = Some (over_tape (over_events (show side)))
-prescribed (Make count) = Some (printed (made count))
-prescribed (Load count) = Some (printed (loaded count))
-prescribed Unknown = Some usage
-prescribed _ = None
+abbrev pub printout_of : Command → Option Printout
+printout_of (Replay first) = Some (tape_printout (over_events (replay first)))
+printout_of (Model device) = Some (tape_printout (model_of device))
+printout_of (Show side) = Some (tape_printout (over_events (show side)))
+printout_of (Make count) = Some (printed (made count))
+printout_of (Load count) = Some (printed (loaded count))
+printout_of Unknown = Some usage
+printout_of _ = None
