@@ -2,7 +2,6 @@
 use Rattle.std.specs.Prelude.{ℕ, Bool, true, false, List, [], ◌∷◌, Option, Some, None}
 use Rattle.std.specs.List.{filter_map, flat_map, list_any}
 use Rattle.usb_base.specs.declared.side.Side.TheVariants.{Client, Host}
-use Rattle.usb_base.specs.declared.refusal.Refusal.{Refusal}
 use Rattle.gate_history.specs.declared.note.Note.{Note}
 use Rattle.gate_history.specs.declared.note.Note.TheVariants as note
 use Rattle.gate_history.specs.step.Events.{Event as GateEvent}
@@ -10,6 +9,7 @@ use Rattle.gate_history.specs.step.Events as gate
 use Rattle.gate_history.specs.step.History.{history}
 use Rattle.gate_history.specs.write.Notes.{notes_of}
 use Rattle.gate_history.specs.write.All.{all_of}
+use Rattle.gate_history.specs.write.Refusals.{refusal_in}
 use Rattle.gate_history.specs.write.Bytes.{out_client, out_host}
 use Rattle.bridge_run.specs.Events.{LinkEvent, SidePiece, SideEnd}
 use Rattle.bridge_run.specs.Prescribed.{Prescribed, gained}
@@ -26,10 +26,6 @@ gate_event e = None
 
 abbrev pub gate_events : List LinkEvent → List GateEvent
 gate_events events = filter_map gate_event events
-
-abbrev pub refusal_in : Note → List Refusal
-refusal_in (note.Refused refusal) = refusal ∷ []
-refusal_in _ = []
 
 -- all notes of these events, the earliest first
 abbrev pub gate_notes : ℕ → List LinkEvent → List Note

@@ -4,7 +4,8 @@ ghost use Rattle.std.specs.Prelude.{◌≡◌, ◌++◌, ◌||◌, false, true, 
 ghost use Rattle.std.specs.List.{flat_map, list_any};
 ghost use Rattle.gate_history.specs.step.Events.{event_of as told_of};
 ghost use Rattle.bridge_run.specs.Events.{SidePiece, SideEnd};
-ghost use Rattle.bridge_run.specs.Gate.{gate_event, refusal_in, is_loss};
+ghost use Rattle.gate_history.specs.write.Refusals.{refusal_in};
+ghost use Rattle.bridge_run.specs.Gate.{gate_event, is_loss};
 ghost use Rattle.bridge_run.specs.Recorded.{has_any};
 
 use crate::after_loss::AfterLoss;

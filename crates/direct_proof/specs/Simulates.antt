@@ -18,7 +18,7 @@ use Rattle.direct_run.specs.declared.item.Item.{Item}
 use Rattle.direct_run.specs.declared.item.Item.TheVariants as item
 use Rattle.direct_run.specs.Clients.{present}
 use Rattle.direct_run.specs.Follows.{is_refusal}
-use Rattle.direct_run.specs.Noted.{refusal_in}
+use Rattle.gate_history.specs.write.Refusals.{refusal_in}
 use Rattle.direct_run.specs.Steps.{Step, Unplug}
 use Rattle.direct_run.specs.Trace.{told_by}
 use Rattle.direct_run.specs.World.{Course, course, first_id}

@@ -26,7 +26,8 @@ use Rattle.direct_run.specs.declared.submitted.Submitted.{Submitted}
 use Rattle.direct_run.specs.declared.told.Told.{Told}
 use Rattle.direct_run.specs.Kept.{SystemKept}
 use Rattle.direct_run.specs.World.{Course, first_id, happened, acted, sent_to_host, sent_to_gate}
-use Rattle.direct_run.specs.Noted.{item_of, refusal_in, named}
+use Rattle.gate_history.specs.write.Refusals.{refusal_in}
+use Rattle.direct_run.specs.Noted.{item_of, named}
 use Rattle.direct_run.specs.Trace.{given_of, trace, untold}
 use Rattle.direct_run.specs.Stands.{Runs}
 use Rattle.direct_run.specs.inner.Doing.{DoesEvent, DoesAct}

@@ -1,7 +1,6 @@
--- What notes tell: items, refusals, and the submits that were accepted.
+-- What notes tell: items, and the submits that were accepted.
 use Rattle.std.specs.Prelude.{ℕ, ◌==◌, if◌then◌else◌, List, [], ◌∷◌, find, reverse}
 use Rattle.std.specs.Option.{option_map_or}
-use Rattle.usb_base.specs.declared.refusal.Refusal.{Refusal}
 use Rattle.gate_history.specs.declared.note.Note.{Note}
 use Rattle.gate_history.specs.declared.note.Note.TheVariants as note
 use Rattle.redir_host.specs.declared.note.HostNote.{HostNote}
@@ -26,10 +25,6 @@ item_of (note.Answered seqnum) = item.Answer seqnum ∷ []
 item_of note.DeviceGone = item.Gone ∷ []
 item_of note.ClientGone = item.ClientGone ∷ []
 item_of (note.Refused refusal) = []
-
-abbrev pub refusal_in : Note → List Refusal
-refusal_in (note.Refused refusal) = refusal ∷ []
-refusal_in _ = []
 
 -- ---- ids and numbers
 

@@ -17,7 +17,8 @@ use Rattle.redir_host.specs.device.Performing.{told_performed}
 use Rattle.direct_run.specs.declared.item.Item.{Item}
 use Rattle.direct_run.specs.declared.submitted.Submitted.{Submitted}
 use Rattle.direct_run.specs.declared.told.Told.{Told}
-use Rattle.direct_run.specs.Noted.{item_of, item_of_host, refusal_in, named, performed_item, offered_item}
+use Rattle.gate_history.specs.write.Refusals.{refusal_in}
+use Rattle.direct_run.specs.Noted.{item_of, item_of_host, named, performed_item, offered_item}
 use Rattle.direct_run.specs.Steps.{Step, Client, ClientEnd, ToHost, ToGate, Perform, Offer, Unplug}
 use Rattle.direct_run.specs.World.{Course, first_id, nothing_yet, sent_to_host, sent_to_gate, wire_to_host, wire_to_gate, course}
 

@@ -10,7 +10,8 @@ ghost use Rattle.direct_run.specs.Steps.{Step as PastStep, step_of};
 ghost use Rattle.direct_run.specs.World.{first_id, sent_to_host, sent_to_gate, nothing_yet};
 ghost use Rattle.direct_run.specs.Stands.{Stands, Takes};
 ghost use Rattle.direct_run.specs.inner.Views.{kept_of};
-ghost use Rattle.direct_run.specs.Noted.{item_of, refusal_in, named};
+ghost use Rattle.gate_history.specs.write.Refusals.{refusal_in};
+ghost use Rattle.direct_run.specs.Noted.{item_of, named};
 ghost use Rattle.direct_run.specs.inner.Doing.{DoesEvent, DoesAct};
 ghost use Rattle.direct_run.specs.Trace.{untold};
 

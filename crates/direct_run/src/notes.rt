@@ -2,7 +2,8 @@
 
 ghost use Rattle.std.specs.Prelude.{◌≡◌, ◌++◌, OnOk};
 ghost use Rattle.std.specs.List.{flat_map};
-ghost use Rattle.direct_run.specs.Noted.{item_of, item_of_host, refusal_in, named, performed_item, offered_item, queue_byte};
+ghost use Rattle.gate_history.specs.write.Refusals.{refusal_in};
+ghost use Rattle.direct_run.specs.Noted.{item_of, item_of_host, named, performed_item, offered_item, queue_byte};
 
 use crate::item::{Item, Items};
 use crate::submitted::{Submits, Submitted, number_in};

@@ -4,6 +4,7 @@ pub mod Asked
 pub mod Packets
 pub mod Output
 pub mod Notes
+pub mod Refusals
 pub mod All
 pub mod Bytes
 pub mod Readable

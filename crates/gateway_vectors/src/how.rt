@@ -34,19 +34,22 @@ pub struct How {
     pub is_known: bool,
 }
 
+/// More bytes than any row writes, prints or records.
+const AMPLE: usize = 1_000_000;
+
 /// A run with nothing that stands in its way.
 pub const PLAIN: How = How {
     read_by: 65_536,
-    write_by: 1_000_000,
-    room: 1_000_000,
-    printed: 1_000_000,
+    write_by: AMPLE,
+    room: AMPLE,
+    printed: AMPLE,
     cut: None,
     first: None,
     read_fails: None,
     write_fails: None,
     host_fails: None,
     client_fails: None,
-    tape_room: 1_000_000,
+    tape_room: AMPLE,
     tape_fails: None,
     there: None,
     unmade: None,

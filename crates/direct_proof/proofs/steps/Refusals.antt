@@ -14,7 +14,7 @@ use Rattle.gate_history.specs.state.State.{State, state_of}
 use Rattle.gate_history.specs.write.Output.{present}
 use Rattle.gate_history.specs.write.Notes.{when, came_notes, submit_notes, answer_notes, refusal_notes, is_by_answer, notes_of}
 use Rattle.gate_history.specs.write.All.{all_of}
-use Rattle.direct_run.specs.Noted.{refusal_in}
+use Rattle.gate_history.specs.write.Refusals.{refusal_in}
 use Rattle.direct_proof.specs.Simulates.{refuses_host}
 
 abbrev refuses : List Note → Bool

@@ -2,7 +2,7 @@ use Rattle.std.proofs.Common.{List, ◌∷◌, ◌+◌, ◌∙◌, [], drop, ref
 use Rattle.std.specs.List.{flat_map}
 use Rattle.std.proofs.lemmas.List.{drop_more}
 use Rattle.gate_history.specs.declared.note.Note.{Note}
-use Rattle.bridge_run.specs.Gate.{refusal_in}
+use Rattle.gate_history.specs.write.Refusals.{refusal_in}
 use Rattle.bridge_run.specs.Recorded.{has_any}
 use Rattle.bridge_run.proofs.lemmas.events.Any.{any-made-at}
 use Rattle.bridge_run.proofs.lemmas.events.Halts.{err-all}

@@ -1,6 +1,6 @@
 use Rattle.std.proofs.Common.{◌≡◌, ◌++◌, drop}
 use Rattle.std.specs.List.{flat_map}
-use Rattle.bridge_run.specs.Gate.{refusal_in}
+use Rattle.gate_history.specs.write.Refusals.{refusal_in}
 use Rattle.bridge_run.proofs.gate.push_refusals.Given as goal
 
 abbrev pub invariant-loop-note : goal.invariant-loop-note

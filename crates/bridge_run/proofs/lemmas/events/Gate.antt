@@ -12,7 +12,8 @@ use Rattle.bridge_run.specs.declared.after_loss.AfterLoss.{AfterLoss}
 use Rattle.bridge_run.specs.declared.after_loss.AfterLoss.TheVariants.{Keep, Close}
 use Rattle.bridge_run.specs.declared.sent.Sent.{Sent}
 use Rattle.bridge_run.specs.Events.{LinkEvent}
-use Rattle.bridge_run.specs.Gate.{gate_event, gate_events, gate_notes, gate_sends, is_loss, lets_go, refusal_in}
+use Rattle.gate_history.specs.write.Refusals.{refusal_in}
+use Rattle.bridge_run.specs.Gate.{gate_event, gate_events, gate_notes, gate_sends, is_loss, lets_go}
 use Rattle.bridge_run.specs.Prescribed.{gained}
 use Rattle.bridge_run.specs.inner.Sends.{Sends}
 use Rattle.bridge_run.proofs.lemmas.events.Acts.{gained-is}

@@ -22,7 +22,8 @@ use Rattle.gate_core.specs.step.Stands.{Stops, Takes}
 use Rattle.bridge_run.specs.declared.after_loss.AfterLoss.{AfterLoss}
 use Rattle.bridge_run.specs.declared.sent.Sent.{Sent}
 use Rattle.bridge_run.specs.Events.{LinkEvent}
-use Rattle.bridge_run.specs.Gate.{gate_event, gate_events, gate_notes, gate_sends, refusal_in}
+use Rattle.gate_history.specs.write.Refusals.{refusal_in}
+use Rattle.bridge_run.specs.Gate.{gate_event, gate_events, gate_notes, gate_sends}
 use Rattle.bridge_run.specs.GateStops.{GateStops, gate_runs_out}
 use Rattle.bridge_run.specs.Prescribed.{gained}
 use Rattle.bridge_run.specs.Recorded.{has_any}

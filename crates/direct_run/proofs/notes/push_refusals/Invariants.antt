@@ -1,6 +1,6 @@
 use Rattle.std.proofs.Common.{◌≡◌, ◌++◌, drop}
 use Rattle.std.specs.List.{flat_map}
-use Rattle.direct_run.specs.Noted.{refusal_in}
+use Rattle.gate_history.specs.write.Refusals.{refusal_in}
 use Rattle.direct_run.proofs.notes.push_refusals.Given as goal
 
 abbrev pub invariant-loop-note : goal.invariant-loop-note

@@ -15,7 +15,7 @@ use Rattle.packet_show.specs.declared.tape.TapeLine.{TapeLine}
 use Rattle.packet_show.specs.Tape.{tape_line}
 use Rattle.direct_run.specs.declared.told.Told.{Told}
 use Rattle.direct_run.specs.Kept.{SystemKept}
-use Rattle.direct_run.specs.Noted.{refusal_in}
+use Rattle.gate_history.specs.write.Refusals.{refusal_in}
 use Rattle.direct_run.specs.Stands.{Stands}
 use Rattle.direct_run.specs.Steps.{Step, Client, ClientEnd, ToHost, ToGate, Perform, Offer, Unplug}
 use Rattle.direct_run.specs.Trace.{given_of, told_by}
