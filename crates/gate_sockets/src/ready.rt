@@ -130,11 +130,9 @@ impl Ready {
     /// whether to look again. Where the system can't wait, both sides are to be read.
     pub(crate) fn found_nothing(&mut self, network: &impl Network) -> bool {
         self.quiet = self.quiet.saturating_add(1);
-        if self.quiet < QUIET_LOOKS {
-            return false;
-        }
         let most = match &mut self.pace {
             Some(pace) => pace.left(network),
+            None if self.quiet < QUIET_LOOKS => return false,
             None => Duration::from_millis(READ_WAIT_MILLIS),
         };
         if self.reading.poll(&mut self.events, Some(most)).is_err() {
