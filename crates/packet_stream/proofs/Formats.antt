@@ -4,7 +4,7 @@ use Rattle.std.specs.Prelude.{nat_le, nat_lt, not, ◌&&◌}
 use Rattle.std.proofs.lemmas.Bool.{ltb-true, ltb-false, le-ltb, leb-true, leb-false, le-leb}
 use Rattle.std.proofs.lemmas.List.{take-append-drop, take_at, length-append, length-take}
 use Rattle.usb_base.specs.Number.{AreBytes}
-use Rattle.packet_stream.specs.Format.{Check, wrong_at, Format, IsWhole, IsShort, Found, Whole, Short, Wrong, Stands, reading_by, reading, StaysWrong, IsSound}
+use Rattle.packet_stream.specs.Format.{Check, wrong_at, Format, IsWhole, IsShort, Found, Whole, Short, Wrong, StandsAtFront, reading_by, reading, StaysWrong, IsSound}
 
 -- ---- checks that stay as they are
 
@@ -116,7 +116,7 @@ only f sound b n p w =
     (size_is f sound b n p w.there w.fits w.spelled, subst (λ (x : List ℕ). f.packet x ≡ p) (begins f b n p w.spelled) (sound.packet p (drop n b) w.fits))
 
 stands_by_length : {P R : Type 0} (f : Format P R) → IsSound f → (b : List ℕ) (t : Bool) → AreBytes b → wrong_at f.checks b ≡ None → nat_lt (length b) (f.size b) ≡ t →
-    Stands f b (cond t Short (Whole (f.packet b) (f.size b)))
+    StandsAtFront f b (cond t Short (Whole (f.packet b) (f.size b)))
 stands_by_length f sound b true bytes right e = record {
   right = right;
   none = λ n p le fits spelled. let s = size_is f sound b n p le fits spelled in let less = ltb-true (length b) (f.size b) e in omega arith;
@@ -126,12 +126,12 @@ stands_by_length f sound b false bytes right e =
     let h = sound.found b bytes right there in
     record { right = right; there = there; fits = h.1; spelled = sym h.0 }
 
-stands_by : {P R : Type 0} (f : Format P R) → IsSound f → (b : List ℕ) (w : Option (ℕ × R)) → AreBytes b → wrong_at f.checks b ≡ w → Stands f b (reading_by f b w)
+stands_by : {P R : Type 0} (f : Format P R) → IsSound f → (b : List ℕ) (w : Option (ℕ × R)) → AreBytes b → wrong_at f.checks b ≡ w → StandsAtFront f b (reading_by f b w)
 stands_by f sound b None bytes e = stands_by_length f sound b (nat_lt (length b) (f.size b)) bytes e refl
 stands_by f sound b (Some w) bytes e = e
 
 -- what reading gives is what stands there
-pub stands : {P R : Type 0} (f : Format P R) → IsSound f → (b : List ℕ) → AreBytes b → Stands f b (reading f b)
+pub stands : {P R : Type 0} (f : Format P R) → IsSound f → (b : List ℕ) → AreBytes b → StandsAtFront f b (reading f b)
 stands f sound b bytes = stands_by f sound b (wrong_at f.checks b) bytes refl
 
 -- and what stands there is what reading gives
@@ -166,10 +166,10 @@ read_again f sound p more fits = whole_reading f sound (f.spelling p ++ more) (l
 
 -- a whole packet that is read is one
 pub read_whole : {P R : Type 0} (f : Format P R) → IsSound f → (b : List ℕ) (n : ℕ) (p : P) → AreBytes b → reading f b ≡ Whole p n → IsWhole f b n p
-read_whole f sound b n p bytes e = subst (Stands f b) e (stands f sound b bytes)
+read_whole f sound b n p bytes e = subst (StandsAtFront f b) e (stands f sound b bytes)
 
 pub read_short : {P R : Type 0} (f : Format P R) → IsSound f → (b : List ℕ) → AreBytes b → reading f b ≡ Short → IsShort f b
-read_short f sound b bytes e = subst (Stands f b) e (stands f sound b bytes)
+read_short f sound b bytes e = subst (StandsAtFront f b) e (stands f sound b bytes)
 
 -- what is whole stays whole
 pub whole_more : {P R : Type 0} (f : Format P R) → IsSound f → (b more : List ℕ) (n : ℕ) (p : P) → AreBytes b → reading f b ≡ Whole p n → reading f (b ++ more) ≡ Whole p n

@@ -2,7 +2,7 @@
 use Rattle.std.proofs.Common.{◌≡◌, ℕ, zero, suc, ◌+◌, ◌<◌, List, [], ◌∷◌, ◌++◌, length, drop, Option, Some, None, refl, sym, ap, subst, ◌∙◌, arith}
 use Rattle.std.proofs.lemmas.List.{drop_at, take-append-drop, length-drop, length-take}
 use Rattle.usb_base.specs.Number.{AreBytes}
-use Rattle.packet_stream.specs.Format.{Format, IsWhole, IsShort, Found, Whole, Short, Wrong, Stands, reading, IsSound}
+use Rattle.packet_stream.specs.Format.{Format, IsWhole, IsShort, Found, Whole, Short, Wrong, StandsAtFront, reading, IsSound}
 use Rattle.packet_stream.specs.Split.{Position, past, Splitting, Spells, Ends, IsSplitting, reads, with_packets, go_on, split, SplitsWell}
 use Rattle.usb_base.proofs.Numbers.{AreBytes-drop, AreBytes-right}
 use Rattle.packet_stream.proofs.Formats.{stands, read_whole, read_again, short_reading, wrong_parts, wrong_reading}
@@ -30,7 +30,7 @@ splitting_step {S = S} {P = P} {R = R} format next sound (suc n) a bytes fits le
     subst (λ (m : ℕ). Spells format next (past next a p m) rest (split r z rest).packets (split r z rest).position later.left) long later.spelled in
     record { left = later.left; spelled = (rest, refl, w.fits, begins, spelled); ends = later.ends }
 splitting_step format next sound (suc n) a bytes fits less Short e =
-    let short : IsShort (format a.state) bytes = subst (Stands (format a.state) bytes) e (stands (format a.state) (sound a.state) bytes fits) in
+    let short : IsShort (format a.state) bytes = subst (StandsAtFront (format a.state) bytes) e (stands (format a.state) (sound a.state) bytes fits) in
     record { left = bytes; spelled = (refl, refl); ends = (short, refl) }
 splitting_step format next sound (suc n) a bytes fits less (Wrong at why) e =
     record { left = bytes; spelled = (refl, refl); ends = (at, wrong_parts (format a.state) bytes at why e, refl, refl) }

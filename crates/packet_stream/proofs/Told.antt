@@ -2,7 +2,7 @@
 use Rattle.std.proofs.Common.{◌≡◌, Bool, List, ℕ, Some, Result, Ok, Err, subst}
 use Rattle.usb_base.specs.Number.{AreBytes}
 use Rattle.usb_base.specs.declared.reason.Reason.{Reason}
-use Rattle.packet_stream.specs.Format.{Format, Found, Whole, Short, Wrong, Stands, reading, IsSound}
+use Rattle.packet_stream.specs.Format.{Format, Found, Whole, Short, Wrong, StandsAtFront, reading, IsSound}
 use Rattle.packet_stream.specs.Reads.{told, IfTold, Answers}
 use Rattle.packet_stream.specs.declared.read.Read.{Read}
 use Rattle.packet_stream.specs.declared.read.Read.TheVariants as read
@@ -28,5 +28,5 @@ answers_if takes (Err (error.Refused place reason)) found Holds a h = subst Hold
 answers_if takes (Err (error.Memory memory)) found Holds a h = tt
 
 -- what is told stands there
-pub answers_stands : {P : Type 0} (takes : P → Bool) (f : Format P Reason) → IsSound f → (b : List ℕ) → AreBytes b → (r : Result (Read P) ReadError) → Answers takes r (reading f b) → IfTold r (Stands f b)
-answers_stands takes f sound b bytes r a = answers_if takes r (reading f b) (Stands f b) a (stands f sound b bytes)
+pub answers_stands : {P : Type 0} (takes : P → Bool) (f : Format P Reason) → IsSound f → (b : List ℕ) → AreBytes b → (r : Result (Read P) ReadError) → Answers takes r (reading f b) → IfTold r (StandsAtFront f b)
+answers_stands takes f sound b bytes r a = answers_if takes r (reading f b) (StandsAtFront f b) a (stands f sound b bytes)

@@ -51,10 +51,10 @@ pub data Found (P R : Type 0) : Type 0 where
   Wrong : ℕ → R → Found P R
 
 -- what was found is what stands there
-abbrev pub Stands : {P R : Type 0} → Format P R → List ℕ → Found P R → Type 0
-Stands f bytes (Whole p n) = IsWhole f bytes n p
-Stands f bytes Short = IsShort f bytes
-Stands f bytes (Wrong place reason) = wrong_at f.checks bytes ≡ Some (place, reason)
+abbrev pub StandsAtFront : {P R : Type 0} → Format P R → List ℕ → Found P R → Type 0
+StandsAtFront f bytes (Whole p n) = IsWhole f bytes n p
+StandsAtFront f bytes Short = IsShort f bytes
+StandsAtFront f bytes (Wrong place reason) = wrong_at f.checks bytes ≡ Some (place, reason)
 
 -- the same as a computation: the first failed check, else short of the size, else the packet
 abbrev pub reading_by : {P R : Type 0} → Format P R → List ℕ → Option (ℕ × R) → Found P R

@@ -1,7 +1,7 @@
 //! Reads packets of all types.
 
 ghost use Rattle.std.specs.Prelude.{◌≡◌, ◌≤◌, true, false, length, drop};
-ghost use Rattle.packet_stream.specs.Format.{Stands, reading};
+ghost use Rattle.packet_stream.specs.Format.{StandsAtFront, reading};
 ghost use Rattle.packet_stream.specs.Reads.{Answers, IfTold, bytes_left};
 ghost use Rattle.redir_wire.specs.Header.{is_its_length};
 ghost use Rattle.redir_wire.specs.Bodies.{behind};
@@ -28,7 +28,7 @@ pub fn read_redir(
     bytes: &[u8],
 ) -> Result<RedirRead, WireError>
     ensures exact { Answers takes_memory result (reading (redir_packets first caps way) bytes.now) }
-    ensures stands { IfTold result (Stands (redir_packets first caps way) bytes.now) }
+    ensures stands { IfTold result (StandsAtFront (redir_packets first caps way) bytes.now) }
 {
     let mut bytes = bytes;
     take_redir(alloc, first, caps, way, &mut bytes)

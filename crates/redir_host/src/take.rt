@@ -4,7 +4,7 @@ ghost use Rattle.std.specs.Prelude.{◌≡◌, ◌++◌, false, Some, None, if�
 ghost use Rattle.std.specs.List.{find, AllByRecursion};
 ghost use Rattle.redir_data.specs.declared.packet.RedirPacket.TheVariants.{Plain};
 ghost use Rattle.model_device.specs.Transfer.{is_control as is_control_endpoint};
-ghost use Rattle.redir_wire.specs.Begins.{Begins};
+ghost use Rattle.packet_stream.specs.Writes.{Begins};
 ghost use Rattle.redir_wire.specs.Header.{IdFits, is_wide};
 ghost use Rattle.redir_host.specs.guest.Asking.{asking_of};
 ghost use Rattle.redir_host.specs.step.Machine.{bytes_of};
@@ -60,6 +60,7 @@ impl<G: Gadget> Host<G> {
         out.cut_on_err(before, taken)
     }
 
+    #[tactic(auto, using(crate::proofs::lemmas::write::Begun::begins_itself))]
     fn take_plain(
         &mut self,
         alloc: Global,
@@ -153,6 +154,7 @@ impl<G: Gadget> Host<G> {
 
 impl<G> Host<G> {
     /// Takes a packet that moves data.
+    #[tactic(auto, using(crate::proofs::lemmas::write::Begun::begins_itself))]
     fn take_data(
         &mut self,
         alloc: Global,

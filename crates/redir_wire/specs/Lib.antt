@@ -10,7 +10,6 @@ pub mod Spelling
 pub mod Ranges
 pub mod Plain
 pub mod EpTable
-pub mod Begins
 pub mod Written
 pub mod Past
 pub mod Reads

@@ -3,7 +3,7 @@
 ghost use Rattle.std.specs.Prelude.{◌≡◌, ◌+◌, ◌≤◌, length};
 ghost use Rattle.std.specs.Int.{w32, w64};
 ghost use Rattle.usb_base.specs.Number.{le_at};
-ghost use Rattle.packet_stream.specs.Format.{Stands, reading};
+ghost use Rattle.packet_stream.specs.Format.{StandsAtFront, reading};
 ghost use Rattle.packet_stream.specs.Reads.{Answers, IfTold};
 ghost use Rattle.redir_wire.specs.Header.{headers, header_at, head_size, is_wide};
 ghost use Rattle.redir_wire.specs.Reads.{never};
@@ -25,7 +25,7 @@ pub const LONGEST_PACKET: usize = 16_777_296;
 /// `HelloFirst`, `UnknownType`, `NotAgreed` and `WrongWay` at place 0, `TooLong26` and `BadLength` at place 4.
 pub fn read_header(first: bool, caps: Caps, way: Way, bytes: &[u8]) -> HeaderRead
     ensures exact { Answers never result (reading (headers first caps way) bytes.now) }
-    ensures stands { IfTold result (Stands (headers first caps way) bytes.now) }
+    ensures stands { IfTold result (StandsAtFront (headers first caps way) bytes.now) }
 {
     if bytes.len() < 4 {
         return Ok(Read::Short);

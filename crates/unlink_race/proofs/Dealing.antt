@@ -5,7 +5,7 @@ use Rattle.std.specs.Option.{option_map}
 use Rattle.std.proofs.lemmas.Bool.{cases_lt}
 use Rattle.std.proofs.lemmas.List.{length-map, get_or-set_same, get_or-set_other}
 use Rattle.std.proofs.lemmas.Option.{slice_get-get_or}
-use Rattle.urb_arena.specs.Seen.{Seen, seen}
+use Rattle.urb_arena.specs.ArenaView.{ArenaView, arena_view}
 use Rattle.urb_arena.specs.Lanes.{replaced, count}
 use Rattle.unlink_race.specs.declared.live.Live.{Live}
 use Rattle.unlink_race.specs.Inner.Listed.{IsKeyed}
@@ -28,21 +28,21 @@ abbrev live_of : ℕ × Live → Live
 live_of entry = entry.1
 
 -- the first n have their places as numbers
-abbrev pub Dealt : Seen (ℕ × Live) → List ℕ → ℕ → Type 0
+abbrev pub Dealt : ArenaView (ℕ × Live) → List ℕ → ℕ → Type 0
 Dealt arena rows n = (j : ℕ) → j < n → get_or (numbers_of arena rows) j 0 ≡ j
 
-pub long_numbers : (arena : Seen (ℕ × Live)) (rows : List ℕ) → IsKeyed key_of (entry_of arena) rows → length (numbers_of arena rows) ≡ length rows
+pub long_numbers : (arena : ArenaView (ℕ × Live)) (rows : List ℕ) → IsKeyed key_of (entry_of arena) rows → length (numbers_of arena rows) ≡ length rows
 long_numbers arena rows kept = length-map (in_order arena rows) number_of ∙ length-listed key_of (entry_of arena) rows kept
 
-pub none_dealt : (arena : Seen (ℕ × Live)) (rows : List ℕ) → IsKeyed key_of (entry_of arena) rows → HasDealt arena arena rows
+pub none_dealt : (arena : ArenaView (ℕ × Live)) (rows : List ℕ) → IsKeyed key_of (entry_of arena) rows → HasDealt arena arena rows
 none_dealt arena rows kept = record { kept = kept; lives = refl; count = refl; capacity = refl; lanes = refl; keys_stay = refl }
 
-pub all_dealt : (arena : Seen (ℕ × Live)) (rows : List ℕ) (n : ℕ) → IsKeyed key_of (entry_of arena) rows → length rows ≤ n → Dealt arena rows n → Rises 0 (numbers_of arena rows) (length rows)
+pub all_dealt : (arena : ArenaView (ℕ × Live)) (rows : List ℕ) (n : ℕ) → IsKeyed key_of (entry_of arena) rows → length rows ≤ n → Dealt arena rows n → Rises 0 (numbers_of arena rows) (length rows)
 all_dealt arena rows n kept all dealt =
     let long = long_numbers arena rows kept in
     rises_dealt 0 (numbers_of arena rows) (length rows) (omega (arith, long)) (λ j within. let at = dealt j (omega (arith, within, long, all)) in omega (arith, at))
 
-module _ {old arena : Seen (ℕ × Live)} {rows : List ℕ} (d : HasDealt old arena rows) (i : ℕ) (r : ℕ) (within : i < length rows) (read : r ≡ get_or rows i r) where
+module _ {old arena : ArenaView (ℕ × Live)} {rows : List ℕ} (d : HasDealt old arena rows) (i : ℕ) (r : ℕ) (within : i < length rows) (read : r ≡ get_or rows i r) where
   long_here : length (in_order arena rows) ≡ length rows
   long_here = length-listed key_of (entry_of arena) rows d.kept
 
@@ -55,12 +55,12 @@ module _ {old arena : Seen (ℕ × Live)} {rows : List ℕ} (d : HasDealt old ar
   pub has_entry : entry_of arena r ≡ Some entry
   has_entry = (took_at key_of (entry_of arena) (entry_of arena) rows i r within read (λ _ _. refl) d.kept).entry ∙ at
 
-  module _ (arena' : Seen (ℕ × Live)) (made : arena' ≡ seen (map (replaced r (i, entry.1)) arena.lanes) arena.capacity) where
+  module _ (arena' : ArenaView (ℕ × Live)) (made : arena' ≡ arena_view (map (replaced r (i, entry.1)) arena.lanes) arena.capacity) where
     there : entry_of arena' r ≡ Some (i, entry.1)
-    there = ap (λ (a : Seen (ℕ × Live)). entry_of a r) made ∙ found_replaced r (i, entry.1) arena.lanes ∙ ap (option_map (λ _. (i, entry.1))) has_entry
+    there = ap (λ (a : ArenaView (ℕ × Live)). entry_of a r) made ∙ found_replaced r (i, entry.1) arena.lanes ∙ ap (option_map (λ _. (i, entry.1))) has_entry
 
     others : SameBut key_of r (entry_of arena) (entry_of arena')
-    others j other = ap (λ (a : Seen (ℕ × Live)). entry_of a j) made ∙ others_replaced j r (i, entry.1) other arena.lanes
+    others j other = ap (λ (a : ArenaView (ℕ × Live)). entry_of a j) made ∙ others_replaced j r (i, entry.1) other arena.lanes
 
     whole : in_order arena' rows ≡ set (in_order arena rows) i (i, entry.1)
     whole = (changed_at key_of (entry_of arena) (entry_of arena') rows i r (i, entry.1) within read there others d.kept).whole
@@ -70,9 +70,9 @@ module _ {old arena : Seen (ℕ × Live)} {rows : List ℕ} (d : HasDealt old ar
         record {
           kept = (changed_at key_of (entry_of arena) (entry_of arena') rows i r (i, entry.1) within read there others d.kept).kept;
           lives = ap (map live_of) whole ∙ map_unchanged live_of (in_order arena rows) i entry (i, entry.1) at refl ∙ d.lives;
-          count = ap (λ (a : Seen (ℕ × Live)). count a.lanes) made ∙ count_replaced r (i, entry.1) arena.lanes ∙ d.count;
-          capacity = ap (λ (a : Seen (ℕ × Live)). a.capacity) made ∙ d.capacity;
-          lanes = ap (λ (a : Seen (ℕ × Live)). length a.lanes) made ∙ length-map arena.lanes (replaced r (i, entry.1)) ∙ d.lanes;
+          count = ap (λ (a : ArenaView (ℕ × Live)). count a.lanes) made ∙ count_replaced r (i, entry.1) arena.lanes ∙ d.count;
+          capacity = ap (λ (a : ArenaView (ℕ × Live)). a.capacity) made ∙ d.capacity;
+          lanes = ap (λ (a : ArenaView (ℕ × Live)). length a.lanes) made ∙ length-map arena.lanes (replaced r (i, entry.1)) ∙ d.lanes;
           keys_stay = ap keys_of made ∙ keys_replaced r (i, entry.1) arena.lanes ∙ d.keys_stay;
         }
 
@@ -88,13 +88,13 @@ module _ {old arena : Seen (ℕ × Live)} {rows : List ℕ} (d : HasDealt old ar
         ]
 
 -- what is sound stays so, by each name of the rows
-pub dealt_by : {old arena : Seen (ℕ × Live)} {rows rows' : List ℕ} → rows' ≡ rows → HasDealt old arena rows' → HasDealt old arena rows
+pub dealt_by : {old arena : ArenaView (ℕ × Live)} {rows rows' : List ℕ} → rows' ≡ rows → HasDealt old arena rows' → HasDealt old arena rows
 dealt_by {old = old} {arena = arena} same d = let P : List ℕ → Type 0 = λ rs. HasDealt old arena rs in subst P same d
 
-pub rises_by : (arena : Seen (ℕ × Live)) {rows rows' : List ℕ} (high : ℕ) → rows' ≡ rows → Rises 0 (numbers_of arena rows') high → Rises 0 (numbers_of arena rows) high
+pub rises_by : (arena : ArenaView (ℕ × Live)) {rows rows' : List ℕ} (high : ℕ) → rows' ≡ rows → Rises 0 (numbers_of arena rows') high → Rises 0 (numbers_of arena rows) high
 rises_by arena high same rises = let P : List ℕ → Type 0 = λ rs. Rises 0 (numbers_of arena rs) high in subst P same rises
 
-pub sound_dealt : {old arena : Seen (ℕ × Live)} {rows : List ℕ} → HasDealt old arena rows → IsSound old rows → IsSound arena rows
+pub sound_dealt : {old arena : ArenaView (ℕ × Live)} {rows : List ℕ} → HasDealt old arena rows → IsSound old rows → IsSound arena rows
 sound_dealt d s =
     record {
       kept = d.kept;

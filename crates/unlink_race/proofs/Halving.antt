@@ -13,7 +13,7 @@ use Rattle.std.proofs.lemmas.List.{get_or-map, get_or_default}
 use Rattle.std.proofs.lemmas.List.Sorted.{IsNonDecreasingBy-from_default}
 use Rattle.std.proofs.lemmas.List.Sums.{position_or_len_is}
 use Rattle.std.proofs.lemmas.Option.{slice_get-get_or}
-use Rattle.urb_arena.specs.Seen.{Seen}
+use Rattle.urb_arena.specs.ArenaView.{ArenaView}
 use Rattle.unlink_race.specs.declared.live.Live.{Live}
 use Rattle.unlink_race.specs.Inner.Listed.{IsKeyed}
 use Rattle.unlink_race.specs.Inner.Sound.{entry_of, in_order, numbers_of, Rises}
@@ -38,10 +38,10 @@ rises_at low (n ∷ ns) high (suc i) zero rises before within = absurd (omega (a
 rises_at low (n ∷ ns) high (suc i) (suc j) rises before within = rises_at (n + 1) ns high i j rises.1 (omega (arith, before)) (omega (arith, within))
 
 -- the number that a key leads to
-abbrev pub number_at : Seen (ℕ × Live) → ℕ → Option ℕ
+abbrev pub number_at : ArenaView (ℕ × Live) → ℕ → Option ℕ
 number_at arena r = option_map (λ (e : ℕ × Live). e.0) (entry_of arena r)
 
-module _ (arena : Seen (ℕ × Live)) (keys : List ℕ) (kept : IsKeyed key_of (entry_of arena) keys) where
+module _ (arena : ArenaView (ℕ × Live)) (keys : List ℕ) (kept : IsKeyed key_of (entry_of arena) keys) where
   abbrev numbers : List ℕ
   numbers = numbers_of arena keys
 

@@ -6,7 +6,7 @@ use Rattle.std.proofs.lemmas.List.{length-map}
 use Rattle.std.proofs.lemmas.Option.{slice_get-map}
 use Rattle.std.proofs.Math.Bool.{and-false}
 use Rattle.usb_base.specs.Endpoint.{endpoint_index}
-use Rattle.urb_arena.specs.Seen.{Seen}
+use Rattle.urb_arena.specs.ArenaView.{ArenaView}
 use Rattle.urb_arena.specs.Lanes.{ByKey}
 use Rattle.unlink_race.specs.declared.table.TheConstants.{LANES}
 use Rattle.unlink_race.specs.declared.live.Live.{Live}
@@ -37,13 +37,13 @@ waits_there ep (Stream at interface) =
     ]
 
 -- the place of a request, from its number
-pub record IsPlaced (test : Live → Bool) (arena : Seen (ℕ × Live)) (keys : List ℕ) (xs : List Live) (number : ℕ) : Type 0 where
+pub record IsPlaced (test : Live → Bool) (arena : ArenaView (ℕ × Live)) (keys : List ℕ) (xs : List Live) (number : ℕ) : Type 0 where
   pub place : ℕ
   pub within : place < length keys
   pub is : get_or (numbers_of arena keys) place 0 ≡ number
   pub first : position test xs ≡ Some place
 
-module _ {arena : Seen (ℕ × Live)} {keys : List ℕ} (s : IsSound arena keys) where
+module _ {arena : ArenaView (ℕ × Live)} {keys : List ℕ} (s : IsSound arena keys) where
   long_entries : length (in_order arena keys) ≡ length keys
   long_entries = length-listed itself (entry_of arena) keys s.kept
 

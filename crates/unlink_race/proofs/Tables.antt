@@ -6,7 +6,7 @@ use Rattle.std.proofs.lemmas.List.{length-append, length-map, map-append}
 use Rattle.std.proofs.lemmas.List.Edits.{length-remove}
 use Rattle.std.proofs.lemmas.Option.{slice_get-get_or, slice_get-map, slice_get_within, get_or_from_slice_get}
 use Rattle.usbip_urb.specs.declared.code.TheConstants.{MAX_LIVE}
-use Rattle.urb_arena.specs.Seen.{Seen, seen}
+use Rattle.urb_arena.specs.ArenaView.{ArenaView, arena_view}
 use Rattle.urb_arena.specs.Lanes.{without, replaced, count}
 use Rattle.unlink_race.specs.declared.table.TheConstants.{LANES}
 use Rattle.unlink_race.specs.declared.live.Live.{Live}
@@ -45,7 +45,7 @@ rising high same rises = rw same rises
 no_entry : ℕ × Live
 no_entry = (0, no_live)
 
-module _ {arena : Seen (ℕ × Live)} {keys : List ℕ} (s : IsSound arena keys) {xs : List Live} (v : lives_of arena keys ≡ xs) where
+module _ {arena : ArenaView (ℕ × Live)} {keys : List ℕ} (s : IsSound arena keys) {xs : List Live} (v : lives_of arena keys ≡ xs) where
   long_entries : length (in_order arena keys) ≡ length keys
   long_entries = length-listed itself (entry_of arena) keys s.kept
 
@@ -72,10 +72,10 @@ module _ {arena : Seen (ℕ × Live)} {keys : List ℕ} (s : IsSound arena keys)
   pub key_at : (i k : ℕ) → i < length xs → k ≡ get_or keys i k → slice_get keys i ≡ Some k
   key_at i k within read = slice_get-get_or keys i k (omega (arith, within, long)) ∙ ap Some (sym read)
 
-  pub removed : (arena' : Seen (ℕ × Live)) (keys' : List ℕ) (i k : ℕ) → i < length xs → k ≡ get_or keys i k → arena' ≡ seen (map (without k) arena.lanes) arena.capacity → count arena'.lanes + 1 ≡ count arena.lanes → keys' ≡ remove keys i → IsSound arena' keys' × (lives_of arena' keys' ≡ remove xs i) × (numbers_of arena' keys' ≡ remove (numbers_of arena keys) i)
+  pub removed : (arena' : ArenaView (ℕ × Live)) (keys' : List ℕ) (i k : ℕ) → i < length xs → k ≡ get_or keys i k → arena' ≡ arena_view (map (without k) arena.lanes) arena.capacity → count arena'.lanes + 1 ≡ count arena.lanes → keys' ≡ remove keys i → IsSound arena' keys' × (lives_of arena' keys' ≡ remove xs i) × (numbers_of arena' keys' ≡ remove (numbers_of arena keys) i)
   removed arena' keys' i k within read made less left =
       let at : i < length keys = omega (arith, within, long) in
-      let others : SameBut itself k (entry_of arena) (entry_of arena') = λ j other. ap (λ (a : Seen (ℕ × Live)). entry_of a j) made ∙ others_removed j k other arena.lanes in
+      let others : SameBut itself k (entry_of arena) (entry_of arena') = λ j other. ap (λ (a : ArenaView (ℕ × Live)). entry_of a j) made ∙ others_removed j k other arena.lanes in
       let took = took_at itself (entry_of arena) (entry_of arena') keys i k at read others s.kept in
       let shorter = length-remove keys i at in
       let rest : lives_of arena' (remove keys i) ≡ remove xs i = ap (map (λ (e : ℕ × Live). e.1)) took.rest ∙ sym (map-remove (λ (e : ℕ × Live). e.1) (in_order arena keys) i) ∙ ap (λ ys. remove ys i) v in
@@ -86,8 +86,8 @@ module _ {arena : Seen (ℕ × Live)} {keys : List ℕ} (s : IsSound arena keys)
           kept = took.kept;
           all = omega (arith, shorter, less, s.all);
           bound = omega (arith, shorter, s.bound);
-          capacity = ap (λ (a : Seen (ℕ × Live)). a.capacity) made ∙ s.capacity;
-          lanes = ap (λ (a : Seen (ℕ × Live)). length a.lanes) made ∙ length-map arena.lanes (without k) ∙ s.lanes;
+          capacity = ap (λ (a : ArenaView (ℕ × Live)). a.capacity) made ∙ s.capacity;
+          lanes = ap (λ (a : ArenaView (ℕ × Live)). length a.lanes) made ∙ length-map arena.lanes (without k) ∙ s.lanes;
           placed = by_keys (ap keys_of made) (ap (zip (remove keys i)) rest ∙ zip_removed keys xs i) (placed_removed (entry_of arena) 0 arena.lanes (zip keys xs) i (k, x) (slice_get_within (zip keys xs) i (k, x) row) (sym (get_or_from_slice_get (zip keys xs) i (k, x) (k, x) row)) (kept_zipped (entry_of arena) keys xs s.kept) placed);
         },
         rest,
@@ -95,48 +95,48 @@ module _ {arena : Seen (ℕ × Live)} {keys : List ℕ} (s : IsSound arena keys)
       )
 
   -- a request is put behind the others, under a key that had none
-  module _ (arena' : Seen (ℕ × Live)) (lane number k : ℕ) (x : Live) (in_lane : lane < LANES) (vacant : entry_of arena k ≡ None) (made : arena' ≡ seen (set arena.lanes lane (get_or arena.lanes lane [] ++ (k, (number, x)) ∷ [])) arena.capacity) where
+  module _ (arena' : ArenaView (ℕ × Live)) (lane number k : ℕ) (x : Live) (in_lane : lane < LANES) (vacant : entry_of arena k ≡ None) (made : arena' ≡ arena_view (set arena.lanes lane (get_or arena.lanes lane [] ++ (k, (number, x)) ∷ [])) arena.capacity) where
     inside : lane < length arena.lanes
     inside = omega (arith, in_lane, s.lanes)
 
     pub pushed_there : entry_of arena' k ≡ Some (number, x)
-    pushed_there = ap (λ (a : Seen (ℕ × Live)). entry_of a k) made ∙ found_pushed k (number, x) arena.lanes lane inside vacant
+    pushed_there = ap (λ (a : ArenaView (ℕ × Live)). entry_of a k) made ∙ found_pushed k (number, x) arena.lanes lane inside vacant
 
     pub pushed : (keys' : List ℕ) → length xs < MAX_LIVE → lane ≡ lane_of x.kind → keys' ≡ keys ++ k ∷ [] → IsSound arena' keys' × (lives_of arena' keys' ≡ xs ++ x ∷ []) × (numbers_of arena' keys' ≡ numbers_of arena keys ++ number ∷ [])
     pushed keys' free its_lane whole =
-        let others : SameBut itself k (entry_of arena) (entry_of arena') = λ j other. ap (λ (a : Seen (ℕ × Live)). entry_of a j) made ∙ others_pushed j k (number, x) other arena.lanes lane in
+        let others : SameBut itself k (entry_of arena) (entry_of arena') = λ j other. ap (λ (a : ArenaView (ℕ × Live)). entry_of a j) made ∙ others_pushed j k (number, x) other arena.lanes lane in
         let put = put_last itself (entry_of arena) (entry_of arena') keys k (number, x) vacant pushed_there others s.kept in
         let longer = length-append keys (k ∷ []) in
-        let more : count arena'.lanes ≡ count arena.lanes + 1 = ap (λ (a : Seen (ℕ × Live)). count a.lanes) made ∙ count_pushed (k, (number, x)) arena.lanes lane inside in
+        let more : count arena'.lanes ≡ count arena.lanes + 1 = ap (λ (a : ArenaView (ℕ × Live)). count a.lanes) made ∙ count_pushed (k, (number, x)) arena.lanes lane inside in
         let all_in : lives_of arena' (keys ++ k ∷ []) ≡ xs ++ x ∷ [] = ap (map (λ (e : ℕ × Live). e.1)) put.whole ∙ map-append (λ (e : ℕ × Live). e.1) (in_order arena keys) ((number, x) ∷ []) ∙ ap (λ ys. ys ++ x ∷ []) v in
         rw whole (
           record {
             kept = put.kept;
             all = omega (arith, longer, more, s.all);
             bound = omega (arith, longer, long, free);
-            capacity = ap (λ (a : Seen (ℕ × Live)). a.capacity) made ∙ s.capacity;
-            lanes = ap (λ (a : Seen (ℕ × Live)). length a.lanes) made ∙ length-set arena.lanes lane _ ∙ s.lanes;
+            capacity = ap (λ (a : ArenaView (ℕ × Live)). a.capacity) made ∙ s.capacity;
+            lanes = ap (λ (a : ArenaView (ℕ × Live)). length a.lanes) made ∙ length-set arena.lanes lane _ ∙ s.lanes;
             placed = by_keys (ap keys_of made) (ap (zip (keys ++ k ∷ [])) all_in ∙ zip_pushed keys xs k x (sym long)) (placed_pushed 0 arena.lanes lane (zip keys xs) (k, x) (number, x) inside (sym its_lane ∙ sym (zero-add lane)) placed);
           },
           all_in,
           ap (map (λ (e : ℕ × Live). e.0)) put.whole ∙ map-append (λ (e : ℕ × Live). e.0) (in_order arena keys) ((number, x) ∷ []),
         )
 
-  pub changed : (arena' : Seen (ℕ × Live)) (i k : ℕ) (entry : ℕ × Live) (y : Live) → i < length xs → k ≡ get_or keys i k → entry_of arena k ≡ Some entry → arena' ≡ seen (map (replaced k (entry.0, y)) arena.lanes) arena.capacity → y.kind ≡ entry.1.kind → IsSound arena' keys × (lives_of arena' keys ≡ set xs i y) × (numbers_of arena' keys ≡ numbers_of arena keys)
+  pub changed : (arena' : ArenaView (ℕ × Live)) (i k : ℕ) (entry : ℕ × Live) (y : Live) → i < length xs → k ≡ get_or keys i k → entry_of arena k ≡ Some entry → arena' ≡ arena_view (map (replaced k (entry.0, y)) arena.lanes) arena.capacity → y.kind ≡ entry.1.kind → IsSound arena' keys × (lives_of arena' keys ≡ set xs i y) × (numbers_of arena' keys ≡ numbers_of arena keys)
   changed arena' i k entry y within read is made kind =
-      let there : entry_of arena' k ≡ Some (entry.0, y) = ap (λ (a : Seen (ℕ × Live)). entry_of a k) made ∙ found_replaced k (entry.0, y) arena.lanes ∙ ap (option_map (λ _. (entry.0, y))) is in
-      let others : SameBut itself k (entry_of arena) (entry_of arena') = λ j other. ap (λ (a : Seen (ℕ × Live)). entry_of a j) made ∙ others_replaced j k (entry.0, y) other arena.lanes in
+      let there : entry_of arena' k ≡ Some (entry.0, y) = ap (λ (a : ArenaView (ℕ × Live)). entry_of a k) made ∙ found_replaced k (entry.0, y) arena.lanes ∙ ap (option_map (λ _. (entry.0, y))) is in
+      let others : SameBut itself k (entry_of arena) (entry_of arena') = λ j other. ap (λ (a : ArenaView (ℕ × Live)). entry_of a j) made ∙ others_replaced j k (entry.0, y) other arena.lanes in
       let turned = changed_at itself (entry_of arena) (entry_of arena') keys i k (entry.0, y) (omega (arith, within, long)) read there others s.kept in
       let was : slice_get xs i ≡ Some entry.1 = read_at i k entry within read is in
       let set_in : lives_of arena' keys ≡ set xs i y = ap (map (λ (e : ℕ × Live). e.1)) turned.whole ∙ map-set (λ (e : ℕ × Live). e.1) (in_order arena keys) i (entry.0, y) ∙ ap (λ ys. set ys i y) v in
       let here : slice_get (in_order arena keys) i ≡ Some entry = sym (took_at itself (entry_of arena) (entry_of arena) keys i k (omega (arith, within, long)) read (λ _ _. refl) s.kept).entry ∙ is in
-      let same : count arena'.lanes ≡ count arena.lanes = ap (λ (a : Seen (ℕ × Live)). count a.lanes) made ∙ count_replaced k (entry.0, y) arena.lanes in (
+      let same : count arena'.lanes ≡ count arena.lanes = ap (λ (a : ArenaView (ℕ × Live)). count a.lanes) made ∙ count_replaced k (entry.0, y) arena.lanes in (
         record {
           kept = turned.kept;
           all = same ∙ s.all;
           bound = s.bound;
-          capacity = ap (λ (a : Seen (ℕ × Live)). a.capacity) made ∙ s.capacity;
-          lanes = ap (λ (a : Seen (ℕ × Live)). length a.lanes) made ∙ length-map arena.lanes (replaced k (entry.0, y)) ∙ s.lanes;
+          capacity = ap (λ (a : ArenaView (ℕ × Live)). a.capacity) made ∙ s.capacity;
+          lanes = ap (λ (a : ArenaView (ℕ × Live)). length a.lanes) made ∙ length-map arena.lanes (replaced k (entry.0, y)) ∙ s.lanes;
           placed = by_keys (ap keys_of made ∙ keys_replaced k (entry.0, y) arena.lanes) (ap (zip keys) set_in) (placed_written entry.1 y kind 0 (keys_of arena) keys xs i was placed);
         },
         set_in,

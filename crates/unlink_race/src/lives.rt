@@ -3,7 +3,7 @@
 ghost use Rattle.std.specs.Prelude.{◌≡◌, ◌<◌, ◌≤◌, ◌||◌, ◌-◌, not, [], ◌∷◌, ◌++◌, length, filter, take, drop, replicate, slice_get, slice_set, option_copied, IfOk, OnOk, OnErr, Some};
 ghost use Rattle.std.specs.List.{find, position, list_any};
 ghost use Rattle.std.specs.Result.{result_err};
-ghost use Rattle.urb_arena.specs.Seen.{seen};
+ghost use Rattle.urb_arena.specs.ArenaView.{arena_view};
 ghost use Rattle.unlink_race.specs.declared.table.TheConstants.{LANES};
 ghost use Rattle.unlink_race.specs.declared.live.Live.{Live};
 ghost use Rattle.unlink_race.specs.Firsts.{without_first};
@@ -61,7 +61,7 @@ impl Lives {
     /// No request, in an arena that is handed over: 4,096 requests fit, in a lane for each endpoint. What finds a
     /// request lies in the value itself, and no memory is taken.
     pub fn over(arena: Arena<(u64, Live)>) -> Self
-        requires { arena ≡ seen (replicate LANES []) MAX_LIVE }
+        requires { arena ≡ arena_view (replicate LANES []) MAX_LIVE }
         ensures { result ≡ no_requests }
     {
         Lives {

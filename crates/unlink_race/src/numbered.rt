@@ -1,7 +1,7 @@
 //! A request in its cell of the arena, with the number that says when it was accepted.
 
 ghost use Rattle.std.specs.Prelude.{◌≡◌, ℕ, Some, map};
-ghost use Rattle.urb_arena.specs.Seen.{seen};
+ghost use Rattle.urb_arena.specs.ArenaView.{arena_view};
 ghost use Rattle.urb_arena.specs.Lanes.{find_in, replaced};
 ghost use Rattle.unlink_race.specs.declared.live.Live.{Live};
 ghost use Rattle.unlink_race.specs.Unlinking.{unlinked_by};
@@ -11,7 +11,7 @@ use urb_arena::{Arena, Key};
 
 /// Marks the request of a key as asked back by the unlink with this number.
 pub fn mark(arena: &mut Arena<(u64, Live)>, key: Key, by: u32)
-    ensures { (entry : ℕ × Live) → find_in key arena.old.lanes ≡ Some entry → arena.new ≡ seen (map (replaced key (entry.0, unlinked_by by entry.1)) arena.old.lanes) arena.old.capacity }
+    ensures { (entry : ℕ × Live) → find_in key arena.old.lanes ≡ Some entry → arena.new ≡ arena_view (map (replaced key (entry.0, unlinked_by by entry.1)) arena.old.lanes) arena.old.capacity }
 {
     match arena.get_mut(key) {
         Some(entry) => {
@@ -23,7 +23,7 @@ pub fn mark(arena: &mut Arena<(u64, Live)>, key: Key, by: u32)
 
 /// Gives the request of a key another number.
 pub fn renumber(arena: &mut Arena<(u64, Live)>, key: Key, number: u64)
-    ensures { (entry : ℕ × Live) → find_in key arena.old.lanes ≡ Some entry → arena.new ≡ seen (map (replaced key (number, entry.1)) arena.old.lanes) arena.old.capacity }
+    ensures { (entry : ℕ × Live) → find_in key arena.old.lanes ≡ Some entry → arena.new ≡ arena_view (map (replaced key (number, entry.1)) arena.old.lanes) arena.old.capacity }
 {
     match arena.get_mut(key) {
         Some(entry) => {

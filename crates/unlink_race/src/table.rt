@@ -5,7 +5,7 @@
 ghost use Rattle.std.specs.Prelude.{◌≡◌, ◌==◌, ◌<◌, ◌≤◌, ◌+◌, ◌^◌, ℕ, not, true, List, [], ◌∷◌, ◌++◌, length, filter, remove, replicate, get_or, slice_get, slice_set, option_copied, option_map, Some};
 ghost use Rattle.std.specs.List.{find, position, list_any};
 ghost use Rattle.urb_arena.specs.Lanes.{find_in};
-ghost use Rattle.urb_arena.specs.Seen.{seen};
+ghost use Rattle.urb_arena.specs.ArenaView.{arena_view};
 ghost use Rattle.unlink_race.specs.declared.table.TheConstants.{LANES};
 ghost use Rattle.unlink_race.specs.declared.live.Live.{Live};
 ghost use Rattle.unlink_race.specs.Firsts.{without_first};
@@ -111,7 +111,7 @@ impl Table {
 
     /// The empty table over an arena.
     pub fn over(arena: Arena<(u64, Live)>) -> Self
-        requires { arena ≡ seen (replicate LANES []) MAX_LIVE }
+        requires { arena ≡ arena_view (replicate LANES []) MAX_LIVE }
         ensures { result ≡ [] }
     {
         Table {

@@ -1,4 +1,4 @@
 pub mod ArenaLends
+pub mod ArenaView
 pub mod Inner
 pub mod Lanes
-pub mod Seen

@@ -4,7 +4,7 @@ ghost use Rattle.std.specs.Prelude.{◌≡◌, ◌<◌, ◌≤◌, ◌+◌, ◌+
 ghost use Rattle.std.specs.Option.{option_copied_mut};
 ghost use Rattle.std.specs.Borrow.{sem};
 ghost use Rattle.urb_arena.specs.Lanes.{find_in, without, first_key, key_after_in, count, ByKey};
-ghost use Rattle.urb_arena.specs.Seen.{seen};
+ghost use Rattle.urb_arena.specs.ArenaView.{arena_view};
 ghost use Rattle.urb_arena.specs.declared.arena.TheConstants.{MOST};
 
 use crate::table::Table;
@@ -39,15 +39,15 @@ pub struct Arena<T> {
 }
 
 impl<T> Model for Arena<T> {
-    ghost use Rattle.urb_arena.specs.Seen.{Seen, seen, seen_code};
+    ghost use Rattle.urb_arena.specs.ArenaView.{ArenaView, arena_view, arena_view_code};
 
-    ghost Value = { Seen T };
+    ghost Value = { ArenaView T };
 
-    ghost coded = { seen_code T.code };
+    ghost coded = { arena_view_code T.code };
 
     ghost use Rattle.urb_arena.specs.Inner.Tables.{IsTable, lanes_of};
 
-    ghost view = { λ a. seen (lanes_of a.table) a.table.capacity };
+    ghost view = { λ a. arena_view (lanes_of a.table) a.table.capacity };
 
     ghost invariant = { λ a. IsTable a.table };
 }
@@ -59,7 +59,7 @@ impl<T> Arena<T> {
     /// for memory, and no other call makes any.
     pub fn new(alloc: Global, capacity: usize, lanes: usize) -> Result<Arena<T>, Memory>
         requires { (0 < capacity) × (capacity ≤ MOST) × (0 < lanes) × (lanes ≤ MOST) }
-        ensures { IfOk result (λ a. a ≡ seen (replicate lanes []) capacity) }
+        ensures { IfOk result (λ a. a ≡ arena_view (replicate lanes []) capacity) }
     {
         let table = Table::new(alloc, capacity, lanes)?;
         Ok(Arena { table })
@@ -77,7 +77,7 @@ impl<T> Arena<T> {
     /// Puts a value at the back of a lane, under a key that names no other. A full arena hands it back.
     pub fn push_back(&mut self, lane: usize, value: T) -> Result<Key, T>
         requires { lane < length self.old.lanes }
-        ensures ok { IfOk result (λ k. (count self.old.lanes < self.old.capacity) × (find_in k self.old.lanes ≡ None) × (self.new ≡ seen (slice_set self.old.lanes lane (get_or self.old.lanes lane [] ++ (k, value) ∷ [])) self.old.capacity)) }
+        ensures ok { IfOk result (λ k. (count self.old.lanes < self.old.capacity) × (find_in k self.old.lanes ≡ None) × (self.new ≡ arena_view (slice_set self.old.lanes lane (get_or self.old.lanes lane [] ++ (k, value) ∷ [])) self.old.capacity)) }
         ensures err { IfErr result (λ v. (v ≡ value) × (count self.old.lanes ≡ self.old.capacity) × (self.new ≡ self.old)) }
     {
         match self.table.push_back(lane, value) {
@@ -89,7 +89,7 @@ impl<T> Arena<T> {
     /// Takes the value of a key out of its lane, wherever it stands.
     pub fn remove(&mut self, key: Key) -> Option<T>
         ensures value { result ≡ find_in key self.old.lanes }
-        ensures lanes { self.new ≡ seen (map (without key) self.old.lanes) self.old.capacity }
+        ensures lanes { self.new ≡ arena_view (map (without key) self.old.lanes) self.old.capacity }
         ensures len { OnSome result (count self.new.lanes + 1 ≡ count self.old.lanes) }
     {
         self.table.remove(key.place)

@@ -1,7 +1,7 @@
 //! Packets read.
 
 ghost use Rattle.std.specs.Prelude.{◌≡◌, Some};
-ghost use Rattle.packet_stream.specs.Format.{IsSound, Stands, reading};
+ghost use Rattle.packet_stream.specs.Format.{IsSound, StandsAtFront, reading};
 ghost use Rattle.packet_stream.specs.Reads.{told, IfTold, Answers};
 ghost use Rattle.usbip_op.specs.Requests.{requests};
 ghost use Rattle.usbip_op.specs.Packets.{packets_of, takes_memory};
@@ -23,7 +23,7 @@ pub fn packets_sound()
 /// soon as the bytes of a wrong field are there: `Version` at place 0, `OpCode` at 2, and in replies `Count` at
 /// 8. Memory may be wanting only for a list that is whole and has a row; its bytes may be read again.
 pub fn read_op(alloc: Global, way: OpWay, bytes: &[u8]) -> Result<OpRead, OpError>
-    ensures stands { IfTold result (Stands (packets_of way) bytes.now) }
+    ensures stands { IfTold result (StandsAtFront (packets_of way) bytes.now) }
     ensures exact { Answers takes_memory result (reading (packets_of way) bytes.now) }
 {
     match way {
@@ -34,7 +34,7 @@ pub fn read_op(alloc: Global, way: OpWay, bytes: &[u8]) -> Result<OpRead, OpErro
 
 /// Reads the request at the front of the bytes, as `read_op` does. It takes no memory.
 pub fn read_request(bytes: &[u8]) -> Result<OpRead, OpError>
-    ensures stands { IfTold result (Stands requests bytes.now) }
+    ensures stands { IfTold result (StandsAtFront requests bytes.now) }
     ensures exact { told result ≡ Some (reading requests bytes.now) }
 {
     if let Some((place, reason)) = wrong_head(bytes, OP_REQ_DEVLIST, OP_REQ_IMPORT) {

@@ -3,7 +3,7 @@
 ghost use Rattle.std.specs.Prelude.{◌≡◌, ◌++◌, ◌≤◌, ℕ, Bool, None, List, length};
 ghost use Rattle.std.specs.Int.{w32};
 ghost use Rattle.usb_base.specs.Number.{be_at};
-ghost use Rattle.packet_stream.specs.Format.{IsSound, Stands, reading, reading_by, Whole as FoundWhole};
+ghost use Rattle.packet_stream.specs.Format.{IsSound, StandsAtFront, reading, reading_by, Whole as FoundWhole};
 ghost use Rattle.packet_stream.specs.Reads.{Answers, IfTold};
 ghost use Rattle.usbip_urb.specs.declared.packet.UrbPacket.{UrbPacket as Packet};
 ghost use Rattle.usbip_urb.specs.declared.code.TheConstants.{HEAD_SIZE, USBIP_RET_SUBMIT};
@@ -45,7 +45,7 @@ pub fn ret_seqnum(bytes: &[u8]) -> Option<u32>
 /// `Command` at place 0, and in a submit's answer `TooLong` at 24 and `Packets` at 32. A packet that isn't whole
 /// costs its first 48 bytes at most. Memory is wanting only for a body or descriptors.
 pub fn read_ret(alloc: Global, is_in: bool, bytes: &[u8]) -> Result<UrbRead, UrbError>
-    ensures stands { IfTold result (Stands (answers is_in) bytes.now) }
+    ensures stands { IfTold result (StandsAtFront (answers is_in) bytes.now) }
     ensures exact { Answers takes_memory result (reading (answers is_in) bytes.now) }
 {
     if let Some((place, reason)) = wrong_answer(bytes) {

@@ -1,7 +1,7 @@
 //! All that a client sends: list and import requests, and URB requests, told apart by their first two bytes.
 
 ghost use Rattle.std.specs.Prelude.{◌≡◌, ◌++◌, ℕ, List, true, length};
-ghost use Rattle.packet_stream.specs.Format.{IsSound, Stands, reading, Whole as FoundWhole};
+ghost use Rattle.packet_stream.specs.Format.{IsSound, StandsAtFront, reading, Whole as FoundWhole};
 ghost use Rattle.packet_stream.specs.Reads.{Answers, IfTold, bytes_left};
 ghost use Rattle.usbip_urb.specs.declared.client.ClientPacket.{ClientPacket as Packet};
 ghost use Rattle.usbip_urb.specs.ClientPackets.{is_op, client_packets, client_spelling, IsClientPacket, takes_memory};
@@ -38,7 +38,7 @@ pub fn read_client_again()
 /// request, as `read_request` of `usbip_op` reads it, and else a URB request, as `read_urb` does. So it is refused as
 /// `Version` at place 0 where they are neither 01 11 nor 00 00. Memory is wanting only for a body or descriptors.
 pub fn read_client(alloc: Global, bytes: &[u8]) -> Result<Read<ClientPacket>, ReadError>
-    ensures stands { IfTold result (Stands client_packets bytes.now) }
+    ensures stands { IfTold result (StandsAtFront client_packets bytes.now) }
     ensures exact { Answers takes_memory result (reading client_packets bytes.now) }
 {
     let mut bytes = bytes;

@@ -3,7 +3,7 @@
 ghost use Rattle.std.specs.Prelude.{◌≡◌, ◌++◌, ◌≤◌, ℕ, None, List, length};
 ghost use Rattle.std.specs.Int.{w32};
 ghost use Rattle.usb_base.specs.Number.{be_at};
-ghost use Rattle.packet_stream.specs.Format.{IsSound, Stands, reading, reading_by, Whole as FoundWhole};
+ghost use Rattle.packet_stream.specs.Format.{IsSound, StandsAtFront, reading, reading_by, Whole as FoundWhole};
 ghost use Rattle.packet_stream.specs.Reads.{Answers, IfTold, bytes_left};
 ghost use Rattle.usbip_urb.specs.declared.packet.UrbPacket.{UrbPacket as Packet};
 ghost use Rattle.usbip_urb.specs.declared.code.TheConstants.{HEAD_SIZE, USBIP_CMD_SUBMIT};
@@ -36,7 +36,7 @@ pub fn read_urb_again()
 /// 0, `Device` at 8, `Direction` at 12, `Endpoint` at 16, and in a submit `TooLong` at 24 and `Packets` at 32. A
 /// packet that isn't whole costs its first 48 bytes at most. Memory is wanting only for a body or descriptors.
 pub fn read_urb(alloc: Global, bytes: &[u8]) -> Result<UrbRead, UrbError>
-    ensures stands { IfTold result (Stands requests bytes.now) }
+    ensures stands { IfTold result (StandsAtFront requests bytes.now) }
     ensures exact { Answers takes_memory result (reading requests bytes.now) }
 {
     let mut bytes = bytes;

@@ -23,7 +23,7 @@ use Rattle.gate_history.specs.declared.verdict.Verdict.TheVariants.{Now, Wire, R
 use Rattle.gate_history.specs.step.Marks.{Submission, Effect, Answers, Mark}
 use Rattle.gate_history.specs.client.Submits.{Pending, ByAnswer, has_id, ends, is_waiting}
 use Rattle.gate_history.specs.state.State.{State, submits}
-use Rattle.gate_history.specs.host.Responses.{Response, Data, Status, response_of, answer_kind, seen, outcome}
+use Rattle.gate_history.specs.host.Responses.{Response, Data, Status, response_of, answer_kind, told_outcome, outcome}
 use Rattle.gate_history.specs.step.Meaning.{meaning, answered_as, answer_to, by_response, by_arrival}
 use Rattle.gate_history.specs.step.Machine.{live_after}
 use Rattle.gate_history.specs.write.Output.{present, to_client}
@@ -56,10 +56,10 @@ data-means st place k h r v length_place o found kind few =
     right x y z a i b j c k = λ t. cond (not (i t)) (Some x) (cond (not (j t)) (Some y) (cond (k t) (Some z) None))
 
 status-means : (st : State) (place k : ℕ) (h : Header) (r : Request) (v : Verdict) (status value : ℕ) → find (has_id h.id) (submits st ++ st.abandoned) ≡ Some (one k r v h.id) →
-    (h.kind == answer_kind v) ≡ true → answer_to st place h (Status status value) (find (has_id h.id) (submits st ++ st.abandoned)) ≡ Answers h.id (seen r v (Status status value))
+    (h.kind == answer_kind v) ≡ true → answer_to st place h (Status status value) (find (has_id h.id) (submits st ++ st.abandoned)) ≡ Answers h.id (told_outcome r v (Status status value))
 status-means st place k h r v status value found kind =
     ap (answer_to st place h (Status status value)) found
-    ∙ ap (answered_as h.id (seen r v (Status status value))) (right _ (h.kind == answer_kind v) kind)
+    ∙ ap (answered_as h.id (told_outcome r v (Status status value))) (right _ (h.kind == answer_kind v) kind)
   where
     right : (x : Refusal) (a : Bool) → a ≡ true → cond a None (Some x) ≡ None
     right x a i = λ t. cond (i t) None (Some x)
@@ -100,7 +100,7 @@ answer-means st place k id r (Routed x) configuration o fits is named found = ro
         answer_to st place (record h { id = id }) (Status (status_byte o.status) value) (find (has_id id) (submits st ++ st.abandoned)) ≡ Answers id (seen_by r (Routed y) configuration o)
     by_status y value f s told h same kind =
         status-means st place k (record h { id = id }) r (Routed y) (status_byte o.status) value f kind
-        ∙ ap (λ (z : Response). Answers id (seen r (Routed y) z)) (is-it (status_byte o.status) value s.response (told ∙ s.response-is))
+        ∙ ap (λ (z : Response). Answers id (told_outcome r (Routed y) z)) (is-it (status_byte o.status) value s.response (told ∙ s.response-is))
         ∙ ap (Answers id) s.seen-is
 
     routed : (y : Route) → find (has_id id) (submits st ++ st.abandoned) ≡ Some (one k r (Routed y) id) → IsSeen r (Routed y) configuration o (answer_packet configuration r (Routed y) o) →

@@ -20,7 +20,7 @@ use Rattle.gate_history.specs.write.Packets.{no_setup}
 use Rattle.gate_history.specs.declared.verdict.Pipe.TheVariants.{Control, Bulk, InterruptOut}
 use Rattle.gate_history.specs.declared.verdict.Verdict.{Verdict}
 use Rattle.gate_history.specs.declared.verdict.Verdict.TheVariants.{Now, Wire, Routed, IsoOut, Stream}
-use Rattle.gate_history.specs.host.Responses.{Response, Data, Status, response_of, seen, got, outcome}
+use Rattle.gate_history.specs.host.Responses.{Response, Data, Status, response_of, told_outcome, got, outcome}
 use Rattle.direct_device.specs.Direct.{normal_of, normal_by, seen_by, change_in}
 use Rattle.direct_proof.specs.Requests.{Entry, at_queue, form_by, queued_transfer}
 use Rattle.direct_proof.specs.Loads.{FitsRoute, FitsVerdict}
@@ -67,7 +67,7 @@ named-success (Other (suc n)) h = grind arith
 pub record IsSeen (r : Request) (v : Verdict) (configuration : ℕ) (o : Outcome) (p : RedirPacket) : Type 0 where
   pub response : Response
   pub response-is : response_of p ≡ Some response
-  pub seen-is : seen r v response ≡ seen_by r v configuration o
+  pub seen-is : told_outcome r v response ≡ seen_by r v configuration o
 
 pub read-as : (o : Outcome) → IsNamed o.status → outcome (status_byte o.status) o.done o.body ≡ o
 read-as o h = λ i. record { status = h i; done = o.done; body = o.body }

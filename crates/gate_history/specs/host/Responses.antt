@@ -94,6 +94,6 @@ gets _ = false
 abbrev pub got : UsbStatus → List ℕ → Outcome
 got status body = record { status = status; done = length body; body = body }
 
-abbrev pub seen : Request → Verdict → Response → Outcome
-seen r v (Data endpoint length_place o) = o
-seen r v (Status status value) = got (status_of status) (if (status == 0) && gets v then take r.transfer.wanted (value ∷ []) else [])
+abbrev pub told_outcome : Request → Verdict → Response → Outcome
+told_outcome r v (Data endpoint length_place o) = o
+told_outcome r v (Status status value) = got (status_of status) (if (status == 0) && gets v then take r.transfer.wanted (value ∷ []) else [])

@@ -18,7 +18,7 @@ use Rattle.gate_parts.specs.declared.host.response.Response.{Response as RawResp
 use Rattle.gate_parts.specs.declared.host.response.Response.TheVariants as raw
 use Rattle.gate_parts.specs.declared.host.response.StreamIn.{StreamIn}
 use Rattle.gate_history.specs.step.Marks.{Submission, Effect, Idle, Answers}
-use Rattle.gate_history.specs.host.Responses.{Response, Data, Status, wire_answer, route_answer, route_gets, mismatched, got, seen}
+use Rattle.gate_history.specs.host.Responses.{Response, Data, Status, wire_answer, route_answer, route_gets, mismatched, got, told_outcome}
 use Rattle.gate_history.specs.write.All.{is_ret_submit, is_won_unlink}
 use Rattle.gate_history.specs.write.Asked.{IsMoved}
 
@@ -80,7 +80,7 @@ IsAnswer l (Status status value) = Unit {0}
 -- an answer that is that of the request which waits for it, if one does
 abbrev pub completes : ℕ → Response → Option Submission → Effect
 completes id response None = Idle
-completes id response (Some s) = Answers id (seen s.request s.verdict response)
+completes id response (Some s) = Answers id (told_outcome s.request s.verdict response)
 
 abbrev pub has_won : Ending → Bool
 has_won (Unlinked by) = true

@@ -6,7 +6,7 @@ ghost use Rattle.usb_base.specs.declared.side.Side.TheVariants.{Host};
 ghost use Rattle.gate_history.specs.declared.request.Request.{Request};
 ghost use Rattle.gate_history.specs.declared.verdict.Verdict.{Verdict};
 ghost use Rattle.redir_data.specs.declared.packet.RedirPacket.TheVariants.{Plain, Carrying};
-ghost use Rattle.gate_history.specs.host.Responses.{Data, outcome, response_of, wire_answer, route_answer, mismatched, route_gets, gets as gets_value, seen};
+ghost use Rattle.gate_history.specs.host.Responses.{Data, outcome, response_of, wire_answer, route_answer, mismatched, route_gets, gets as gets_value, told_outcome};
 ghost use Rattle.gate_parts.specs.host.Responses.{response_view, status_outcome, row_answer, row_ep, row_gets, row_mismatch, stream_in, packet_in};
 ghost use Rattle.redir_wire.specs.Header.{head_size};
 ghost use Rattle.gate_history.specs.state.Flight.{wide_ids};
@@ -211,8 +211,13 @@ fn route_gets(route: &Route) -> bool
 
 /// What came of a transfer by its answer, whose data are moved. A status gives a byte where the request `gets` its
 /// value, and so many bytes are `wanted` at most; memory is wanting for that byte alone.
-pub fn seen(alloc: Global, gets: bool, wanted: u32, response: Response) -> Result<Outcome, Memory>
-    ensures ok { IfOk result (λ o. (r : Request) (v : Verdict) → r.transfer.wanted ≡ wanted → gets_value v ≡ gets → o ≡ seen r v (response_view response)) }
+pub fn told_outcome(
+    alloc: Global,
+    gets: bool,
+    wanted: u32,
+    response: Response,
+) -> Result<Outcome, Memory>
+    ensures ok { IfOk result (λ o. (r : Request) (v : Verdict) → r.transfer.wanted ≡ wanted → gets_value v ≡ gets → o ≡ told_outcome r v (response_view response)) }
     ensures err { OnErr result ((gets ≡ true) × (0 < wanted)) }
 {
     match response {

@@ -17,9 +17,9 @@ pub struct Calls {
 }
 
 impl Model for Calls {
-    ghost use Rattle.gate_history.specs.state.Calls.{Calls as Seen};
+    ghost use Rattle.gate_history.specs.state.Calls.{Calls as CallsView};
 
-    ghost Value = { Seen };
+    ghost Value = { CallsView };
 
     ghost view = { λ calls. record { started = calls.started; stopped = calls.stopped } };
 

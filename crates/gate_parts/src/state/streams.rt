@@ -22,9 +22,9 @@ pub struct Streams {
 impl Model for Streams {
     ghost use Rattle.std.specs.Prelude.{◌≡◌, List, Option, length};
     ghost use Rattle.usb_base.specs.declared.endpoint.TheConstants.{ENDPOINTS};
-    ghost use Rattle.gate_history.specs.state.Ups.{Up as Seen};
+    ghost use Rattle.gate_history.specs.state.Ups.{Up as UpView};
 
-    ghost Value = { List (Option Seen) };
+    ghost Value = { List (Option UpView) };
 
     ghost view = { λ streams. streams.ups };
 

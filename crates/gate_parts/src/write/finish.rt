@@ -9,14 +9,14 @@ ghost use Rattle.gate_history.specs.write.Asked.{asked_view, HasItsPackets, IsMo
 ghost use Rattle.gate_parts.specs.state.Rows.{IsRowOf, row_request, lost_bytes, row_of, IsRead, row_for, ended_bytes};
 ghost use Rattle.usbip_urb.specs.declared.client.ClientPacket.TheVariants.{Urb};
 ghost use Rattle.gate_history.specs.declared.note.Note.TheVariants.{Answered};
-ghost use Rattle.gate_history.specs.host.Responses.{seen};
+ghost use Rattle.gate_history.specs.host.Responses.{told_outcome};
 ghost use Rattle.gate_parts.specs.host.Responses.{response_view, IsAnswer, IsCounted, has_won};
 ghost use Rattle.gate_parts.specs.write.Extends.{Extends};
 ghost use Rattle.unlink_race.specs.Endings.{ending_of};
 ghost use Rattle.unlink_race.specs.Searches.{ended_by};
 ghost use Rattle.gate_parts.specs.write.Outputs.{with_answers};
 
-use crate::host::response::{Response, gets, seen};
+use crate::host::response::{Response, gets, told_outcome};
 use crate::write::answer::{write_outcome, write_ret_unlink, write_without_packets};
 use crate::write::outputs::Outputs;
 use gate_history::errno::{ECONNRESET, ESHUTDOWN};
@@ -115,13 +115,13 @@ pub fn write_completed(
     requires read { (live.now.wanted ≡ 0) ⊎ IsRead live.now.is_in live.now.kind }
     requires answer { IsAnswer live.now (response_view response) }
     ensures ok { (s : Submission) → row_of s live.now.unlinker ≡ live.now
-        → OnOk result (out.new ≡ with_answers out.old (flat_map spelling (answers_by s (seen s.request s.verdict (response_view response)) live.now.unlinker)) (Answered live.now.seqnum ∷ [])) }
+        → OnOk result (out.new ≡ with_answers out.old (flat_map spelling (answers_by s (told_outcome s.request s.verdict (response_view response)) live.now.unlinker)) (Answered live.now.seqnum ∷ [])) }
     ensures counted { (s : Submission) → row_of s live.now.unlinker ≡ live.now
-        → IfOk result (λ ending. IsCounted (map Urb (answers_by s (seen s.request s.verdict (response_view response)) live.now.unlinker)) (has_won ending)) }
+        → IfOk result (λ ending. IsCounted (map Urb (answers_by s (told_outcome s.request s.verdict (response_view response)) live.now.unlinker)) (has_won ending)) }
     ensures err { OnErr result (out.new ≡ record out.old { notes = out.new.notes }) }
     ensures err_notes { OnErr result (Extends out.old.notes out.new.notes) }
 {
-    let outcome = seen(alloc, gets(&live.kind), live.wanted, response)?;
+    let outcome = told_outcome(alloc, gets(&live.kind), live.wanted, response)?;
     out.notes.push(Note::Answered {
         seqnum: live.seqnum,
     })?;

@@ -4,3 +4,4 @@ pub mod Answers
 pub mod Facts
 pub mod Replies
 pub mod Readable
+pub mod Begun

@@ -1,11 +1,11 @@
 -- Which requests stand in which lane of the arena, and in which order.
 use Rattle.std.specs.Prelude.{◌≡◌, ◌==◌, ◌<◌, ◌+◌, ℕ, List, [], ◌∷◌, ⊤, map, filter}
-use Rattle.urb_arena.specs.Seen.{Seen}
+use Rattle.urb_arena.specs.ArenaView.{ArenaView}
 use Rattle.unlink_race.specs.declared.live.Live.{Live}
 use Rattle.unlink_race.specs.Inner.Lane.{lane_of}
 
 -- the keys of each lane, from the front on
-abbrev pub keys_of : Seen (ℕ × Live) → List (List ℕ)
+abbrev pub keys_of : ArenaView (ℕ × Live) → List (List ℕ)
 keys_of arena = map (λ ps. map (λ p. p.0) ps) arena.lanes
 
 -- of keys with their requests, those whose requests belong in this lane

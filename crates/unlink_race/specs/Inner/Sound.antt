@@ -2,7 +2,7 @@
 use Rattle.std.specs.Prelude.{◌≡◌, ◌≤◌, ◌+◌, ℕ, Bool, List, [], ◌∷◌, Option, length, map, if◌then◌else◌}
 use Rattle.std.specs.List.{zip}
 use Rattle.usbip_urb.specs.declared.code.TheConstants.{MAX_LIVE}
-use Rattle.urb_arena.specs.Seen.{Seen}
+use Rattle.urb_arena.specs.ArenaView.{ArenaView}
 use Rattle.urb_arena.specs.Lanes.{find_in, count}
 use Rattle.unlink_race.specs.declared.table.TheConstants.{LANES}
 use Rattle.unlink_race.specs.declared.live.Live.{Live}
@@ -11,17 +11,17 @@ use Rattle.unlink_race.specs.Inner.Listed.{IsKeyed, listed}
 use Rattle.unlink_race.specs.Inner.Placed.{keys_of, ArePlaced}
 
 -- the request of a key, with its number, in whichever lane it stands
-abbrev pub entry_of : Seen (ℕ × Live) → ℕ → Option (ℕ × Live)
+abbrev pub entry_of : ArenaView (ℕ × Live) → ℕ → Option (ℕ × Live)
 entry_of arena k = find_in k arena.lanes
 
 -- the requests with their numbers, in order of acceptance
-abbrev pub in_order : Seen (ℕ × Live) → List ℕ → List (ℕ × Live)
+abbrev pub in_order : ArenaView (ℕ × Live) → List ℕ → List (ℕ × Live)
 in_order arena keys = listed (λ k. k) (entry_of arena) keys
 
-abbrev pub lives_of : Seen (ℕ × Live) → List ℕ → List Live
+abbrev pub lives_of : ArenaView (ℕ × Live) → List ℕ → List Live
 lives_of arena keys = map (λ entry. entry.1) (in_order arena keys)
 
-abbrev pub numbers_of : Seen (ℕ × Live) → List ℕ → List ℕ
+abbrev pub numbers_of : ArenaView (ℕ × Live) → List ℕ → List ℕ
 numbers_of arena keys = map (λ entry. entry.0) (in_order arena keys)
 
 -- the numbers rise: none is below low, and each is below high
@@ -30,7 +30,7 @@ Rises low [] high = low ≤ high
 Rises low (n ∷ ns) high = (low ≤ n) × Rises (n + 1) ns high
 
 -- the requests are the same in another arena, and may have other numbers there
-pub record HasDealt (old new : Seen (ℕ × Live)) (keys : List ℕ) : Type 0 where
+pub record HasDealt (old new : ArenaView (ℕ × Live)) (keys : List ℕ) : Type 0 where
   pub kept : IsKeyed (λ k. k) (entry_of new) keys
   pub lives : lives_of new keys ≡ lives_of old keys
   pub count : count new.lanes ≡ count old.lanes
@@ -39,7 +39,7 @@ pub record HasDealt (old new : Seen (ℕ × Live)) (keys : List ℕ) : Type 0 wh
   pub keys_stay : keys_of new ≡ keys_of old
 
 -- each key has its request, and no request is without a key
-pub record IsSound (arena : Seen (ℕ × Live)) (keys : List ℕ) : Type 0 where
+pub record IsSound (arena : ArenaView (ℕ × Live)) (keys : List ℕ) : Type 0 where
   pub kept : IsKeyed (λ k. k) (entry_of arena) keys
   pub all : count arena.lanes ≡ length keys
   pub bound : length keys ≤ MAX_LIVE

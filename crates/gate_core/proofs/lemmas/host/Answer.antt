@@ -38,7 +38,7 @@ use Rattle.gate_history.specs.state.Sides.{is_loss, closes_host, turned, is_clie
 use Rattle.gate_history.specs.state.Flight.{wide_ids}
 use Rattle.gate_history.specs.client.Submits.{Pending, has_id}
 use Rattle.gate_history.specs.state.State.{State, submits}
-use Rattle.gate_history.specs.host.Responses.{Response, response_of, mismatch, seen}
+use Rattle.gate_history.specs.host.Responses.{Response, response_of, mismatch, told_outcome}
 use Rattle.gate_history.specs.step.Meaning.{mark_as, answered_as, answer_to, by_response, told_meaning}
 use Rattle.gate_history.specs.state.Sound.{IsSound}
 use Rattle.gate_history.specs.write.Answers.{answers_by}
@@ -231,8 +231,8 @@ module _ (st : State) (id : ℕ) (response : Response) (sound : IsSound st) wher
   pub does-live : (old : Kept) (lives : Requests) (l : Live) (won : Bool) (answered unlinked : ℕ) (out out_new : Outputs) → Holds old st → old.dropped ≤ 2 ^ 64 - 1 →
       find (has_row_id id) old.lives.live ≡ Some l →
       lives ≡ record old.lives { live = without_first (has_row_id id) old.lives.live } →
-      ((s : Submission) → row_of s l.unlinker ≡ l → out_new ≡ with_answers out (flat_map spelling (answers_by s (seen s.request s.verdict response) l.unlinker)) (note.Answered l.seqnum ∷ [])) →
-      ((s : Submission) → row_of s l.unlinker ≡ l → IsCounted (map Urb (answers_by s (seen s.request s.verdict response) l.unlinker)) won) →
+      ((s : Submission) → row_of s l.unlinker ≡ l → out_new ≡ with_answers out (flat_map spelling (answers_by s (told_outcome s.request s.verdict response) l.unlinker)) (note.Answered l.seqnum ∷ [])) →
+      ((s : Submission) → row_of s l.unlinker ≡ l → IsCounted (map Urb (answers_by s (told_outcome s.request s.verdict response) l.unlinker)) won) →
       answered ≡ capped (old.answered + cond won 0 1) →
       unlinked ≡ capped (old.unlinked + cond won 1 0) →
       Does st (mark_as st (completes id response (find (has_id id) (submits st ++ st.abandoned))) None) old (record old { lives = lives; answered = answered; unlinked = unlinked }) out out_new
@@ -241,7 +241,7 @@ module _ (st : State) (id : ℕ) (response : Response) (sound : IsSound st) wher
       let s = p.from.submit in
       let by : l.unlinker ≡ p.from.unlinker = ap (λ (k : Live). k.unlinker) (sym p.is) in
       let its : row_of s l.unlinker ≡ l = ap (row_of s) by ∙ p.is in
-      let o = seen s.request s.verdict response in
+      let o = told_outcome s.request s.verdict response in
       let one : sent st id o (p.from ∷ []) ≡ map Urb (answers_by s o l.unlinker) = ap (map Urb) (append-nil (answers_by s o p.from.unlinker)) ∙ ap (λ (u : Option ℕ). map Urb (answers_by s o u)) (sym by) in
       let count = counted s its in
       let effect : Answers id o ≡ completes id response (find (has_id id) (submits st ++ st.abandoned)) =
@@ -264,7 +264,7 @@ module _ (st : State) (id : ℕ) (response : Response) (sound : IsSound st) wher
       GivesSome st (mark_as st (completes id response (find (has_id id) (submits st ++ st.abandoned))) None)
   live-gives old l h found =
       let p = map-some row (find (pending_has_id id) st.live) l (sym (find-rows id st.live) ∙ ap (find (has_row_id id)) (sym h.live) ∙ found) in
-      let o = seen p.from.submit.request p.from.submit.verdict response in
+      let o = told_outcome p.from.submit.request p.from.submit.verdict response in
       let effect : Answers id o ≡ completes id response (find (has_id id) (submits st ++ st.abandoned)) =
       sym (ap (completes id response) (waits ∙ ap (λ (q : Option Pending). option_or (option_map (λ (r : Pending). r.submit) q) (find (has_id id) st.abandoned)) p.found)) in
       let one : length (answer_notes st (Answers id o)) ≡ 1 = ap length (answer-noted st id o ∙ ap (told_of st id o) (found-alone st id sound ∙ ap option_to_list p.found)) in
@@ -288,7 +288,7 @@ module _ (st : State) (id : ℕ) (response : Response) (sound : IsSound st) wher
 
       of : (o : Option Submission) → find (has_id id) st.abandoned ≡ o → Does st (mark_as st (completes id response o) None) old (record old { lives = lives }) out out
       of (Some s) e =
-          does-answer st id (seen s.request s.verdict response) old (record old { lives = lives }) lives.live lives.abandoned [] out out h dropped_fits
+          does-answer st id (told_outcome s.request s.verdict response) old (record old { lives = lives }) lives.live lives.abandoned [] out out h dropped_fits
           (found-alone st id sound ∙ ap option_to_list none) rows
           (ap (λ (r : Requests). map unmarked r.abandoned) rest ∙ abandoned-without st id sound old.lives.abandoned h.abandoned)
           (λ i. record old { lives = lives; answered = capped-same old.answered answered_fits i; unlinked = capped-same old.unlinked unlinked_fits i })
@@ -333,11 +333,11 @@ found-wrong old st at place h response holds is fits =
 
 is-refused : (st : State) (at : ℕ) (h : Header) (response : Response) (o : Option Submission) (r : Refusal) → option_and_then (wrong_of st at h response) o ≡ Some r → answer_to st at h response o ≡ Refuses r
 is-refused st at h response None r e = absurd (false≢true (sym (ap is_none e)))
-is-refused st at h response (Some s) r e = ap (answered_as h.id (seen s.request s.verdict response)) e
+is-refused st at h response (Some s) r e = ap (answered_as h.id (told_outcome s.request s.verdict response)) e
 
 is-completed : (st : State) (at : ℕ) (h : Header) (response : Response) (o : Option Submission) → option_and_then (wrong_of st at h response) o ≡ None → answer_to st at h response o ≡ completes h.id response o
 is-completed st at h response None e = refl
-is-completed st at h response (Some s) e = ap (answered_as h.id (seen s.request s.verdict response)) e
+is-completed st at h response (Some s) e = ap (answered_as h.id (told_outcome s.request s.verdict response)) e
 
 -- by the row that is found
 wrong-at : (old : Kept) (st : State) (at place : ℕ) (h : Header) (response : Response) (l : Live) → Holds old st → place ≡ capped at → ResponseFits h.kind (Some response) →
@@ -397,7 +397,7 @@ answer-closes : (st : State) (at : ℕ) (h : Header) (response : Response) (o : 
 answer-closes st at h response None = refl
 answer-closes st at h response (Some s) = of (mismatch at (head_size (wide_ids st.agreed)) s h.kind response)
   where
-    of : (r : Option Refusal) → turned closes_host (λ e. false) (answered_as h.id (seen s.request s.verdict response) r) false ≡ is_loss (answered_as h.id (seen s.request s.verdict response) r)
+    of : (r : Option Refusal) → turned closes_host (λ e. false) (answered_as h.id (told_outcome s.request s.verdict response) r) false ≡ is_loss (answered_as h.id (told_outcome s.request s.verdict response) r)
     of None = refl
     of (Some r) = closing r
 

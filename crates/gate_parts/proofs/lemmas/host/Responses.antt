@@ -30,7 +30,7 @@ use Rattle.gate_history.specs.declared.verdict.Pipe.TheVariants.{Control, Bulk, 
 use Rattle.gate_history.specs.declared.verdict.Verdict.{Verdict}
 use Rattle.gate_history.specs.declared.verdict.Verdict.TheVariants.{Now, Wire, Routed, IsoOut, Stream}
 use Rattle.gate_history.specs.step.Marks.{Submission}
-use Rattle.gate_history.specs.host.Responses.{Response, Data, Status, route_answer, answer_kind, mismatched, mismatch, gets, got, seen}
+use Rattle.gate_history.specs.host.Responses.{Response, Data, Status, route_answer, answer_kind, mismatched, mismatch, gets, got, told_outcome}
 use Rattle.gate_history.specs.write.Answers.{with_outcome, answers_by}
 use Rattle.gate_history.specs.write.Asked.{IsMoved}
 use Rattle.gate_parts.specs.state.Rows.{IsRowOf, kind_of, row_of, row_request, IsRead, IsFine}
@@ -185,7 +185,7 @@ both-right : (a b : Bool) → (a && b) ≡ true → b ≡ true
 both-right true b e = e
 both-right false b e = absurd (false≢true e)
 
-pub seen-moved : (l : Live) (v : Verdict) (r : Response) → gets v ≡ row_gets l.kind → (l.wanted ≡ 0) ⊎ IsRead l.is_in l.kind → IsAnswer l r → IsMoved l.is_in (seen (row_request l) v r)
+pub seen-moved : (l : Live) (v : Verdict) (r : Response) → gets v ≡ row_gets l.kind → (l.wanted ≡ 0) ⊎ IsRead l.is_in l.kind → IsAnswer l r → IsMoved l.is_in (told_outcome (row_request l) v r)
 seen-moved l v (Data endpoint length_place o) e read answer = answer
 seen-moved l v (Status status value) e read answer = of (eqb status 0 && gets v) refl
   where

@@ -1,7 +1,7 @@
 use Rattle.std.proofs.Common.{arith, rules, ◌≡◌, subst, Bool, ℕ, List}
 use Rattle.usb_base.specs.Number.{AreBytes}
 use Rattle.usb_base.specs.declared.reason.Reason.{Reason}
-use Rattle.packet_stream.specs.Format.{Found, Stands, reading}
+use Rattle.packet_stream.specs.Format.{Found, StandsAtFront, reading}
 use Rattle.packet_stream.proofs.Formats.{stands}
 use Rattle.redir_wire.specs.declared.packet.Caps.{Caps}
 use Rattle.redir_wire.specs.declared.packet.Header.{Header}
@@ -10,8 +10,8 @@ use Rattle.redir_wire.specs.Header.{headers}
 use Rattle.redir_wire.proofs.Heads.{headers_sound}
 use Rattle.redir_wire.proofs.header.read_header.Goals as goal
 
-stands-so : (first : Bool) (caps : Caps) (way : Way) {found : Found Header Reason} (b : List ℕ) → AreBytes b → reading (headers first caps way) b ≡ found → Stands (headers first caps way) b found
-stands-so first caps way b bytes e = subst (Stands (headers first caps way) b) e (stands (headers first caps way) (headers_sound first caps way) b bytes)
+stands-so : (first : Bool) (caps : Caps) (way : Way) {found : Found Header Reason} (b : List ℕ) → AreBytes b → reading (headers first caps way) b ≡ found → StandsAtFront (headers first caps way) b found
+stands-so first caps way b bytes e = subst (StandsAtFront (headers first caps way) b) e (stands (headers first caps way) (headers_sound first caps way) b bytes)
 
 pub returns-then-bytes-lt4-clause-exact : goal.returns-then-bytes-lt4-clause-exact
 returns-then-bytes-lt4-clause-exact c = search rules

@@ -1,7 +1,7 @@
 use Rattle.std.proofs.Common.{arith, rules, ◌≡◌, subst, Some, ℕ, List}
 use Rattle.usb_base.specs.Number.{AreBytes}
 use Rattle.usb_base.specs.declared.reason.Reason.{Reason}
-use Rattle.packet_stream.specs.Format.{Found, Stands, reading}
+use Rattle.packet_stream.specs.Format.{Found, StandsAtFront, reading}
 use Rattle.packet_stream.proofs.Formats.{stands}
 use Rattle.usbip_op.specs.declared.packet.OpPacket.{OpPacket}
 use Rattle.usbip_op.specs.Requests.{requests}
@@ -11,8 +11,8 @@ use Rattle.usbip_op.proofs.read.read_request.Goals as goal
 some-is : {X : Type 0} (x y : X) → Some x ≡ Some y → y ≡ x
 some-is x y e = cc
 
-stands-so : {found : Found OpPacket Reason} (b : List ℕ) → AreBytes b → Some found ≡ Some (reading requests b) → Stands requests b found
-stands-so {found = found} b bytes e = subst (Stands requests b) (some-is found (reading requests b) e) (stands requests requests_sound b bytes)
+stands-so : {found : Found OpPacket Reason} (b : List ℕ) → AreBytes b → Some found ≡ Some (reading requests b) → StandsAtFront requests b found
+stands-so {found = found} b bytes e = subst (StandsAtFront requests b) (some-is found (reading requests b) e) (stands requests requests_sound b bytes)
 
 pub returns-then-bytes-lt4-clause-exact : goal.returns-then-bytes-lt4-clause-exact
 returns-then-bytes-lt4-clause-exact c = search rules

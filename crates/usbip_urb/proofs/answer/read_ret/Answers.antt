@@ -2,7 +2,7 @@ use Rattle.std.proofs.Common.{arith, rules, ◌≡◌, subst, Bool, ℕ, List}
 use Rattle.std.proofs.lemmas.Grind.{common_steps}
 use Rattle.usb_base.specs.Number.{AreBytes}
 use Rattle.usb_base.specs.declared.reason.Reason.{Reason}
-use Rattle.packet_stream.specs.Format.{Found, Stands, reading}
+use Rattle.packet_stream.specs.Format.{Found, StandsAtFront, reading}
 use Rattle.packet_stream.proofs.Formats.{stands}
 use Rattle.packet_stream.proofs.Told.{answers_stands}
 use Rattle.usbip_urb.specs.declared.packet.UrbPacket.{UrbPacket}
@@ -11,8 +11,8 @@ use Rattle.usbip_urb.specs.Answers.{answers}
 use Rattle.usbip_urb.proofs.Answers.{answers_sound}
 use Rattle.usbip_urb.proofs.answer.read_ret.Goals as goal
 
-stands-so : (is_in : Bool) {found : Found UrbPacket Reason} (b : List ℕ) → AreBytes b → reading (answers is_in) b ≡ found → Stands (answers is_in) b found
-stands-so is_in b bytes e = subst (Stands (answers is_in) b) e (stands (answers is_in) (answers_sound is_in) b bytes)
+stands-so : (is_in : Bool) {found : Found UrbPacket Reason} (b : List ℕ) → AreBytes b → reading (answers is_in) b ≡ found → StandsAtFront (answers is_in) b found
+stands-so is_in b bytes e = subst (StandsAtFront (answers is_in) b) e (stands (answers is_in) (answers_sound is_in) b bytes)
 
 pub returns-then-bytes-lt-HEAD_SIZE-clause-exact : goal.returns-then-bytes-lt-HEAD_SIZE-clause-exact
 returns-then-bytes-lt-HEAD_SIZE-clause-exact c = grind (arith, common_steps)

@@ -13,7 +13,7 @@ use Rattle.unlink_race.specs.Endings.{ending_of}
 use Rattle.gate_history.specs.declared.request.Request.{Request}
 use Rattle.gate_history.specs.declared.verdict.Verdict.{Verdict}
 use Rattle.gate_history.specs.step.Marks.{Submission}
-use Rattle.gate_history.specs.host.Responses.{Response, gets as gets_value, seen}
+use Rattle.gate_history.specs.host.Responses.{Response, gets as gets_value, told_outcome}
 use Rattle.gate_parts.specs.state.Rows.{row_of, row_request}
 use Rattle.gate_parts.proofs.lemmas.host.Responses.{row-is, row-gets, getting, getting-is, seen-moved, answers-counted}
 use Rattle.gate_parts.proofs.write.finish.write_completed.Goals as goal
@@ -27,8 +27,8 @@ write_answers-requires-clause-moved c =
 
 -- the outcome is what the answer makes of the submit's transfer
 module _ (l : Live) (response : Response) (o : Outcome) (gets : Bool) (gets-is : gets ≡ row_gets l.kind)
-    (is : (r : Request) (v : Verdict) → r.transfer.wanted ≡ l.wanted → gets_value v ≡ gets → o ≡ seen r v response) (s : Submission) (e : row_of s l.unlinker ≡ l) where
-  seen-is : o ≡ seen s.request s.verdict response
+    (is : (r : Request) (v : Verdict) → r.transfer.wanted ≡ l.wanted → gets_value v ≡ gets → o ≡ told_outcome r v response) (s : Submission) (e : row_of s l.unlinker ≡ l) where
+  seen-is : o ≡ told_outcome s.request s.verdict response
   seen-is = is s.request s.verdict (ap (λ (k : Live). k.wanted) e) (sym (row-gets s.verdict s.request.transfer.ep) ∙ ap (λ (k : Live). row_gets k.kind) e ∙ sym gets-is)
 
 pub returns-clause-ok : goal.returns-clause-ok
@@ -44,7 +44,7 @@ pub returns-clause-counted : goal.returns-clause-counted
 returns-clause-counted c s e =
     let l = c.args.live.now in
     let is = seen-is l (response_view c.args.response) c.in_ok-outcome.outcome c.gets.result c.gets.ensures c.in_ok-outcome.ensures.ok s e in
-    IfOk-weaker c.write_answers.result (λ (e : Ending). e ≡ ending_of l.unlinker l.kind c.in_ok-outcome.outcome.status) (λ (e : Ending). IsCounted (map Urb (answers_by s (seen s.request s.verdict (response_view c.args.response)) l.unlinker)) (has_won e))
-    (λ ending ends. subst (λ (b : Bool). IsCounted (map Urb (answers_by s (seen s.request s.verdict (response_view c.args.response)) l.unlinker)) b) (sym (ap has_won ends))
+    IfOk-weaker c.write_answers.result (λ (e : Ending). e ≡ ending_of l.unlinker l.kind c.in_ok-outcome.outcome.status) (λ (e : Ending). IsCounted (map Urb (answers_by s (told_outcome s.request s.verdict (response_view c.args.response)) l.unlinker)) (has_won e))
+    (λ ending ends. subst (λ (b : Bool). IsCounted (map Urb (answers_by s (told_outcome s.request s.verdict (response_view c.args.response)) l.unlinker)) b) (sym (ap has_won ends))
     (subst (λ (o : Outcome). IsCounted (map Urb (answers_by s o l.unlinker)) (has_won (ending_of l.unlinker l.kind c.in_ok-outcome.outcome.status))) is (answers-counted s l c.in_ok-outcome.outcome (row-is s l.unlinker l e))))
     c.write_answers.ensures.ending

@@ -6,6 +6,7 @@ use Rattle.redir_host.specs.step.Acts.{Perform}
 use Rattle.redir_host.specs.step.Items.{Performs}
 use Rattle.redir_host.specs.step.Stands.{Does, DoesAct, IsReady, StopsIn}
 use Rattle.redir_host.specs.inner.Views.{kept_of}
+use Rattle.redir_host.proofs.lemmas.write.Begun.{front-begun}
 use Rattle.redir_host.proofs.lemmas.step.Stands.{stands-performed}
 use Rattle.redir_host.proofs.lemmas.step.Wanted.{on_err_both, on_err_given, on_ok_given, performed-gives, stops-one}
 use Rattle.redir_host.proofs.lemmas.step.Calls.{after-call}
@@ -36,7 +37,7 @@ returns-clause-stops g c =
     let m = g.G.Gadget.meaning in
     let h = c.self.inside.inner.host in
     let was = ap (λ (n : ℕ). take n c.perform-performed.new.out) c.len-before.ensures in
-    let same = on_err_both c.perform-performed.result (λ front taken. taken ∙ was ∙ front) c.perform-performed.ensures.err c.cut_on_err-told.ensures.err in
+    let same = on_err_both c.perform-performed.result (λ front taken. taken ∙ was ∙ front-begun _ _ front) c.perform-performed.ensures.err c.cut_on_err-told.ensures.err in
     let stops : OnErr c.cut_on_err-told.result (StopsIn m (Perform c.args.ep) (kept_of c.self.inside.inner) c.args.out.now c.cut_on_err-told.new.self) = on_err_given c.cut_on_err-told.result c.perform-performed.result c.cut_on_err-told.ensures.same
     (λ stops. stops)
     (on_err_both c.perform-performed.result

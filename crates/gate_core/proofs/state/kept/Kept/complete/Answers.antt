@@ -1,6 +1,6 @@
 use Rattle.std.proofs.Common.{◌≡◌, ◌∙◌, ◌+◌, ℕ, Bool, true, false, not, cond, map, refl, sym, ap, subst, arith}
 use Rattle.usbip_urb.specs.declared.client.ClientPacket.TheVariants.{Urb}
-use Rattle.gate_history.specs.host.Responses.{seen}
+use Rattle.gate_history.specs.host.Responses.{told_outcome}
 use Rattle.gate_history.specs.write.Answers.{answers_by}
 use mir.Val.{bool_byte}
 use Rattle.std.specs.Option.{option_copied}
@@ -48,7 +48,7 @@ returns-clause-ok c st id is h sound =
     let taken = live-taken (has_id id) c.args.self.now.lives c.args.at is c.in-Some.live.now (sym c.at.ensures ∙ ap option_copied c.in-Some.is) in
     does-live st id (response_view c.args.response) sound c.args.self.now c.finish_at-2.new.self c.in-Some.live.now c.has_won-won.result c.saturating_add-self.result c.saturating_add-self-2.result c.args.out.now c.write_completed.new.out
     h c.requires.kept.dropped_fits taken.0 (c.finish_at-2.ensures.rest ∙ taken.1)
-    c.in_ok-ending.ensures.ok (λ s row. subst (IsCounted (map Urb (answers_by s (seen s.request s.verdict (response_view c.args.response)) c.in-Some.live.now.unlinker))) (sym c.has_won-won.ensures) (c.in_ok-ending.ensures.counted s row))
+    c.in_ok-ending.ensures.ok (λ s row. subst (IsCounted (map Urb (answers_by s (told_outcome s.request s.verdict (response_view c.args.response)) c.in-Some.live.now.unlinker))) (sym c.has_won-won.ensures) (c.in_ok-ending.ensures.counted s row))
     (c.saturating_add-self.ensures ∙ ap (λ (n : ℕ). capped (c.args.self.now.answered + n)) (c.from.ensures ∙ lost-one c.has_won-won.result))
     (c.saturating_add-self-2.ensures ∙ ap (λ (n : ℕ). capped (c.args.self.now.unlinked + n)) (c.from-2.ensures ∙ won-one c.has_won-won.result))
 
