@@ -66,6 +66,15 @@ pub last_edge : (n p : ℕ → ℕ) (a : ℕ) (ks : List ℕ) (b : ℕ) → Path
 last_edge n p a [] b path = ap n path.1 ∙ path.0
 last_edge n p a (k ∷ ks) b path = last_edge n p k ks b path.2
 
+-- before the end of a path stands its last place
+pub last_cell : (n p : ℕ → ℕ) (a k : ℕ) (ks : List ℕ) (b : ℕ) → Path n p a (k ∷ ks) b → (xs : List ℕ) × (k ∷ ks ≡ xs ++ p b ∷ [])
+last_cell n p a k [] b path = ([], ap (λ j. j ∷ []) (sym path.2.1))
+last_cell n p a k (j ∷ ks) b path = let rest = last_cell n p k j ks b path.2 in (k ∷ rest.0, ap (λ js. k ∷ js) rest.1)
+
+pub last_in : (n p : ℕ → ℕ) (a k : ℕ) (ks : List ℕ) (b : ℕ) → Path n p a (k ∷ ks) b → In (p b) (k ∷ ks)
+last_in n p a k [] b path = inl (sym path.2.1)
+last_in n p a k (j ∷ ks) b path = inr (last_in n p k j ks b path.2)
+
 -- what the walk along a ring finds
 pub follow-path : (n p : ℕ → ℕ) (fuel a : ℕ) (ks : List ℕ) (b : ℕ) → Path n p a ks b → ((k : ℕ) → In k ks → k ≢ b) → length ks < fuel → follow fuel n (n a) b ≡ ks
 follow-path n p zero a ks b path apart fits = absurd (omega arith)

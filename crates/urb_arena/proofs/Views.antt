@@ -9,7 +9,7 @@ use Rattle.urb_arena.specs.Lanes.{find, without, replaced, first_key, key_after,
 use Rattle.urb_arena.specs.Inner.Tables.{pairs, Filled, consed, IsTable, lanes_of}
 use Rattle.urb_arena.specs.declared.cells.Block.{Block}
 use Rattle.urb_arena.specs.declared.table.Table.{Table}
-use Rattle.urb_arena.proofs.Joins.{In-left, In-right, In-split, Distinct-without, total_same, total_changed, total_at}
+use Rattle.urb_arena.proofs.Joins.{In-left, In-right, In-split, Distinct-without, last_cell, last_in, total_same, total_changed, total_at}
 use Rattle.urb_arena.proofs.Lanes.{pairs-append, pairs_there, pairs-set, pairs-length, find-absent, find-there, without-absent, without-pairs, after-absent, after-there, listed_same, listed_at, listed_changed, listed-map, search-none, search-one}
 use Rattle.urb_arena.proofs.Moves.{without_here, without_other, with_here, with_other, moved-ring, moved-ring_here, Tied-moved, row_is, Tied-row}
 
@@ -94,17 +94,17 @@ module _ {X : Type 0} (t : Table X) (is : IsTable t) where
   abbrev after : Cells → List (Option X) → ℕ → Table X
   after ls' vs' n = record t { block = record { mark = t.block.mark; at = t.block.at; links = ls'; values = vs' }; len = n }
 
-  module _ (k e : ℕ) (lane_e : e < m) (x : X) (at : next_of ls m ≡ k) (ne : k ≢ m) where
-    -- the cell is the first free one
-    free : (ys : List ℕ) × (row ls m ≡ k ∷ ys)
+  module _ (k e : ℕ) (lane_e : e < m) (x : X) (at : prev_of ls m ≡ k) (ne : k ≢ m) where
+    -- the cell is the last free one
+    free : (xs : List ℕ) × (row ls m ≡ xs ++ k ∷ [])
     free = opened (row ls m) (is.tied.paths m (omega arith)) refl
       where
-        opened : (ks : List ℕ) → Path (next_of ls) (prev_of ls) m ks m → row ls m ≡ ks → (ys : List ℕ) × (row ls m ≡ k ∷ ys)
-        opened [] path same = absurd (ne (sym at ∙ path.0))
-        opened (j ∷ ys) path same = (ys, same ∙ ap (λ i. i ∷ ys) (sym path.0 ∙ at))
+        opened : (ks : List ℕ) → Path (next_of ls) (prev_of ls) m ks m → row ls m ≡ ks → (xs : List ℕ) × (row ls m ≡ xs ++ k ∷ [])
+        opened [] path same = absurd (ne (sym at ∙ path.1))
+        opened (j ∷ ks) path same = let cut = last_cell (next_of ls) (prev_of ls) m j ks m path in (cut.0, same ∙ cut.1 ∙ ap (λ i. cut.0 ++ i ∷ []) at)
 
     mem : (m < k) × (k < length ls) × (ring_of ls k ≡ m)
-    mem = is.tied.members m (omega arith) k (subst (λ js. In k js) (sym free.1) (inl refl))
+    mem = is.tied.members m (omega arith) k (subst (λ js. In k js) (sym free.1) (In-right k free.0 (k ∷ []) (inl refl)))
 
     differs : m ≢ e
     differs h = omega (arith, h, lane_e)
@@ -119,19 +119,19 @@ module _ {X : Type 0} (t : Table X) (is : IsTable t) where
     vs' = set vs k (Some x)
 
     abbrev rows' : ℕ → List ℕ
-    rows' = with_cell (without_cell (row ls) m [] free.0) k e
+    rows' = with_cell (without_cell (row ls) m free.0 []) k e
 
     k_at : k < length vs
     k_at = let far = mem.1 in let long = is.filled.long in omega (arith, far, long)
 
     ties : Tied ls' m t.capacity rows'
-    ties = Tied-moved ls m t.capacity (row ls) is.tied k m e (omega arith) e_in differs [] free.0 free.1
+    ties = Tied-moved ls m t.capacity (row ls) is.tied k m e (omega arith) e_in differs free.0 [] free.1
 
     ring_other : (j : ℕ) → j ≢ k → ring_of ls' j ≡ ring_of ls j
-    ring_other j = moved-ring ls m t.capacity (row ls) is.tied k m e (omega arith) e_in differs [] free.0 free.1 j
+    ring_other j = moved-ring ls m t.capacity (row ls) is.tied k m e (omega arith) e_in differs free.0 [] free.1 j
 
     ring_here : ring_of ls' k ≡ e
-    ring_here = moved-ring_here ls m t.capacity (row ls) is.tied k m e (omega arith) e_in differs [] free.0 free.1
+    ring_here = moved-ring_here ls m t.capacity (row ls) is.tied k m e (omega arith) e_in differs free.0 [] free.1
 
     long' : length ls' ≡ length ls
     long' = let a = ties.size in let b = is.tied.size in omega (arith, a, b)
@@ -152,10 +152,10 @@ module _ {X : Type 0} (t : Table X) (is : IsTable t) where
     }
 
     rows_other : (r : ℕ) → r < m → r ≢ e → row ls' r ≡ row ls r
-    rows_other r rm re = row_is ls' m t.capacity rows' ties r (omega (arith, rm)) ∙ with_other (without_cell (row ls) m [] free.0) k e r re ∙ without_other (row ls) m [] free.0 r (λ h. omega (arith, h, rm))
+    rows_other r rm re = row_is ls' m t.capacity rows' ties r (omega (arith, rm)) ∙ with_other (without_cell (row ls) m free.0 []) k e r re ∙ without_other (row ls) m free.0 [] r (λ h. omega (arith, h, rm))
 
     rows_here : row ls' e ≡ row ls e ++ k ∷ []
-    rows_here = row_is ls' m t.capacity rows' ties e e_in ∙ with_here (without_cell (row ls) m [] free.0) k e e refl ∙ ap (λ js. js ++ k ∷ []) (without_other (row ls) m [] free.0 e (λ h. omega (arith, h, lane_e)))
+    rows_here = row_is ls' m t.capacity rows' ties e e_in ∙ with_here (without_cell (row ls) m free.0 []) k e e refl ∙ ap (λ js. js ++ k ∷ []) (without_other (row ls) m free.0 [] e (λ h. omega (arith, h, lane_e)))
 
     absent : (r : ℕ) → r < m → In k (row ls r) → ⊥
     absent r rm i = let a = (is.tied.members r (omega (arith, rm)) k i).2 in let b = mem.2 in omega (arith, a, b, rm)
@@ -177,7 +177,7 @@ module _ {X : Type 0} (t : Table X) (is : IsTable t) where
 
     full : t.len < t.capacity
     full =
-        let all = is.tied.count in let n = is.len in let l = ap length free.1 in let more = total_suc (row ls) m in omega (arith, all, n, l, more)
+        let all = is.tied.count in let n = is.len in let l = ap length free.1 ∙ length-append free.0 (k ∷ []) in let more = total_suc (row ls) m in omega (arith, all, n, l, more)
       where
         total_suc : (f : ℕ → List ℕ) (n : ℕ) → total f (n + 1) ≡ total f n + length (f n)
         total_suc f n = let same : n + 1 ≡ suc n = omega arith in ap (total f) same
@@ -366,30 +366,30 @@ module _ {X : Type 0} (t : Table X) (is : IsTable t) where
   table_within =
       let up : t.lanes + 1 ≡ suc t.lanes = omega arith in let same = ap (total (row t.block.links)) up in let all = is.tied.count in let n = is.len in omega (arith, same, all, n)
 
-  pub table_full : next_of t.block.links t.lanes ≡ t.lanes → count (lanes_of t) ≡ t.capacity
+  pub table_full : prev_of t.block.links t.lanes ≡ t.lanes → count (lanes_of t) ≡ t.capacity
   table_full e =
       let none = empty (row t.block.links t.lanes) (is.tied.paths t.lanes (omega arith)) (λ k i. (let far = (is.tied.members t.lanes (omega arith) k i).0 in omega (arith, far))) in
       let all = is.tied.count in let len = is.len in let n = table_len in let up : t.lanes + 1 ≡ suc t.lanes = omega arith in let same = ap (total (row t.block.links)) up in omega (arith, none, all, len, n, same)
     where
       empty : (ks : List ℕ) → Path (next_of t.block.links) (prev_of t.block.links) t.lanes ks t.lanes → ((k : ℕ) → In k ks → k ≢ t.lanes) → length ks ≡ 0
       empty [] path apart = refl
-      empty (k ∷ ks) path apart = absurd (apart k (inl refl) (sym path.0 ∙ e))
+      empty (k ∷ ks) path apart = absurd (apart (prev_of t.block.links t.lanes) (last_in (next_of t.block.links) (prev_of t.block.links) t.lanes k ks t.lanes path) e)
 
-  module _ (ne : next_of t.block.links t.lanes ≢ t.lanes) where
-    -- the first free cell
-    pub free_cell : (t.lanes < next_of t.block.links t.lanes) × (next_of t.block.links t.lanes < length t.block.links) × (get_or t.block.values (next_of t.block.links t.lanes) None ≡ None)
+  module _ (ne : prev_of t.block.links t.lanes ≢ t.lanes) where
+    -- the last free cell
+    pub free_cell : (t.lanes < prev_of t.block.links t.lanes) × (prev_of t.block.links t.lanes < length t.block.links) × (get_or t.block.values (prev_of t.block.links t.lanes) None ≡ None)
     free_cell = opened (row t.block.links t.lanes) (is.tied.paths t.lanes (omega arith)) (λ k i. is.tied.members t.lanes (omega arith) k i)
       where
         opened : (ks : List ℕ) → Path (next_of t.block.links) (prev_of t.block.links) t.lanes ks t.lanes → ((k : ℕ) → In k ks → (t.lanes < k) × (k < length t.block.links) × (ring_of t.block.links k ≡ t.lanes))
-            → (t.lanes < next_of t.block.links t.lanes) × (next_of t.block.links t.lanes < length t.block.links) × (get_or t.block.values (next_of t.block.links t.lanes) None ≡ None)
-        opened [] path mem = absurd (ne path.0)
+            → (t.lanes < prev_of t.block.links t.lanes) × (prev_of t.block.links t.lanes < length t.block.links) × (get_or t.block.values (prev_of t.block.links t.lanes) None ≡ None)
+        opened [] path mem = absurd (ne path.1)
         opened (k ∷ ks) path mem =
-            subst (λ j. (t.lanes < j) × (j < length t.block.links) × (get_or t.block.values j None ≡ None)) (sym path.0)
-            (let at = mem k (inl refl) in (at.0, at.1, is.filled.bare k at.1 (inr at.2)))
+            let last = prev_of t.block.links t.lanes in let at = mem last (last_in (next_of t.block.links) (prev_of t.block.links) t.lanes k ks t.lanes path) in
+            (at.0, at.1, is.filled.bare last at.1 (inr at.2))
 
-    module _ (e : ℕ) (lane_e : e < t.lanes) (x : X) (b : Block X) (at : b.at ≡ t.block.at) (links : b.links ≡ moved t.block.links (next_of t.block.links t.lanes) e) (values : b.values ≡ set t.block.values (next_of t.block.links t.lanes) (Some x)) where
+    module _ (e : ℕ) (lane_e : e < t.lanes) (x : X) (b : Block X) (at : b.at ≡ t.block.at) (links : b.links ≡ moved t.block.links (prev_of t.block.links t.lanes) e) (values : b.values ≡ set t.block.values (prev_of t.block.links t.lanes) (Some x)) where
       abbrev k' : ℕ
-      k' = next_of t.block.links t.lanes
+      k' = prev_of t.block.links t.lanes
 
       abbrev pub fuller : Table X
       fuller = record t { block = b; len = t.len + 1 }

@@ -130,7 +130,8 @@ impl<T> Table<T> {
         ensures ok { IfOk result (λ k. (count (lanes_of self.old) < self.old.capacity) × (find_in k (lanes_of self.old) ≡ None) × (lanes_of self.new ≡ slice_set (lanes_of self.old) lane (get_or (lanes_of self.old) lane [] ++ (k, value) ∷ []))) }
         ensures err { IfErr result (λ v. (v ≡ value) × (count (lanes_of self.old) ≡ self.old.capacity) × (self.new ≡ self.old)) }
     {
-        let place = self.block.link(self.base, self.lanes as u32).next;
+        // The cell freed last, so that no more are used than there were values at once.
+        let place = self.block.link(self.base, self.lanes as u32).prev;
         if place as usize == self.lanes {
             return Err(value);
         }
