@@ -28,15 +28,15 @@ is_id id None = false
 is_id id (Some other) = other == id
 
 -- the id is one that the gateway keeps for the endpoint
-abbrev pub IsKept : Calls → ℕ → ℕ → Type 0
-IsKept c id ep = (is_id id (get_or c.started (endpoint_index ep) None) || is_id id (get_or c.stopped (endpoint_index ep) None)) ≡ true
+abbrev pub IdIsKept : Calls → ℕ → ℕ → Type 0
+IdIsKept c id ep = (is_id id (get_or c.started (endpoint_index ep) None) || is_id id (get_or c.stopped (endpoint_index ep) None)) ≡ true
 
 abbrev pub CallIsKept : Calls → ℕ → Option ℕ → Type 0
 CallIsKept c id None = Unit {0}
-CallIsKept c id (Some ep) = IsKept c id ep
+CallIsKept c id (Some ep) = IdIsKept c id ep
 
 abbrev pub StatusIsKept : Calls → Tagged → Type 0
-StatusIsKept c (Stated k id ep status) = IsKept c id ep
+StatusIsKept c (Stated k id ep status) = IdIsKept c id ep
 StatusIsKept c _ = Unit {0}
 
 pub record Controls (c : Calls) (to_host : List (ℕ × RedirPacket)) (back : List Tagged) : Type 0 where

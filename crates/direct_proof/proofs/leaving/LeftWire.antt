@@ -17,7 +17,7 @@ use Rattle.gate_history.specs.state.Ups.{Up, stream_of, lower, unless, is_ended}
 use Rattle.gate_history.specs.client.Verdict.{is_iso}
 use Rattle.gate_history.proofs.lemmas.state.Calls.{AreLong, times-append}
 use Rattle.gate_history.proofs.lemmas.state.Draws.{length-draws}
-use Rattle.direct_proof.specs.Calls.{Controls, Fenced, IsKept, CallIsKept, StatusIsKept, calls_on, statuses_on}
+use Rattle.direct_proof.specs.Calls.{Controls, Fenced, IdIsKept, CallIsKept, StatusIsKept, calls_on, statuses_on}
 use Rattle.direct_proof.specs.Kinds.{UpsFit, UpFits}
 use Rattle.direct_proof.specs.Running.{Quits, Trails, called_endpoint}
 use Rattle.direct_proof.specs.Session.{down_in}
@@ -104,7 +104,7 @@ module _ (st : State) (fits : UpsFit st.streams) (gate : IsStopping st) (ps : Li
       plus : (n : ℕ) → n ≡ 0 + n
       plus n = omega arith
 
-  kept-on : (n e : ℕ) → IsKept st.calls n e → IsKept (called (leave_stops st) st.calls) n e
+  kept-on : (n e : ℕ) → IdIsKept st.calls n e → IdIsKept (called (leave_stops st) st.calls) n e
   kept-on n e h = stops-kept every_up (leave_ids st) 0 st.streams st.calls stands n e h
 
   -- an id that is drawn is in flight nowhere

@@ -1,5 +1,6 @@
 -- The ids in flight, of requests as the code has them.
-use Rattle.std.specs.Prelude.{ℕ, List, ◌++◌, map, filter, Bool, false, ◌==◌, Option, Some, None}
+use Rattle.std.specs.Prelude.{ℕ, List, ◌++◌, map, filter, fold, max, Bool, false, ◌==◌, Option, Some, None}
+use Rattle.std.specs.Option.{unwrap_or}
 use Rattle.unlink_race.specs.declared.live.Live.{Live}
 use Rattle.unlink_race.specs.Requests.{Requests}
 use Rattle.unlink_race.specs.Searches.{goes_by_id}
@@ -14,3 +15,11 @@ ids_in r = row_ids r.live ++ row_ids r.abandoned
 abbrev pub is_id : ℕ → Option ℕ → Bool
 is_id id None = false
 is_id id (Some x) = x == id
+
+-- the greatest of optional ids, 0 where there is none
+abbrev pub greatest_in : List (Option ℕ) → ℕ
+greatest_in ids = fold (λ before id. max before (unwrap_or id 0)) 0 ids
+
+-- that of starts and stops
+abbrev pub greatest_of : List (Option ℕ) → List (Option ℕ) → ℕ
+greatest_of started stopped = max (greatest_in started) (greatest_in stopped)

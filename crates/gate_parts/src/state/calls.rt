@@ -4,7 +4,7 @@ ghost use Rattle.std.specs.Prelude.{◌≡◌, Some, None};
 ghost use Rattle.std.specs.List.{list_any};
 ghost use Rattle.gate_history.specs.state.Ids.{holds};
 ghost use Rattle.gate_history.specs.state.Calls.{no_calls, started, stopped, call_ids, lifted};
-ghost use Rattle.gate_parts.specs.state.Ids.{is_id};
+ghost use Rattle.gate_parts.specs.state.Ids.{greatest_in, greatest_of, is_id};
 
 use std::marker::Model;
 use usb_base::{ENDPOINTS, EpAddr};
@@ -14,16 +14,25 @@ use usb_base::{ENDPOINTS, EpAddr};
 pub struct Calls {
     started: [Option<u64>; ENDPOINTS],
     stopped: [Option<u64>; ENDPOINTS],
+    /// The greatest of these ids, or 0: one that is drawn anew is mostly above it, and so is none of them.
+    greatest: u64,
 }
 
 impl Model for Calls {
+    ghost use Rattle.std.specs.Prelude.{◌≡◌};
+    ghost use Rattle.std.proofs.Common.{sym};
     ghost use Rattle.gate_history.specs.state.Calls.{Calls as CallsView};
+    ghost use Rattle.gate_parts.specs.state.Ids.{greatest_of};
 
     ghost Value = { CallsView };
 
     ghost view = { λ calls. record { started = calls.started; stopped = calls.stopped } };
 
-    ghost inverse = { λ calls. record { started = calls.started; stopped = calls.stopped } };
+    ghost invariant = { λ calls. calls.greatest ≡ greatest_of calls.started calls.stopped };
+
+    ghost inverse = { λ calls. record { started = calls.started; stopped = calls.stopped; greatest = greatest_of calls.started calls.stopped } };
+
+    ghost inverse_ok = { λ calls is i. record { started = calls.started; stopped = calls.stopped; greatest = sym is i } };
 }
 
 impl Calls {
@@ -34,6 +43,7 @@ impl Calls {
         Calls {
             started: [None; ENDPOINTS],
             stopped: [None; ENDPOINTS],
+            greatest: 0,
         }
     }
 
@@ -43,6 +53,7 @@ impl Calls {
     {
         self.started[ep.index()] = Some(id);
         self.stopped[ep.index()] = None;
+        self.greatest = greatest_of(&self.started, &self.stopped);
     }
 
     /// An endpoint's stream is stopped with this id.
@@ -50,14 +61,31 @@ impl Calls {
         ensures { self.new ≡ stopped ep id self.old }
     {
         self.stopped[ep.index()] = Some(id);
+        self.greatest = greatest_of(&self.started, &self.stopped);
     }
 
     /// Whether an id is one of these.
     pub fn holds(&self, id: u64) -> bool
         ensures { result ≡ holds (call_ids self.now) id }
     {
-        any_is(&self.started, id) || any_is(&self.stopped, id)
+        id <= self.greatest && (any_is(&self.started, id) || any_is(&self.stopped, id))
     }
+}
+
+fn greatest_of(started: &[Option<u64>], stopped: &[Option<u64>]) -> u64
+    ensures { result ≡ greatest_of started.now stopped.now }
+{
+    greatest_in(started).max(greatest_in(stopped))
+}
+
+fn greatest_in(ids: &[Option<u64>]) -> u64
+    ensures { result ≡ greatest_in ids.now }
+{
+    let mut greatest = 0;
+    for id in ids {
+        greatest = greatest.max(id.unwrap_or(0));
+    }
+    greatest
 }
 
 fn any_is(ids: &[Option<u64>], id: u64) -> bool

@@ -18,7 +18,7 @@ use Rattle.usbgate_tapes.specs.Causes.{HasCauses, OpensNoLink}
 use Rattle.usbgate_tapes.specs.Run.{ReadInPart, WrittenInPart, WrittenWhole, LeavesTold, ComesToEnd}
 use Rattle.usbgate_tapes.specs.Logs.{LeavesByLog}
 use Rattle.usbgate_tapes.specs.Wants.{ReadWants, RunsOut}
-use Rattle.usbgate_tapes.specs.inner.tape.TapeReader.{IsKept, Stage, Closes, Runs, end_text}
+use Rattle.usbgate_tapes.specs.inner.tape.TapeReader.{SomeKeeps, Stage, Closes, Runs, end_text}
 use Rattle.usbgate_tapes.proofs.lemmas.tape.Stages.{text_begins}
 use Rattle.gate_outside.proofs.Moving.{moves-none, moves-append}
 use Rattle.usbgate_tapes.proofs.lemmas.Moving.{at_end}
@@ -323,7 +323,7 @@ module _ {C T S K : Type 0} {command : TapeCommand T} {Keeps : C → T → Type 
           by_log = comes-to status (record { reads = reads; read = (tape, (g.read, gives)); each = λ later follows. c.kept later (at_end n buf g.reads later bound follows) });
           where_told = comes-to status (λ whole told.
               let t = remaining_told (remaining tape_old) (remaining new) (moved g.reads ++ piece) whole consumed told in
-              subst (λ (l : List ℕ). IsKept Keeps (read_tape command l).after.kept) (sym t.2) (c.kept t.0 (λ e. at_end_told (remaining new) t.0 (end e) t.1)));
+              subst (λ (l : List ℕ). SomeKeeps Keeps (read_tape command l).after.kept) (sym t.2) (c.kept t.0 (λ e. at_end_told (remaining new) t.0 (end e) t.1)));
         };
       }
 

@@ -19,7 +19,7 @@ use Rattle.direct_run.specs.Moves.{World}
 use Rattle.direct_proof.specs.Tagged.{Tagged, Stated}
 use Rattle.direct_proof.specs.Shared.{Shared}
 use Rattle.direct_proof.specs.Related.{Related}
-use Rattle.direct_proof.specs.Calls.{Controls, IsKept, CallIsKept, StatusIsKept, calls_on, statuses_on}
+use Rattle.direct_proof.specs.Calls.{Controls, IdIsKept, CallIsKept, StatusIsKept, calls_on, statuses_on}
 use Rattle.direct_proof.specs.Kinds.{UpFits}
 use Rattle.direct_proof.specs.Running.{called_endpoint}
 use Rattle.direct_proof.proofs.shared.Streaming.{calls-append}
@@ -46,7 +46,7 @@ module _ {S : Type 0} (m : Meaning S) (w : World S) (j : Shared) (r : Request) (
   calls-are : called (change_sent w.gate x) w.gate.calls ≡ called (zs m w j r x change rel gate) w.gate.calls
   calls-are = ap (λ (l : List (ℕ × RedirPacket)). called l w.gate.calls) (sent-is m w j r x change rel gate) ∙ called-append (zs m w j r x change rel gate) (cs m w j r x change rel gate) w.gate.calls ∙ called-silent (ids2 m w j r x change rel gate) (route_packets x) (called (zs m w j r x change rel gate) w.gate.calls) (route-silent x)
 
-  kept-on : (n e : ℕ) → IsKept w.gate.calls n e → IsKept (called (zs m w j r x change rel gate) w.gate.calls) n e
+  kept-on : (n e : ℕ) → IdIsKept w.gate.calls n e → IdIsKept (called (zs m w j r x change rel gate) w.gate.calls) n e
   kept-on n e h = stops-kept (is_ended (Some x)) (ids1 m w j r x change rel gate) 0 w.gate.streams w.gate.calls stand n e h
 
   calls-sent : calls_on (change_sent w.gate x) ≡ calls_on (zs m w j r x change rel gate)

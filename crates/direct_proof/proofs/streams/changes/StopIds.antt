@@ -11,7 +11,7 @@ use Rattle.gate_history.specs.write.Packets.{stop_packet, stops}
 use Rattle.gate_history.specs.state.Ups.{Up}
 use Rattle.gate_history.proofs.lemmas.state.Calls.{times-append, stop-calls}
 use Rattle.direct_proof.specs.Kinds.{IsIn, UpFits}
-use Rattle.direct_proof.specs.Calls.{IsKept, CallIsKept, is_id, call_id, calls_on}
+use Rattle.direct_proof.specs.Calls.{IdIsKept, CallIsKept, is_id, call_id, calls_on}
 use Rattle.direct_proof.specs.Running.{called_endpoint}
 use Rattle.direct_proof.proofs.streams.fills.FillLists.{weight}
 use Rattle.direct_proof.proofs.shared.Folds.{clash, or-left, or-right}
@@ -35,10 +35,10 @@ pub record Stand (k : ℕ) (ups : List (Option Up)) (c : Calls) : Type 0 where
   pub long : length c.stopped ≡ 32
 
 -- a stop takes no id from another endpoint, nor a start from its own
-kept-stop : (up : Up) (id : ℕ) (c : Calls) (n e : ℕ) → get_or c.stopped (endpoint_index up.ep) None ≡ None → IsKept c n e → IsKept (stopped up.ep id c) n e
+kept-stop : (up : Up) (id : ℕ) (c : Calls) (n e : ℕ) → get_or c.stopped (endpoint_index up.ep) None ≡ None → IdIsKept c n e → IdIsKept (stopped up.ep id c) n e
 kept-stop up id c n e free kept = go (endpoint_index e == endpoint_index up.ep) refl
   where
-    go : (b : Bool) → (endpoint_index e == endpoint_index up.ep) ≡ b → IsKept (stopped up.ep id c) n e
+    go : (b : Bool) → (endpoint_index e == endpoint_index up.ep) ≡ b → IdIsKept (stopped up.ep id c) n e
     go false i = (λ t. is_id n (get_or c.started (endpoint_index e) None) || is_id n (get_or-set_other c.stopped (endpoint_index up.ep) (endpoint_index e) (Some id) None (apart (endpoint_index e) (endpoint_index up.ep) i) t)) ∙ kept
       where
         apart : (x y : ℕ) → (x == y) ≡ false → x ≢ y
@@ -55,7 +55,7 @@ kept-stop up id c n e free kept = go (endpoint_index e == endpoint_index up.ep) 
         left true b x y = refl
         left false b x y = absurd (clash b x y)
 
-new-stop : (up : Up) (id : ℕ) (c : Calls) → IsIn up.ep → length c.stopped ≡ 32 → IsKept (stopped up.ep id c) id up.ep
+new-stop : (up : Up) (id : ℕ) (c : Calls) → IsIn up.ep → length c.stopped ≡ 32 → IdIsKept (stopped up.ep id c) id up.ep
 new-stop up id c h n = or-right (is_id id (get_or c.started (endpoint_index up.ep) None)) (is_id id (get_or (slice_set c.stopped (endpoint_index up.ep) (Some id)) (endpoint_index up.ep) None))
     (ap (is_id id) (get_or-set_same c.stopped (endpoint_index up.ep) (Some id) None (subst (λ (k : ℕ). endpoint_index up.ep < k) (sym n) (in-place up.ep h))) ∙ itself id)
   where
@@ -83,7 +83,7 @@ stand-stop k up ups id c s = record {
     later i e = let z : endpoint_index up.ep ≡ k + 0 = (s.fits 0).1 in absurd (omega (arith, e, z))
 
 -- all stops
-pub stops-kept : (test : Up → Bool) (ids : List ℕ) (k : ℕ) (ups : List (Option Up)) (c : Calls) → Stand k ups c → (n e : ℕ) → IsKept c n e → IsKept (called (stopping test ids ups) c) n e
+pub stops-kept : (test : Up → Bool) (ids : List ℕ) (k : ℕ) (ups : List (Option Up)) (c : Calls) → Stand k ups c → (n e : ℕ) → IdIsKept c n e → IdIsKept (called (stopping test ids ups) c) n e
 stops-kept test [] k ups c s n e kept = kept
 stops-kept test (id ∷ ids) k [] c s n e kept = kept
 stops-kept test (id ∷ ids) k (None ∷ ups) c s n e kept = stops-kept test (id ∷ ids) (suc k) ups c (stand-next k None ups c s) n e kept
@@ -92,9 +92,9 @@ stops-kept test (id ∷ ids) k (Some up ∷ ups) c s n e kept = go (test up) (st
     free : get_or c.stopped (endpoint_index up.ep) None ≡ None
     free = subst (λ (i : ℕ). get_or c.stopped i None ≡ None) (sym (s.fits 0).1) (s.fresh 0 refl)
 
-    go : (b : Bool) → (IsKept (stopped up.ep id c) n e → IsKept (called (zip ids (stops test ups)) (stopped up.ep id c)) n e) → (IsKept c n e → IsKept (called (zip (id ∷ ids) (stops test ups)) c) n e) →
-        IsKept (called (zip (id ∷ ids) (cond b (stop_packet up ∷ []) [] ++ stops test ups)) c) n e
-    go true more skip = subst (λ (d : Calls). IsKept (called (zip ids (stops test ups)) d) n e) (sym (stop-calls id up c)) (more (kept-stop up id c n e free kept))
+    go : (b : Bool) → (IdIsKept (stopped up.ep id c) n e → IdIsKept (called (zip ids (stops test ups)) (stopped up.ep id c)) n e) → (IdIsKept c n e → IdIsKept (called (zip (id ∷ ids) (stops test ups)) c) n e) →
+        IdIsKept (called (zip (id ∷ ids) (cond b (stop_packet up ∷ []) [] ++ stops test ups)) c) n e
+    go true more skip = subst (λ (d : Calls). IdIsKept (called (zip ids (stops test ups)) d) n e) (sym (stop-calls id up c)) (more (kept-stop up id c n e free kept))
     go false more skip = skip kept
 
 pub stops-new : (test : Up → Bool) (ids : List ℕ) (k : ℕ) (ups : List (Option Up)) (c : Calls) → Stand k ups c → Each (λ (p : ℕ × RedirPacket). CallIsKept (called (stopping test ids ups) c) p.0 (called_endpoint p.1)) (stopping test ids ups)
@@ -107,7 +107,7 @@ stops-new test (id ∷ ids) k (Some up ∷ ups) c s = go (test up) (stops-new te
     is-in = (s.fits 0).0
 
     go : (b : Bool) → Each (λ (p : ℕ × RedirPacket). CallIsKept (called (zip ids (stops test ups)) (stopped up.ep id c)) p.0 (called_endpoint p.1)) (zip ids (stops test ups)) →
-        (IsKept (stopped up.ep id c) id up.ep → IsKept (called (zip ids (stops test ups)) (stopped up.ep id c)) id up.ep) →
+        (IdIsKept (stopped up.ep id c) id up.ep → IdIsKept (called (zip ids (stops test ups)) (stopped up.ep id c)) id up.ep) →
         Each (λ (p : ℕ × RedirPacket). CallIsKept (called (zip (id ∷ ids) (stops test ups)) c) p.0 (called_endpoint p.1)) (zip (id ∷ ids) (stops test ups)) →
         Each (λ (p : ℕ × RedirPacket). CallIsKept (called (zip (id ∷ ids) (cond b (stop_packet up ∷ []) [] ++ stops test ups)) c) p.0 (called_endpoint p.1)) (zip (id ∷ ids) (cond b (stop_packet up ∷ []) [] ++ stops test ups))
     go true more own skip = subst (λ (d : Calls). Each (λ (p : ℕ × RedirPacket). CallIsKept (called (zip ids (stops test ups)) d) p.0 (called_endpoint p.1)) ((id, stop_packet up) ∷ zip ids (stops test ups))) (sym (stop-calls id up c))

@@ -22,7 +22,7 @@ use Rattle.gate_history.specs.client.Verdict.{is_iso}
 use Rattle.gate_history.proofs.lemmas.state.Calls.{AreLong, times-append}
 use Rattle.direct_proof.specs.Tagged.{Tagged, Stated, is_kind}
 use Rattle.direct_proof.specs.Kinds.{IsIn}
-use Rattle.direct_proof.specs.Calls.{IsKept, CallIsKept, StatusIsKept, is_id, call_id, calls_on, status_id, statuses_on}
+use Rattle.direct_proof.specs.Calls.{IdIsKept, CallIsKept, StatusIsKept, is_id, call_id, calls_on, status_id, statuses_on}
 use Rattle.direct_proof.specs.Running.{called_endpoint, started_kind}
 use Rattle.direct_proof.proofs.streams.fills.FillLists.{weight}
 use Rattle.direct_proof.proofs.shared.Folds.{clash, not-both, or-left, or-right, any-append}
@@ -84,7 +84,7 @@ held-id id zero (Some x ∷ xs) h = or-left (id == x) (list_any (λ y. id == y) 
 held-id id (suc i) (None ∷ xs) h = held-id id i xs h
 held-id id (suc i) (Some x ∷ xs) h = or-right (id == x) (list_any (λ y. id == y) (flat_map option_to_list xs)) (held-id id i xs h)
 
-pub kept-held : (c : Calls) (id ep : ℕ) → IsKept c id ep → holds (call_ids c) id ≡ true
+pub kept-held : (c : Calls) (id ep : ℕ) → IdIsKept c id ep → holds (call_ids c) id ≡ true
 kept-held c id ep h = any-append (λ x. id == x) (flat_map option_to_list c.started) (flat_map option_to_list c.stopped) ∙ go (or-either (is_id id (get_or c.started (endpoint_index ep) None)) (is_id id (get_or c.stopped (endpoint_index ep) None)) h)
   where
     go : (is_id id (get_or c.started (endpoint_index ep) None) ≡ true) ⊎ (is_id id (get_or c.stopped (endpoint_index ep) None) ≡ true) → (list_any (λ x. id == x) (flat_map option_to_list c.started) || list_any (λ x. id == x) (flat_map option_to_list c.stopped)) ≡ true
@@ -92,7 +92,7 @@ kept-held c id ep h = any-append (λ x. id == x) (flat_map option_to_list c.star
     go (inr k) = or-right (list_any (λ x. id == x) (flat_map option_to_list c.started)) (list_any (λ x. id == x) (flat_map option_to_list c.stopped)) (held-id id (endpoint_index ep) c.stopped k)
 
 -- an id that is held nowhere is on no wire
-none-here : (c : Calls) (id other ep : ℕ) → holds (call_ids c) id ≡ false → IsKept c other ep → (id == other) ≡ false
+none-here : (c : Calls) (id other ep : ℕ) → holds (call_ids c) id ≡ false → IdIsKept c other ep → (id == other) ≡ false
 none-here c id other ep free kept = go (id == other) refl
   where
     go : (b : Bool) → (id == other) ≡ b → b ≡ false
@@ -117,11 +117,11 @@ no-statuses c id free (b ∷ bs) h = let rest = no-statuses c id free bs h.1 in 
 
 -- ---- with one start more
 
-pub kept-new : (c : Calls) (id ep : ℕ) → AreLong c → IsIn ep → IsKept (started ep id c) id ep
+pub kept-new : (c : Calls) (id ep : ℕ) → AreLong c → IsIn ep → IdIsKept (started ep id c) id ep
 kept-new c id ep long h = or-left (is_id id (get_or (slice_set c.started (endpoint_index ep) (Some id)) (endpoint_index ep) None)) _ (ap (is_id id) (get_or-set_same c.started (endpoint_index ep) (Some id) None (subst (λ (n : ℕ). endpoint_index ep < n) (sym long.started) (in-place ep h))) ∙ itself id)
   where
     itself : (n : ℕ) → (n == n) ≡ true
     itself n = grind arith
 
-pub kept-other : (c : Calls) (id ep other e : ℕ) → IsIn ep → IsIn e → (e == ep) ≡ false → IsKept c other e → IsKept (started ep id c) other e
+pub kept-other : (c : Calls) (id ep other e : ℕ) → IsIn ep → IsIn e → (e == ep) ≡ false → IdIsKept c other e → IdIsKept (started ep id c) other e
 kept-other c id ep other e h k apart kept = (λ i. is_id other (get_or-set_other c.started (endpoint_index ep) (endpoint_index e) (Some id) None (places-differ e ep k h apart) i) || is_id other (get_or-set_other c.stopped (endpoint_index ep) (endpoint_index e) None None (places-differ e ep k h apart) i)) ∙ kept

@@ -1,5 +1,5 @@
 -- The ids of rows in flight.
-use Rattle.std.proofs.Common.{◌≡◌, ℕ, ◌+◌, ◌≤◌, ◌||◌, ◌&&◌, Bool, true, false, cond, not, eqb, List, [], ◌∷◌, ◌++◌, Option, Some, None, length, map, filter, refl, sym, ap, ◌∙◌, arith}
+use Rattle.std.proofs.Common.{◌≡◌, ℕ, ◌+◌, ◌≤◌, ◌<◌, leb, max, ◌||◌, ◌&&◌, Bool, true, false, cond, not, eqb, List, [], ◌∷◌, ◌++◌, Option, Some, None, length, map, filter, refl, sym, ap, ◌∙◌, arith}
 use Rattle.std.specs.List.{list_any}
 use Rattle.std.proofs.lemmas.Bool.Decides.{nat_tests}
 use Rattle.std.proofs.lemmas.List.{length-append, length-map}
@@ -11,9 +11,10 @@ use Rattle.unlink_race.specs.Requests.{Requests}
 use Rattle.unlink_race.specs.Searches.{has_id, goes_by_id}
 use Rattle.gate_history.specs.state.Ids.{holds, greatest, Fits}
 use Rattle.gate_history.specs.state.Calls.{Calls, call_ids}
-use Rattle.gate_parts.specs.state.Ids.{row_ids, ids_in, is_id}
+use Rattle.gate_parts.specs.state.Ids.{row_ids, ids_in, is_id, greatest_in, greatest_of}
 use Rattle.gate_history.proofs.lemmas.state.Calls.{some}
-use Rattle.std.specs.Option.{option_to_list}
+use Rattle.std.specs.Option.{option_to_list, unwrap_or}
+use Rattle.std.specs.Prelude.{fold}
 
 swap : (a b : ℕ) → eqb a b ≡ eqb b a
 swap a b = grind (arith, nat_tests)
@@ -74,3 +75,24 @@ large false = omega arith
 pub fits-wide : (wide : Bool) (id : ℕ) → Fits (greatest wide) id → IdFits wide id
 fits-wide true id f = let h = f.high in omega arith
 fits-wide false id f = let h = f.high in omega arith
+
+-- an id above the greatest of them is none of them
+is-above : (id a : ℕ) (o : Option ℕ) → max a (unwrap_or o 0) < id → (a < id) × (is_id id o ≡ false)
+is-above id a None above = (omega (arith, above), refl)
+is-above id a (Some x) above = (omega (arith, above), grind (arith, nat_tests))
+
+none-above : (id a : ℕ) (l : List (Option ℕ)) → fold (λ before held. max before (unwrap_or held 0)) a l < id → (a < id) × (list_any (is_id id) l ≡ false)
+none-above id a [] above = (above, refl)
+none-above id a (o ∷ l) above =
+    let later = none-above id (max a (unwrap_or o 0)) l above in
+    let here = is-above id a o later.0 in
+    (here.0, (λ i. here.1 i || later.1 i))
+
+above-them : (id greatest : ℕ) → greatest < id → leb id greatest ≡ false
+above-them id greatest above = grind (arith, nat_tests)
+
+pub none-called : (id greatest : ℕ) (c : Calls) → greatest ≡ greatest_of c.started c.stopped → greatest < id → leb id greatest ≡ holds (call_ids c) id
+none-called id greatest c is above =
+    let started : greatest_in c.started < id = omega (arith, is, above) in
+    let stopped : greatest_in c.stopped < id = omega (arith, is, above) in
+    above-them id greatest above ∙ (λ i. sym (none-above id 0 c.started started).1 i || sym (none-above id 0 c.stopped stopped).1 i) ∙ holds-calls id c

@@ -12,7 +12,7 @@ use Rattle.usbgate_tapes.specs.Text.{bad_line}
 use Rattle.packet_show.specs.declared.tape.TheConstants.{TAPE_LIMIT}
 use Rattle.usbgate_tapes.specs.tape.TapeCommand.{TapeCommand, Progress, begin, one_further, next_line, Reading, on_line, read_lines, read_tape, last_text, whole_text, tape_status}
 use Rattle.usbgate_tapes.specs.Run.{EndsALine, HasNoLF}
-use Rattle.usbgate_tapes.specs.inner.tape.TapeReader.{IsKept, ReadsLine, end_text, with_text, Stage, Spoilt, Took, Finished, Closes, Stepped, AllRead, TookLast, Spoils, TookLine, KeepsPart}
+use Rattle.usbgate_tapes.specs.inner.tape.TapeReader.{SomeKeeps, ReadsLine, end_text, with_text, Stage, Spoilt, Took, Finished, Closes, Stepped, AllRead, TookLast, Spoils, TookLine, KeepsPart}
 use Rattle.usbgate_tapes.proofs.lemmas.tape.Lines.{HasNoLF-append, EndsALine-append, EndsALine-line, lines_of-line, lines_of-last, first-part, line_end-some, line_end-none}
 
 -- the tape, cut behind its whole lines
@@ -89,7 +89,7 @@ module _ {C S : Type 0} (command : TapeCommand S) (Keeps : C → S → Type 0) w
         status-is = h.status-is;
         text = λ later. ap (λ (x : Reading S). command.opening ++ x.text ++ last_text command x) (plays later) ∙ ends_text written old.text (new.text ++ end_text status) command.opening s.text (bad_line (s.at.lines + 1)) s.text-is (spoils-text status s.at old.text new.text h);
         outcome = λ later. ap (status_of command) (plays later) ∙ sym h.status-is;
-        kept = λ later. subst (λ (x : Reading S). IsKept Keeps x.after.kept) (sym (plays later)) (old.lines.command, s.has_read.keeps);
+        kept = λ later. subst (λ (x : Reading S). SomeKeeps Keeps x.after.kept) (sym (plays later)) (old.lines.command, s.has_read.keeps);
       }
 
   line-bytes : (past : Bool) (s : Progress S) (line : List ℕ) (x : List ℕ × Progress S) → cond past None (option_map (one_further s line) (command.line s.kept (content line))) ≡ Some x
@@ -173,7 +173,7 @@ module _ {C S : Type 0} (command : TapeCommand S) (Keeps : C → S → Type 0) w
         status-is = s.status-is;
         text = λ later. ap (whole_text command) (more later) ∙ s.text (drop n piece ++ later);
         outcome = λ later. ap (tape_status command) (more later) ∙ s.outcome (drop n piece ++ later);
-        kept = λ later. subst (λ (l : List ℕ). IsKept Keeps (read_tape command l).after.kept) (sym (more later)) (s.kept (drop n piece ++ later));
+        kept = λ later. subst (λ (l : List ℕ). SomeKeeps Keeps (read_tape command l).after.kept) (sym (more later)) (s.kept (drop n piece ++ later));
       }
 
   -- ---- the end
@@ -217,7 +217,7 @@ module _ {C S : Type 0} (command : TapeCommand S) (Keeps : C → S → Type 0) w
       record {
         text = ap (λ (x : Reading S). command.opening ++ x.text ++ last_text command x) plays ∙ ends_text written old.text (new.text ++ end_text status) command.opening s.text (bad_line (s.at.lines + 1)) s.text-is (spoils-text status s.at old.text new.text now.1);
         outcome = ap (status_of command) plays ∙ sym now.1.status-is;
-        kept = subst (λ (x : Reading S). IsKept Keeps x.after.kept) (sym plays) (old.lines.command, s.has_read.keeps);
+        kept = subst (λ (x : Reading S). SomeKeeps Keeps x.after.kept) (sym plays) (old.lines.command, s.has_read.keeps);
       }
 
   -- the last text is put behind
@@ -228,7 +228,7 @@ module _ {C S : Type 0} (command : TapeCommand S) (Keeps : C → S → Type 0) w
         ∙ append_assoc written old.text (command.closing all.at.kept)
         ∙ ap (λ (l : List ℕ). written ++ l) (sym more ∙ sym (append-nil new.text) ∙ ap (λ (l : List ℕ). new.text ++ l) (sym (no_end refused)));
     outcome = ap (status_of command) all.reads ∙ ap (λ (b : Bool). cond b Refused Done) is;
-    kept = subst (λ (x : Reading S). IsKept Keeps x.after.kept) (sym all.reads) (old.lines.command, all.has_read.keeps);
+    kept = subst (λ (x : Reading S). SomeKeeps Keeps x.after.kept) (sym all.reads) (old.lines.command, all.has_read.keeps);
   }
 
   -- ---- a front of the text
@@ -288,7 +288,7 @@ module _ {C S : Type 0} (command : TapeCommand S) (Keeps : C → S → Type 0) w
       record {
         text = λ later none. ap (whole_text command) (whole later (none e)) ∙ f.text;
         outcome = λ later none. ap (tape_status command) (whole later (none e)) ∙ f.outcome;
-        kept = λ later none. subst (λ (l : List ℕ). IsKept Keeps (read_tape command l).after.kept) (sym (whole later (none e))) f.kept;
+        kept = λ later none. subst (λ (l : List ℕ). SomeKeeps Keeps (read_tape command l).after.kept) (sym (whole later (none e))) f.kept;
         bad = λ some. absurd (some e);
       }
 

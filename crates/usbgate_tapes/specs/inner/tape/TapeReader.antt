@@ -16,8 +16,8 @@ use Rattle.usbgate_tapes.specs.Logs.{HoldsOfRead, RunLeaves}
 use Rattle.usbgate_tapes.specs.Wants.{IsJoined}
 
 -- some command keeps this
-abbrev pub IsKept : {C S : Type 0} → (C → S → Type 0) → S → Type 0
-IsKept {C = C} Keeps kept = (c : C) × Keeps c kept
+abbrev pub SomeKeeps : {C S : Type 0} → (C → S → Type 0) → S → Type 0
+SomeKeeps {C = C} Keeps kept = (c : C) × Keeps c kept
 
 -- ---- lines
 
@@ -82,7 +82,7 @@ pub record Spoilt {C S : Type 0} (command : TapeCommand S) (Keeps : C → S → 
   pub status-is : status ≡ BadTape number
   pub text : (later : List ℕ) → whole_text command (read ++ later) ≡ written ++ (p.text ++ end_text status)
   pub outcome : (later : List ℕ) → tape_status command (read ++ later) ≡ status
-  pub kept : (later : List ℕ) → IsKept Keeps (read_tape command (read ++ later)).after.kept
+  pub kept : (later : List ℕ) → SomeKeeps Keeps (read_tape command (read ++ later)).after.kept
 
 abbrev pub Took : {C S : Type 0} → TapeCommand S → (C → S → Type 0) → Option Status → TapeReader C → List ℕ → List ℕ → Type 0
 Took command Keeps None p read written = Stage command Keeps p read written
@@ -92,13 +92,13 @@ Took command Keeps (Some status) p read written = Spoilt command Keeps status p 
 pub record Finished {C S : Type 0} (command : TapeCommand S) (Keeps : C → S → Type 0) (status : Status) (p : TapeReader C) (tape written : List ℕ) : Type 0 where
   pub text : whole_text command tape ≡ written ++ (p.text ++ end_text status)
   pub outcome : tape_status command tape ≡ status
-  pub kept : IsKept Keeps (read_tape command tape).after.kept
+  pub kept : SomeKeeps Keeps (read_tape command tape).after.kept
 
 -- the run ends: at the tape's end, where an empty piece comes, or at a bad line, however the tape goes on
 pub record Closes {C S : Type 0} (command : TapeCommand S) (Keeps : C → S → Type 0) (status : Status) (p : TapeReader C) (piece read written : List ℕ) : Type 0 where
   pub text : (later : List ℕ) → (piece ≡ [] → later ≡ []) → whole_text command ((read ++ piece) ++ later) ≡ written ++ (p.text ++ end_text status)
   pub outcome : (later : List ℕ) → (piece ≡ [] → later ≡ []) → tape_status command ((read ++ piece) ++ later) ≡ status
-  pub kept : (later : List ℕ) → (piece ≡ [] → later ≡ []) → IsKept Keeps (read_tape command ((read ++ piece) ++ later)).after.kept
+  pub kept : (later : List ℕ) → (piece ≡ [] → later ≡ []) → SomeKeeps Keeps (read_tape command ((read ++ piece) ++ later)).after.kept
   pub bad : (piece ≡ [] → ⊥) → (number : ℕ) × (status ≡ BadTape number)
 
 abbrev pub Stepped : {C S : Type 0} → TapeCommand S → (C → S → Type 0) → Option Status → TapeReader C → List ℕ → List ℕ → List ℕ → Type 0
@@ -138,8 +138,8 @@ KeepsPart (Some status) s part old new = (TAPE_LIMIT < s.bytes + length part) ×
 -- where it comes to the end of its tape, or to a bad line, some command keeps what the lines before say: by the log of the
 -- reads, over any tape, and of one that tells its bytes
 pub record ReadsTo {C S T : Type 0} (read_gives : T → List ℕ → Result ℕ Failed → T → Type 0) (remaining : T → Option (List ℕ)) (status : Status) (Keeps : C → S → Type 0) (command : TapeCommand S) (old new : T) : Type 0 where
-  pub by_log : ComesToEnd status (HoldsOfRead read_gives (λ tape. IsKept Keeps (read_tape command tape).after.kept) old new)
-  pub where_told : ComesToEnd status ((tape : List ℕ) → remaining old ≡ Some tape → IsKept Keeps (read_tape command tape).after.kept)
+  pub by_log : ComesToEnd status (HoldsOfRead read_gives (λ tape. SomeKeeps Keeps (read_tape command tape).after.kept) old new)
+  pub where_told : ComesToEnd status ((tape : List ℕ) → remaining old ≡ Some tape → SomeKeeps Keeps (read_tape command tape).after.kept)
 
 -- what a run leaves, and to what it has read
 pub record Runs {C T S K : Type 0} (command : TapeCommand T) (Keeps : C → T → Type 0) (read_gives : S → List ℕ → Result ℕ Failed → S → Type 0) (write_gives : K → List ℕ → Result ℕ Failed → K → Type 0) (remaining : S → Option (List ℕ)) (contents : K → Option (List ℕ))

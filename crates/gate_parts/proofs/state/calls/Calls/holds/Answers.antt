@@ -3,7 +3,7 @@ use Rattle.std.specs.List.{list_any}
 use Rattle.gate_history.specs.state.Calls.{Calls, call_ids}
 use Rattle.gate_history.specs.state.Ids.{holds}
 use Rattle.gate_parts.specs.state.Ids.{is_id}
-use Rattle.gate_parts.proofs.lemmas.state.Ids.{holds-calls}
+use Rattle.gate_parts.proofs.lemmas.state.Ids.{holds-calls, none-called}
 use Rattle.gate_parts.proofs.state.calls.Calls.holds.Goals as goal
 
 pub returns-then-any_is : goal.returns-then-any_is
@@ -17,3 +17,8 @@ returns-else-any_is c =
     let its : Calls = record { started = c.self.inside.started; stopped = c.self.inside.stopped } in
     c.any_is-else-any_is.ensures ∙ (λ i. sym (sym c.any_is.ensures ∙ c.if-any_is.false) i || list_any (is_id c.args.id) its.stopped) ∙ holds-calls c.args.id its
     ∙ ap (λ (k : Calls). holds (call_ids k) c.args.id) c.self.view_is
+
+pub returns-else-id-self : goal.returns-else-id-self
+returns-else-id-self c =
+    let its : Calls = record { started = c.self.inside.started; stopped = c.self.inside.stopped } in
+    none-called c.args.id c.self.inside.greatest its c.self.invariant c.if-id-self.false ∙ ap (λ (k : Calls). holds (call_ids k) c.args.id) c.self.view_is
