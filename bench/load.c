@@ -554,8 +554,8 @@ static size_t stream_packet(uint64_t number, unsigned char *head, size_t *behind
     return 20 + numbered(number, head + 20, length, behind);
 }
 
-/* The hello, with the capabilities 1, 3, 4, 5 and 6, and the device of this folder's scripts: its endpoints 1 are bulk,
-   2 interrupt, 3 isochronous. */
+/* The hello, with the capabilities that the gateway announces, and the device of this folder's scripts: its endpoints 1
+   are bulk, 2 interrupt, 3 isochronous. */
 static void tell_device(int link)
 {
     static unsigned char told[80 + 16 + 160 + 16 + 10];

@@ -3,7 +3,7 @@
 use crate::fronts::push_answer;
 use crate::output::Output;
 use crate::reader::{Told, told_by};
-use crate::type_rows::{has, longer_of};
+use crate::type_rows::longer_of;
 use packet_stream::ReadError;
 use redir_data::read_redir;
 use redir_wire::{Caps, Way};
@@ -17,11 +17,19 @@ struct Form {
     number: u32,
     fixed: u32,
     place: u32,
-    longer: Option<(u32, u32)>,
+    longer: Option<(Caps, u32)>,
 }
 
 /// No capability, each one that makes a difference alone, and all that are announced.
-const CAPS: [u32; 7] = [0, 1 << 1, 1 << 3, 1 << 4, 1 << 5, 1 << 6, 0x7a];
+const CAPS: [Caps; 7] = [
+    Caps(0),
+    Caps::CONNECT_VERSION,
+    Caps::DISCONNECT_ACK,
+    Caps::MAX_PACKET_SIZE,
+    Caps::WIDE_IDS,
+    Caps::WIDE_BULK_LENGTH,
+    Caps::ANNOUNCED,
+];
 
 const WAYS: [Way; 2] = [Way::ToGuest, Way::ToHost];
 
@@ -38,7 +46,7 @@ const COUNTS: [(u8, u8); 6] = [(0, 0), (0, 1), (5, 0), (5, 4), (5, 5), (5, 6)];
 /// A packet to be read.
 #[derive(Clone, Copy)]
 struct Case {
-    bits: u32,
+    caps: Caps,
     way: Way,
     endpoint: u8,
     told: u8,
@@ -71,12 +79,12 @@ fn form_of(number: &str, row: &str, out: &mut Output) -> Form {
 
 /// The first front of a packet that is read as the row doesn't say.
 fn other_of(alloc: Global, form: Form) -> Result<Option<Other>, Memory> {
-    for bits in CAPS {
+    for caps in CAPS {
         for way in WAYS {
             for endpoint in ENDPOINTS {
                 for (told, count) in COUNTS {
                     let case = Case {
-                        bits,
+                        caps,
                         way,
                         endpoint,
                         told,
@@ -103,12 +111,12 @@ fn other_front(alloc: Global, form: Form, case: Case) -> Result<Option<usize>, M
 }
 
 fn read(alloc: Global, case: Case, front: &[u8]) -> Told {
-    told_by(read_redir(alloc, false, Caps { bits: case.bits }, case.way, front))
+    told_by(read_redir(alloc, false, case.caps, case.way, front))
 }
 
 fn fixed_of(form: Form, case: Case) -> u32 {
     match form.longer {
-        Some((bit, size)) if has(case.bits, bit) => size,
+        Some((capability, size)) if case.caps.contains(capability) => size,
         _ => form.fixed,
     }
 }
@@ -120,7 +128,7 @@ fn packet(alloc: Global, form: Form, case: Case) -> Result<Bytes, Memory> {
     let mut packet = Output::new(alloc);
     packet.append(&form.number.to_le_bytes());
     packet.append(&length.to_le_bytes());
-    if has(case.bits, 5) {
+    if case.caps.contains(Caps::WIDE_IDS) {
         packet.append(&WIDE_ID);
     } else {
         packet.append(&ID);
@@ -148,7 +156,11 @@ fn field_at(form: Form, case: Case, place: u32) -> u8 {
 /// What the row says of so many bytes of a packet of this size: data stand in packets to the host of OUT endpoints, and
 /// in packets to the guest of IN endpoints, as many as the length tells.
 fn said(form: Form, case: Case, size: usize, count: usize) -> Told {
-    let head = if has(case.bits, 5) { 16 } else { 12 };
+    let head = if case.caps.contains(Caps::WIDE_IDS) {
+        16
+    } else {
+        12
+    };
     let carries = (case.way == Way::ToHost) == (case.endpoint < 0x80);
     let right = case.count == if carries { case.told } else { 0 };
     if count >= head + fixed_of(form, case) as usize && !right {
@@ -182,7 +194,7 @@ fn push_answers(case: Case, form: Form, count: usize, packet: &[u8], out: &mut O
 
 fn push_case(case: Case, count: usize, number: u32, out: &mut Output) {
     let Case {
-        bits,
+        caps: Caps(bits),
         endpoint,
         told,
         count: there,

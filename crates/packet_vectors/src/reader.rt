@@ -133,7 +133,5 @@ pub fn redir_way(way: &str, out: &mut Output) -> Way {
 
 /// Capabilities, of which bit n says that capability n is there, in hexadecimal.
 pub fn caps_of(digits: &str, out: &mut Output) -> Caps {
-    Caps {
-        bits: out.read(u32::from_str_radix(digits, 16)),
-    }
+    Caps(out.read(u32::from_str_radix(digits, 16)))
 }

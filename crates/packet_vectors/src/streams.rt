@@ -51,7 +51,7 @@ impl Lined for FromGuest {
 }
 
 fn push_redir_state(state: &RedirState, out: &mut Output) {
-    let bits = state.caps.bits;
+    let bits = state.caps.0;
     let hello = if state.first { "to come" } else { "come" };
     out.made(format!(in out.alloc; "hello {hello}, agreed {bits:x}\n"));
 }

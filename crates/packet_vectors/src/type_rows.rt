@@ -23,15 +23,24 @@ struct Form {
     /// The one way that it goes, or none where it goes both.
     only: Option<Way>,
     /// The capability that it wants.
-    wanted: Option<u32>,
+    wanted: Option<Caps>,
     /// Its length. That of a hello and of packets with data is the least.
     short: u32,
     /// The capability that lengthens it, and its length with it.
-    longer: Option<(u32, u32)>,
+    longer: Option<(Caps, u32)>,
 }
 
 /// No capability, each one that makes a difference alone, each but one, and all.
-const CAPS: [u32; 8] = [0, 1 << 1, 1 << 3, 1 << 4, 1 << 5, 1 << 6, 0x7a, 0xffff_ffff];
+const CAPS: [Caps; 8] = [
+    Caps(0),
+    Caps::CONNECT_VERSION,
+    Caps::DISCONNECT_ACK,
+    Caps::MAX_PACKET_SIZE,
+    Caps::WIDE_IDS,
+    Caps::WIDE_BULK_LENGTH,
+    Caps::ANNOUNCED,
+    Caps(u32::MAX),
+];
 
 const WAYS: [Way; 2] = [Way::ToGuest, Way::ToHost];
 
@@ -42,7 +51,7 @@ const LONG: [u32; 3] = [16_777_280, 16_777_281, u32::MAX];
 #[derive(Clone, Copy)]
 struct Case {
     first: bool,
-    bits: u32,
+    caps: Caps,
     way: Way,
     number: u32,
     length: u32,
@@ -52,8 +61,8 @@ struct Case {
 type Other = (Case, usize);
 
 /// Appends `as told` where headers of these types are read as the row says, and else the first that isn't. The
-/// numbers are one, or two with a hyphen between them; the row is `unknown`, `left out`, or a way or `-`, the
-/// capability that is wanted or `-`, a length, and what lengthens it, as `4:160`.
+/// numbers are one, or two with a hyphen between them; the row is `unknown`, `left out`, or a way or `-`, the number of
+/// the capability that is wanted or `-`, a length, and what lengthens it, as `4:160`.
 pub fn push_type_row(numbers: &str, row: &str, out: &mut Output) {
     let (from, to) = numbers.split_once('-').unwrap_or((numbers, numbers));
     let from = out.read(from.parse());
@@ -90,33 +99,38 @@ fn only_of(word: &str, out: &mut Output) -> Option<Way> {
     }
 }
 
-fn wanted_of(word: &str, out: &mut Output) -> Option<u32> {
+fn wanted_of(word: &str, out: &mut Output) -> Option<Caps> {
     match word {
         "-" => None,
-        bit => Some(out.read(bit.parse())),
+        number => Some(flag_of(number, out)),
     }
 }
 
 /// The capability that lengthens a type, and its length with it, of words as `4:160`.
-pub fn longer_of(word: Option<&str>, out: &mut Output) -> Option<(u32, u32)> {
-    let (bit, length) = word?.split_once(':').unwrap_or(("", ""));
-    Some((out.read(bit.parse()), out.read(length.parse())))
+pub fn longer_of(word: Option<&str>, out: &mut Output) -> Option<(Caps, u32)> {
+    let (number, length) = word?.split_once(':').unwrap_or(("", ""));
+    Some((flag_of(number, out), out.read(length.parse())))
 }
 
-/// Whether this bit is set.
-pub fn has(bits: u32, bit: u32) -> bool {
-    bit < 32 && bits >> bit & 1 == 1
+/// The capability of this number, which is below 32.
+fn flag_of(number: &str, out: &mut Output) -> Caps {
+    let number = out.read(number.parse());
+    let Some(bits) = 1_u32.checked_shl(number) else {
+        out.refuse();
+        return Caps::empty();
+    };
+    Caps(bits)
 }
 
 /// The first front of a header of these types that is read as the row doesn't say.
 fn other_among(from: u32, to: u32, listed: Listed) -> Option<Other> {
     for number in from..=to {
-        for bits in CAPS {
+        for caps in CAPS {
             for way in WAYS {
                 for first in [true, false] {
                     let case = Case {
                         first,
-                        bits,
+                        caps,
                         way,
                         number,
                         length: 0,
@@ -166,12 +180,12 @@ fn other_front(case: Case, listed: Listed) -> Option<Other> {
 
 fn read(case: Case, bytes: &[u8; 16], count: usize) -> Told {
     let front = &bytes[..count.min(16)];
-    told_by(read_header(case.first, Caps { bits: case.bits }, case.way, front))
+    told_by(read_header(case.first, case.caps, case.way, front))
 }
 
-/// How many bytes the header has: an id has 64 bits where capability 5 is agreed, but for a hello's.
+/// How many bytes the header has: an id has 64 bits where that is agreed, but for a hello's.
 fn size_of(case: Case) -> usize {
-    if !case.first && has(case.bits, 5) {
+    if !case.first && case.caps.contains(Caps::WIDE_IDS) {
         16
     } else {
         12
@@ -206,8 +220,8 @@ fn refused(place: u64, reason: Reason) -> Told {
 
 /// What the row of a type that is sent says of four bytes of its header or more.
 fn said_of(case: Case, form: Form, size: usize, count: usize) -> Told {
-    if let Some(bit) = form.wanted
-        && !has(case.bits, bit)
+    if let Some(wanted) = form.wanted
+        && !case.caps.contains(wanted)
     {
         return refused(0, Reason::NotAgreed);
     }
@@ -232,7 +246,7 @@ fn said_of(case: Case, form: Form, size: usize, count: usize) -> Told {
 /// Whether a packet of this type may have this length.
 fn is_length(case: Case, form: Form) -> bool {
     let least = match form.longer {
-        Some((bit, long)) if has(case.bits, bit) => long,
+        Some((capability, long)) if case.caps.contains(capability) => long,
         _ => form.short,
     };
     match case.number {
@@ -256,7 +270,7 @@ fn push_other((case, count): Other, listed: Listed, out: &mut Output) {
 fn push_case(case: Case, count: usize, out: &mut Output) {
     let Case {
         first,
-        bits,
+        caps: Caps(bits),
         number,
         length,
         ..

@@ -3,7 +3,7 @@
 use crate::output::Output;
 use crate::reader::caps_of;
 use control_route::{Route, is_change, route_of, touches};
-use redir_wire::{ANNOUNCED, Caps};
+use redir_wire::Caps;
 use usb_base::{EpAddr, EpKind, EpTable, Reason, Refusal, Setup, Side, Speed, UsbStatus};
 
 const REASONS: [Reason; 22] = [
@@ -184,11 +184,11 @@ fn push_route_name(route: &Route, out: &mut Output) {
 
 /// Appends the capabilities that the gateway announces and that are among these, which are given in hexadecimal.
 pub fn push_agreed(digits: &str, out: &mut Output) {
-    let agreed = Caps { bits: ANNOUNCED }.agreed(caps_of(digits, out));
+    let agreed = Caps::ANNOUNCED.agreed(caps_of(digits, out));
     out.text("agreed");
-    for bit in 0..32 {
-        if agreed.has(bit) {
-            out.number(" ", u64::from(bit), "");
+    for number in 0..32_u32 {
+        if agreed.contains(Caps(1 << number)) {
+            out.number(" ", u64::from(number), "");
         }
     }
     out.text("\n");

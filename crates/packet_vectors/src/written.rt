@@ -11,7 +11,7 @@ use crate::output::Output;
 use crate::reader::{Setting, is_in};
 use packet_stream::Read;
 use redir_data::{RedirData, RedirPacket, write_data, write_iso_out};
-use redir_wire::{Caps, RedirControl, WIDE_IDS, Way, write_control};
+use redir_wire::{Caps, RedirControl, Way, write_control};
 use usb_base::{Bytes, Memory};
 use usbip_op::{OpPacket, write_op};
 use usbip_urb::{RetSubmit, UrbPacket, push_desc, push_ret_fields, read_ret, read_urb, write_urb};
@@ -152,7 +152,7 @@ fn push_parts(answer: &RetSubmit, out: &mut Output) {
 
 /// Appends an isochronous packet to the device with these data, as it is written behind what stands in front.
 pub fn push_iso_out(endpoint: u8, id: u64, caps: Caps, body: &[u8], out: &mut Output) {
-    if body.len() > 65_535 || !caps.has(WIDE_IDS) && id > u64::from(u32::MAX) {
+    if body.len() > 65_535 || !caps.contains(Caps::WIDE_IDS) && id > u64::from(u32::MAX) {
         return out.refuse();
     }
     let mut written = started(out);

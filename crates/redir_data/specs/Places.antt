@@ -7,6 +7,7 @@ use Rattle.redir_wire.specs.declared.packet.Caps.{Caps}
 use Rattle.redir_wire.specs.declared.packet.Header.{Header}
 use Rattle.redir_wire.specs.declared.kind.DataKind.{DataKind}
 use Rattle.redir_wire.specs.declared.kind.DataKind.TheVariants as kinds
+use Rattle.redir_wire.specs.declared.packet.TheConstants.Caps.{WIDE_BULK_LENGTH}
 use Rattle.redir_wire.specs.Capability.{has}
 use Rattle.redir_wire.specs.Table.{data_row, data_numbered, fixed_length}
 use Rattle.redir_data.specs.declared.packet.RedirData.{RedirData}
@@ -26,7 +27,7 @@ bulk_length wide b = if wide then le_at w16 2 b + 65536 * le_at w16 8 b else le_
 
 -- the length that a packet tells
 abbrev pub told_length : Caps → DataKind → List ℕ → ℕ
-told_length caps kinds.Bulk b = bulk_length (has caps 6) b
+told_length caps kinds.Bulk b = bulk_length (has caps WIDE_BULK_LENGTH) b
 told_length caps k b = le_at w16 (length_place k) b
 
 -- the fields with this length, and these data

@@ -2,6 +2,7 @@
 use Rattle.std.specs.Prelude.{◌≡◌, ◌<◌, ◌^◌, ℕ, Bool, true, false, length}
 use Rattle.redir_wire.specs.declared.packet.Caps.{Caps}
 use Rattle.redir_wire.specs.declared.packet.Way.{Way}
+use Rattle.redir_wire.specs.declared.packet.TheConstants.Caps.{WIDE_BULK_LENGTH}
 use Rattle.redir_wire.specs.Capability.{has}
 use Rattle.redir_wire.specs.Field.{AreInRange}
 use Rattle.redir_data.specs.declared.packet.RedirData.{RedirData}
@@ -10,13 +11,13 @@ use Rattle.redir_data.specs.Spelling.{form_of, data_count, fixed_of}
 
 -- ---- what a sender keeps to, beside the ranges that the types of the code have
 
--- without capability 6 the length of a bulk packet has 16 bits
+-- without wide bulk lengths (`usb_redir_cap_32bits_bulk_length`) that of a bulk packet has 16 bits
 abbrev pub BulkLengthFits : Bool → ℕ → Type 0
 BulkLengthFits true told = Unit {0}
 BulkLengthFits false told = told < 2 ^ 16
 
 abbrev pub LengthFits : Caps → RedirData → Type 0
-LengthFits caps (moving.Bulk endpoint status told stream body) = BulkLengthFits (has caps 6) told
+LengthFits caps (moving.Bulk endpoint status told stream body) = BulkLengthFits (has caps WIDE_BULK_LENGTH) told
 LengthFits caps _ = Unit {0}
 
 -- data stand where their way asks for them, as many as the length tells

@@ -42,7 +42,7 @@ data_count way endpoint told = if carries way endpoint then told else 0
 
 -- ---- the fields
 
--- with capability 6 a bulk packet has the upper 16 bits of its length in a field of their own
+-- with wide bulk lengths a bulk packet has the upper 16 bits of its length in a field of their own
 abbrev pub bulk : Bool → ℕ → ℕ → ℕ → ℕ → List Field
 bulk more endpoint status told stream = Bytes (endpoint ∷ status ∷ []) ∷ Lower told ∷ Longs (stream ∷ []) ∷ (if more then Upper told ∷ [] else [])
 

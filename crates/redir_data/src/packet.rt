@@ -20,7 +20,7 @@ pub enum RedirData {
         length: u16,
         body: Bytes,
     },
-    /// Type 101, `usb_redir_bulk_packet`. Without capability 6 the length is below 65,536.
+    /// Type 101, `usb_redir_bulk_packet`. Without `WIDE_BULK_LENGTH` the length is below 65,536.
     Bulk {
         endpoint: u8,
         status: u8,

@@ -14,7 +14,7 @@ ghost use Rattle.redir_data.specs.inner.Least.{least, bulk_size, TellsLength};
 use crate::data::data_count;
 use crate::packet::RedirData;
 use packet_stream::{PacketBytes, ReadError};
-use redir_wire::{Caps, DataKind, Header, WIDE_BULK_LENGTH, Way, WireError};
+use redir_wire::{Caps, DataKind, Header, Way, WireError};
 use std::alloc::Global;
 use usb_base::{Bytes, Reason, le_u16_at, le_u32_at};
 
@@ -106,7 +106,7 @@ fn told_length(kind: DataKind, caps: Caps, bytes: &[u8]) -> u32
 {
     match kind {
         DataKind::Control => u32::from(le_u16_at(bytes, 8)),
-        DataKind::Bulk => bulk_length(caps.has(WIDE_BULK_LENGTH), bytes),
+        DataKind::Bulk => bulk_length(caps.contains(Caps::WIDE_BULK_LENGTH), bytes),
         DataKind::Iso | DataKind::Interrupt => u32::from(le_u16_at(bytes, 2)),
     }
 }

@@ -11,7 +11,7 @@ use crate::packet::RedirPacket;
 use crate::redir::take_redir;
 use crate::state::RedirState;
 use packet_stream::{PacketFormat, Read, ReadError};
-use redir_wire::{ANNOUNCED, Caps, Header, RedirControl, Way};
+use redir_wire::{Caps, Header, RedirControl, Way};
 use std::alloc::Global;
 use std::marker::PhantomData;
 use usb_base::Bytes;
@@ -23,7 +23,7 @@ impl RedirState {
     {
         RedirState {
             first: true,
-            caps: Caps { bits: 0 },
+            caps: Caps::empty(),
         }
     }
 
@@ -34,7 +34,7 @@ impl RedirState {
         if let RedirPacket::Plain(RedirControl::Hello(hello)) = packet {
             *self = RedirState {
                 first: false,
-                caps: hello.caps().agreed(Caps { bits: ANNOUNCED }),
+                caps: hello.caps().agreed(Caps::ANNOUNCED),
             };
         }
     }

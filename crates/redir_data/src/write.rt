@@ -10,7 +10,7 @@ ghost use Rattle.redir_data.specs.declared.packet.RedirData.TheVariants.{Iso};
 
 use crate::data::write_periodic;
 use crate::packet::RedirData;
-use redir_wire::{Caps, DataKind, Header, WIDE_IDS, Way, Wire, push_header};
+use redir_wire::{Caps, DataKind, Header, Way, Wire, push_header};
 use usb_base::{Bytes, Memory};
 
 /// Appends a packet with this id, in its form with these capabilities; its data agree with its length this way. For
@@ -87,7 +87,7 @@ fn push_iso_out(
         length: row.fixed(caps) + body.len() as u32,
         id,
     };
-    push_header(caps.has(WIDE_IDS), &header, out)?;
+    push_header(caps.contains(Caps::WIDE_IDS), &header, out)?;
     write_periodic(endpoint, 0, body.len() as u16, &Wire, out)?;
     out.append(body)?;
     Ok(())
@@ -125,7 +125,7 @@ fn push_head(packet: &RedirData, id: u64, caps: Caps, out: &mut Bytes) -> Result
         length: row.fixed(caps) + packet.body().len() as u32,
         id,
     };
-    push_header(caps.has(WIDE_IDS), &header, out)?;
+    push_header(caps.contains(Caps::WIDE_IDS), &header, out)?;
     packet.write_fixed(row.has_more(caps), &Wire, out)?;
     Ok(())
 }

@@ -3,6 +3,7 @@
 ghost use Rattle.std.specs.Prelude.{◌≡◌, ◌++◌, ◌≤◌, ◌<◌, ◌^◌, get_or, if◌then◌else◌, OnOk, OnErr};
 ghost use Rattle.usb_base.specs.Endpoint.{no_endpoint};
 ghost use Rattle.packet_stream.specs.Writes.{Begins};
+ghost use Rattle.redir_wire.specs.declared.packet.TheConstants.Caps.{MAX_PACKET_SIZE};
 ghost use Rattle.redir_wire.specs.Capability.{has};
 ghost use Rattle.redir_wire.specs.Ranges.{Ranges};
 ghost use Rattle.redir_wire.specs.declared.packet.TheConstants.{MAX_INTERFACES};
@@ -11,9 +12,7 @@ ghost use Rattle.redir_host.specs.write.Told.{facts_bytes, connect_bytes};
 
 use crate::write::write;
 use redir_data::RedirPacket;
-use redir_wire::{
-    CONNECT_VERSION, Caps, Connect, EpInfo, InterfaceInfo, MAX_PACKET_SIZE, RedirControl,
-};
+use redir_wire::{Caps, Connect, EpInfo, InterfaceInfo, RedirControl};
 use usb_base::{Bytes, EpKind, EpRow, EpTable, Memory};
 
 /// Appends the endpoints and the interfaces. For want of memory what was there still stands at the front.
@@ -68,10 +67,10 @@ fn ep_info(table: &EpTable, caps: Caps) -> EpInfo
 
 /// The largest packet, 0 where it isn't sent.
 fn max_packet(row: EpRow, caps: Caps) -> u16
-    ensures size { result ≡ (if has caps 4 then row.max_packet else 0) }
+    ensures size { result ≡ (if has caps MAX_PACKET_SIZE then row.max_packet else 0) }
     ensures fits { result < 2 ^ 16 }
 {
-    if caps.has(MAX_PACKET_SIZE) {
+    if caps.contains(Caps::MAX_PACKET_SIZE) {
         row.max_packet
     } else {
         0
@@ -101,7 +100,7 @@ fn kind_byte(kind: EpKind) -> u8
 fn connect_of(identity: Connect, caps: Caps) -> Connect
     ensures { result ≡ connect_of caps identity }
 {
-    let version = if caps.has(CONNECT_VERSION) {
+    let version = if caps.contains(Caps::CONNECT_VERSION) {
         identity.version
     } else {
         0

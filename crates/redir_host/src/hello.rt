@@ -3,7 +3,7 @@
 ghost use Rattle.std.specs.Prelude.{◌≡◌, ◌++◌, OnOk, OnErr};
 ghost use Rattle.redir_host.specs.write.Output.{hello_bytes};
 
-use redir_wire::{ANNOUNCED, Caps, Hello, RedirControl, Words, write_control};
+use redir_wire::{Caps, Hello, RedirControl, Words, write_control};
 use std::alloc::Global;
 use usb_base::{Bytes, Memory};
 
@@ -18,7 +18,7 @@ pub fn write_hello(alloc: Global, out: &mut Bytes) -> Result<(), Memory>
     let mut version = [0; 64];
     version[..NAME.len()].copy_from_slice(NAME);
     let mut words = Words::new(alloc);
-    words.push(ANNOUNCED)?;
+    words.push(Caps::ANNOUNCED.0)?;
     let hello = RedirControl::Hello(Hello { version, words });
-    write_control(&hello, 0, Caps { bits: 0 }, out)
+    write_control(&hello, 0, Caps::empty(), out)
 }

@@ -17,6 +17,7 @@ use Rattle.redir_wire.specs.declared.packet.RedirControl.{RedirControl}
 use Rattle.redir_wire.specs.declared.packet.RedirControl.TheVariants as controls
 use Rattle.redir_wire.specs.declared.kind.PlainKind.{PlainKind}
 use Rattle.redir_wire.specs.declared.kind.PlainKind.TheVariants as plain
+use Rattle.redir_wire.specs.declared.packet.TheConstants.Caps.{CONNECT_VERSION, MAX_PACKET_SIZE}
 use Rattle.redir_wire.specs.Capability.{has}
 use Rattle.redir_wire.specs.Table.{plain_row, has_length}
 use Rattle.redir_wire.specs.Words.{numbers, numbers_of}
@@ -129,11 +130,11 @@ pub found_as : (caps : Caps) (n : ℕ) (k : PlainKind) (b : List ℕ) → AreByt
     ((plain_row k).number ≡ 4 → 4 ≤ length b → le_at w32 0 b ≤ 32) → IsFoundAs caps n k b
 found_as caps n plain.Hello b are e there few = hello_found caps n b are (hello_length n e) there
 found_as caps n plain.Connect b are e there few =
-    let is = eqb-true n (8 + cond (has caps 1) 2 0) e in
+    let is = eqb-true n (8 + cond (has caps CONNECT_VERSION) 2 0) e in
     record {
-      spelled = connect_spelled (has caps 1) b are (omega arith) ∙ ap (λ (m : ℕ). take m b) (sym is);
+      spelled = connect_spelled (has caps CONNECT_VERSION) b are (omega arith) ∙ ap (λ (m : ℕ). take m b) (sym is);
       kind = refl;
-      fits = record { ranges = connect_ranges (has caps 1) b are; writable = (version_range (has caps 1) b are).1 };
+      fits = record { ranges = connect_ranges (has caps CONNECT_VERSION) b are; writable = (version_range (has caps CONNECT_VERSION) b are).1 };
     }
 found_as caps n plain.InterfaceInfo b are e there few =
     let is = eqb-true n 132 e in
@@ -143,10 +144,10 @@ found_as caps n plain.InterfaceInfo b are e there few =
       fits = record { ranges = interface_ranges b are (omega arith); writable = few refl (omega arith) };
     }
 found_as caps n plain.EpInfo b are e there few =
-    let is = eqb-true n (96 + cond (has caps 4) 64 0) e in
-    let r = ep_ranges (has caps 4) b are (omega arith) in
+    let is = eqb-true n (96 + cond (has caps MAX_PACKET_SIZE) 64 0) e in
+    let r = ep_ranges (has caps MAX_PACKET_SIZE) b are (omega arith) in
     record {
-      spelled = ep_spelled (has caps 4) b are (omega arith) ∙ ap (λ (m : ℕ). take m b) (sym is);
+      spelled = ep_spelled (has caps MAX_PACKET_SIZE) b are (omega arith) ∙ ap (λ (m : ℕ). take m b) (sym is);
       kind = refl;
       fits = record { ranges = r.0; writable = r.1 };
     }
@@ -242,9 +243,9 @@ ep_again sent x more r is =
 
 pub fields_again : (caps : Caps) (n : ℕ) (c : RedirControl) (more : List ℕ) → IsControl caps c → n ≡ length (fields caps c) → fields_at caps n (kind_of c) (fields caps c ++ more) ≡ c
 fields_again caps n (controls.Hello x) more is e = ap controls.Hello (hello_again x more n is.ranges (e ∙ length_fields caps (controls.Hello x) is.ranges))
-fields_again caps n (controls.Connect x) more is e = ap controls.Connect (connect_again (has caps 1) x more is.ranges is.writable)
+fields_again caps n (controls.Connect x) more is e = ap controls.Connect (connect_again (has caps CONNECT_VERSION) x more is.ranges is.writable)
 fields_again caps n (controls.InterfaceInfo x) more is e = ap controls.InterfaceInfo (interface_again x more is.ranges is.writable)
-fields_again caps n (controls.EpInfo x) more is e = ap controls.EpInfo (ep_again (has caps 4) x more is.ranges is.writable)
+fields_again caps n (controls.EpInfo x) more is e = ap controls.EpInfo (ep_again (has caps MAX_PACKET_SIZE) x more is.ranges is.writable)
 fields_again caps n c more is e = refl
 
 -- ---- the count of interfaces

@@ -9,6 +9,7 @@ use Rattle.redir_wire.specs.declared.packet.InterfaceInfo.{InterfaceInfo}
 use Rattle.redir_wire.specs.declared.packet.EpInfo.{EpInfo}
 use Rattle.redir_wire.specs.declared.packet.RedirControl.{RedirControl}
 use Rattle.redir_wire.specs.declared.packet.RedirControl.TheVariants as controls
+use Rattle.redir_wire.specs.declared.packet.TheConstants.Caps.{CONNECT_VERSION, MAX_PACKET_SIZE}
 use Rattle.redir_wire.specs.Capability.{has}
 use Rattle.redir_wire.specs.Field.{Field, Bytes, Shorts, Longs, ByteTable, ShortTable, Lower, Upper, field_bytes, wire_bytes}
 use Rattle.redir_wire.specs.Table.{plain_row, has_more}
@@ -66,9 +67,9 @@ size_endpoints false e r = omega (arith, r.0, r.1.0, r.1.1.0)
 -- as many as the table says, and a hello's words
 size_fields : (caps : Caps) (p : RedirControl) → Ranges p → size_of (fields_of (has_more caps (plain_row (kind_of p))) p) ≡ length_of caps p
 size_fields caps (controls.Hello h) r = omega (arith, r.0)
-size_fields caps (controls.Connect c) r = size_connect (has caps 1) c ∙ omega arith
+size_fields caps (controls.Connect c) r = size_connect (has caps CONNECT_VERSION) c ∙ omega arith
 size_fields caps (controls.InterfaceInfo i) r = omega (arith, r.1.0, r.1.1.0, r.1.1.1.0, r.1.1.1.1.0)
-size_fields caps (controls.EpInfo e) r = size_endpoints (has caps 4) e r ∙ omega arith
+size_fields caps (controls.EpInfo e) r = size_endpoints (has caps MAX_PACKET_SIZE) e r ∙ omega arith
 size_fields caps p r = refl
 
 pub length_fields : (caps : Caps) (p : RedirControl) → Ranges p → length (fields caps p) ≡ length_of caps p

@@ -15,6 +15,7 @@ use Rattle.redir_wire.specs.declared.packet.RedirControl.{RedirControl}
 use Rattle.redir_wire.specs.declared.packet.RedirControl.TheVariants as controls
 use Rattle.redir_wire.specs.declared.kind.PlainKind.{PlainKind}
 use Rattle.redir_wire.specs.declared.kind.Kind.TheVariants.{Plain}
+use Rattle.redir_wire.specs.declared.packet.TheConstants.Caps.{CONNECT_VERSION, MAX_PACKET_SIZE}
 use Rattle.redir_wire.specs.Capability.{has}
 use Rattle.redir_wire.specs.Table.{plain_row, plain_numbered, has_length, has_wanted, goes}
 use Rattle.packet_stream.specs.Format.{check}
@@ -98,8 +99,8 @@ hello_length n few = grind (arith, common_steps)
 
 its_length : (caps : Caps) (p : RedirControl) → IsWritable caps p → has_length caps (plain_row (kind_of p)) (length_of caps p) ≡ true
 its_length caps (controls.Hello h) w = hello_length (length h.words) w
-its_length caps (controls.Connect c) w = eq_same (8 + cond (has caps 1) 2 0)
-its_length caps (controls.EpInfo e) w = eq_same (96 + cond (has caps 4) 64 0)
+its_length caps (controls.Connect c) w = eq_same (8 + cond (has caps CONNECT_VERSION) 2 0)
+its_length caps (controls.EpInfo e) w = eq_same (96 + cond (has caps MAX_PACKET_SIZE) 64 0)
 its_length caps p w = refl
 
 sent_most : (t : Bool) (n : ℕ) → cond t n 0 ≤ n
@@ -108,8 +109,8 @@ sent_most false n = omega arith
 
 length_most : (caps : Caps) (p : RedirControl) → IsWritable caps p → length_of caps p ≤ 16777280
 length_most caps (controls.Hello h) w = omega (arith, w)
-length_most caps (controls.Connect c) w = omega (arith, sent_most (has caps 1) 2)
-length_most caps (controls.EpInfo e) w = omega (arith, sent_most (has caps 4) 64)
+length_most caps (controls.Connect c) w = omega (arith, sent_most (has caps CONNECT_VERSION) 2)
+length_most caps (controls.EpInfo e) w = omega (arith, sent_most (has caps MAX_PACKET_SIZE) 64)
 length_most caps p w = omega arith
 
 pub packet_written : (way : Way) (caps : Caps) (id : ℕ) (p : RedirControl) → Ranges p → CanWrite id caps p → goes way (plain_row (kind_of p)) ≡ true →

@@ -1,29 +1,29 @@
 -- Capabilities: which are there, which are agreed, and which the first word of a hello tells ("Capabilities negotiation").
-use Rattle.std.specs.Prelude.{◌≡◌, ◌<◌, ℕ, ◌==◌, ◌&&◌, Bool, get_or}
-use Rattle.std.specs.Int.{bit_at}
-use Rattle.std.specs.Int.Bits.{bit_and}
+use Rattle.std.specs.Prelude.{◌≡◌, ◌==◌, ◌&&◌, Bool, get_or}
+use Rattle.std.specs.Int.RustNames.{bit_and}
 use Rattle.redir_wire.specs.declared.packet.Caps.{Caps}
 use Rattle.redir_wire.specs.declared.packet.Hello.{Hello}
-use Rattle.redir_wire.specs.declared.capability.TheConstants.{ANNOUNCED}
+use Rattle.redir_wire.specs.declared.packet.TheConstants.Caps.{ANNOUNCED}
 
-abbrev pub has : Caps → ℕ → Bool
-has caps bit = bit_at caps.bits bit == 1
+-- each capability of these is there
+abbrev pub has : Caps → Caps → Bool
+has caps flag = bit_and caps.0 flag.0 == flag.0
 
 -- what both sides have is agreed
 abbrev pub agreed : Caps → Caps → Caps
-agreed a b = record { bits = bit_and a.bits b.bits }
+agreed a b = record { 0 = bit_and a.0 b.0 }
 
 abbrev pub HasBoth : Caps → Caps → Caps → Type 0
-HasBoth a b both = (bit : ℕ) → bit < 32 → has both bit ≡ (has a bit && has b bit)
+HasBoth a b both = (flag : Caps) → has both flag ≡ (has a flag && has b flag)
 
 abbrev pub no_caps : Caps
-no_caps = record { bits = 0 }
+no_caps = record { 0 = 0 }
 
 -- those of the first word; a hello may have none
 abbrev pub caps_of : Hello → Caps
-caps_of h = record { bits = get_or h.words 0 0 }
+caps_of h = record { 0 = get_or h.words 0 0 }
 
--- what the gateway announces: the version of a device_connect (1), the acknowledgement of a disconnect (3), max packet sizes (4),
--- 64-bit ids (5) and 32-bit bulk lengths (6)
+-- what the gateway announces: the version of a device_connect, the acknowledgement of a disconnect, max packet sizes, 64-bit ids
+-- and 32-bit bulk lengths
 abbrev pub announced : Caps
-announced = record { bits = ANNOUNCED }
+announced = ANNOUNCED

@@ -11,6 +11,7 @@ use Rattle.redir_wire.specs.declared.packet.Way.{Way}
 use Rattle.redir_wire.specs.declared.packet.Header.{Header}
 use Rattle.redir_wire.specs.declared.header.TheConstants.{MAX_LENGTH}
 use Rattle.redir_wire.specs.declared.kind.TypeRow.{TypeRow}
+use Rattle.redir_wire.specs.declared.packet.TheConstants.Caps.{WIDE_IDS}
 use Rattle.redir_wire.specs.Capability.{has}
 use Rattle.redir_wire.specs.Table.{row_of, kind_numbered, is_left_out, goes, has_wanted, has_length}
 
@@ -18,7 +19,7 @@ use Rattle.redir_wire.specs.Table.{row_of, kind_numbered, is_left_out, goes, has
 
 -- ids have 64 bits where that is agreed; a hello's never has, which comes first
 abbrev pub is_wide : Bool → Caps → Bool
-is_wide first caps = not first && has caps 5
+is_wide first caps = not first && has caps WIDE_IDS
 
 abbrev pub head_size : Bool → ℕ
 head_size wide = if wide then 16 else 12

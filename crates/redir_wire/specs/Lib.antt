@@ -2,7 +2,7 @@ pub mod Capability
 pub mod Words
 pub mod Places
 pub mod Table
-pub mod Bits
+pub mod Small
 pub mod Field
 pub mod Header
 pub mod Bodies

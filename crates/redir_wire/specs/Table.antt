@@ -17,25 +17,26 @@ use Rattle.redir_wire.specs.declared.kind.More.{More}
 use Rattle.redir_wire.specs.declared.kind.Tail.{Tail}
 use Rattle.redir_wire.specs.declared.kind.Tail.TheVariants.{Nothing, Words, Data}
 use Rattle.redir_wire.specs.declared.kind.TypeRow.{TypeRow}
+use Rattle.redir_wire.specs.declared.packet.TheConstants.Caps.{CONNECT_VERSION, DISCONNECT_ACK, MAX_PACKET_SIZE, WIDE_BULK_LENGTH}
 use Rattle.redir_wire.specs.Capability.{has}
 use Rattle.redir_wire.specs.Places.{hello_at, connect_at, interface_info_at, ep_info_at}
 
-abbrev pub of_type : ℕ → Option Way → Option ℕ → ℕ → Option More → Tail → TypeRow
+abbrev pub of_type : ℕ → Option Way → Option Caps → ℕ → Option More → Tail → TypeRow
 of_type number way wanted fixed more tail = record { number = number; way = way; wanted = wanted; fixed = fixed; more = more; tail = tail }
 
 -- so many bytes more with this capability
-abbrev pub with : ℕ → ℕ → Option More
+abbrev pub with : Caps → ℕ → Option More
 with capability bytes = Some (record { capability = capability; bytes = bytes })
 
 -- a type's name in capitals, what the protocol says of it, and the packet whose fields stand at their places behind a header of
 -- this length; behind a hello's text are words
 abbrev pub plain_type : PlainKind → List ℕ × TypeRow × (Caps → ℕ → List ℕ → RedirControl)
 plain_type plain.Hello = (codes "HELLO", of_type 0 None None 64 None Words, λ caps length b. controls.Hello (hello_at ((length - 64) / 4) b))
-plain_type plain.Connect = (codes "DEVICE_CONNECT", of_type 1 (Some ToGuest) None 8 (with 1 2) Nothing, λ caps length b. controls.Connect (connect_at (has caps 1) b))
+plain_type plain.Connect = (codes "DEVICE_CONNECT", of_type 1 (Some ToGuest) None 8 (with CONNECT_VERSION 2) Nothing, λ caps length b. controls.Connect (connect_at (has caps CONNECT_VERSION) b))
 plain_type plain.Disconnect = (codes "DEVICE_DISCONNECT", of_type 2 (Some ToGuest) None 0 None Nothing, λ caps length b. controls.Disconnect)
 plain_type plain.Reset = (codes "RESET", of_type 3 (Some ToHost) None 0 None Nothing, λ caps length b. controls.Reset)
 plain_type plain.InterfaceInfo = (codes "INTERFACE_INFO", of_type 4 (Some ToGuest) None 132 None Nothing, λ caps length b. controls.InterfaceInfo (interface_info_at b))
-plain_type plain.EpInfo = (codes "EP_INFO", of_type 5 (Some ToGuest) None 96 (with 4 64) Nothing, λ caps length b. controls.EpInfo (ep_info_at (has caps 4) b))
+plain_type plain.EpInfo = (codes "EP_INFO", of_type 5 (Some ToGuest) None 96 (with MAX_PACKET_SIZE 64) Nothing, λ caps length b. controls.EpInfo (ep_info_at (has caps MAX_PACKET_SIZE) b))
 plain_type plain.SetConfiguration = (codes "SET_CONFIGURATION", of_type 6 (Some ToHost) None 1 None Nothing, λ caps length b. controls.SetConfiguration (byte_at 0 b))
 plain_type plain.GetConfiguration = (codes "GET_CONFIGURATION", of_type 7 (Some ToHost) None 0 None Nothing, λ caps length b. controls.GetConfiguration)
 plain_type plain.ConfigurationStatus = (codes "CONFIGURATION_STATUS", of_type 8 (Some ToGuest) None 2 None Nothing, λ caps length b. controls.ConfigurationStatus (byte_at 0 b) (byte_at 1 b))
@@ -49,12 +50,12 @@ plain_type plain.StartInterrupt = (codes "START_INTERRUPT_RECEIVING", of_type 15
 plain_type plain.StopInterrupt = (codes "STOP_INTERRUPT_RECEIVING", of_type 16 (Some ToHost) None 1 None Nothing, λ caps length b. controls.StopInterrupt (byte_at 0 b))
 plain_type plain.InterruptStatus = (codes "INTERRUPT_RECEIVING_STATUS", of_type 17 (Some ToGuest) None 2 None Nothing, λ caps length b. controls.InterruptStatus (byte_at 0 b) (byte_at 1 b))
 plain_type plain.Cancel = (codes "CANCEL_DATA_PACKET", of_type 21 (Some ToHost) None 0 None Nothing, λ caps length b. controls.Cancel)
-plain_type plain.DisconnectAck = (codes "DEVICE_DISCONNECT_ACK", of_type 24 (Some ToHost) (Some 3) 0 None Nothing, λ caps length b. controls.DisconnectAck)
+plain_type plain.DisconnectAck = (codes "DEVICE_DISCONNECT_ACK", of_type 24 (Some ToHost) (Some DISCONNECT_ACK) 0 None Nothing, λ caps length b. controls.DisconnectAck)
 
 -- the name and the row of one that moves data
 abbrev pub data_type : DataKind → List ℕ × TypeRow
 data_type moving.Control = (codes "CONTROL", of_type 100 None None 10 None Data)
-data_type moving.Bulk = (codes "BULK", of_type 101 None None 8 (with 6 2) Data)
+data_type moving.Bulk = (codes "BULK", of_type 101 None None 8 (with WIDE_BULK_LENGTH 2) Data)
 data_type moving.Iso = (codes "ISO", of_type 102 None None 4 None Data)
 data_type moving.Interrupt = (codes "INTERRUPT", of_type 103 None None 4 None Data)
 

@@ -1,45 +1,85 @@
 //! Capabilities, as the words of a hello have them ("Capabilities negotiation").
 
-ghost use Rattle.std.specs.Prelude.{◌≡◌, ◌<◌, ◌&&◌, ℕ};
-ghost use Rattle.redir_wire.specs.Capability.{has, agreed, caps_of, HasBoth};
+ghost use Rattle.std.specs.Prelude.{⊤, ◌≡◌, [], ◌∷◌, codes};
+ghost use Rattle.redir_wire.specs.Capability.{has, agreed, caps_of, no_caps, HasBoth};
 
 use crate::packet::{Caps, Hello};
+use bitflags::{Flag, Flags, bitflag_items};
 
-/// `usb_redir_cap_connect_device_version`: a device_connect has the device's release.
-pub const CONNECT_VERSION: u32 = 1;
-/// `usb_redir_cap_device_disconnect_ack`: a device_disconnect is acknowledged.
-pub const DISCONNECT_ACK: u32 = 3;
-/// `usb_redir_cap_ep_info_max_packet_size`: an ep_info has the largest packets.
-pub const MAX_PACKET_SIZE: u32 = 4;
-/// `usb_redir_cap_64bits_ids`: ids have 64 bits, but for a hello's.
-pub const WIDE_IDS: u32 = 5;
-/// `usb_redir_cap_32bits_bulk_length`: the length of a bulk packet has 32 bits.
-pub const WIDE_BULK_LENGTH: u32 = 6;
+bitflag_items! {
+    impl Caps: u32 {
+        /// `usb_redir_cap_connect_device_version`: a device_connect has the device's release.
+        const CONNECT_VERSION = 1 << 1;
+        /// `usb_redir_cap_device_disconnect_ack`: a device_disconnect is acknowledged.
+        const DISCONNECT_ACK = 1 << 3;
+        /// `usb_redir_cap_ep_info_max_packet_size`: an ep_info has the largest packets.
+        const MAX_PACKET_SIZE = 1 << 4;
+        /// `usb_redir_cap_64bits_ids`: ids have 64 bits, but for a hello's.
+        const WIDE_IDS = 1 << 5;
+        /// `usb_redir_cap_32bits_bulk_length`: the length of a bulk packet has 32 bits.
+        const WIDE_BULK_LENGTH = 1 << 6;
+    }
+}
 
-/// The capabilities that the gateway announces.
-pub const ANNOUNCED: u32 = 1 << CONNECT_VERSION
-    | 1 << DISCONNECT_ACK
-    | 1 << MAX_PACKET_SIZE
-    | 1 << WIDE_IDS
-    | 1 << WIDE_BULK_LENGTH;
+impl Flags for Caps {
+    ghost use Rattle.redir_wire.specs.declared.packet.TheConstants.Caps.{CONNECT_VERSION, DISCONNECT_ACK, MAX_PACKET_SIZE, WIDE_IDS, WIDE_BULK_LENGTH};
+
+    type Bits = u32;
+
+    ghost exact = { ⊤ };
+
+    ghost table = { (codes "CONNECT_VERSION", CONNECT_VERSION.0)
+        ∷ (codes "DISCONNECT_ACK", DISCONNECT_ACK.0)
+        ∷ (codes "MAX_PACKET_SIZE", MAX_PACKET_SIZE.0)
+        ∷ (codes "WIDE_IDS", WIDE_IDS.0)
+        ∷ (codes "WIDE_BULK_LENGTH", WIDE_BULK_LENGTH.0)
+        ∷ [] };
+
+    ghost set_of = { λ caps. caps.0 };
+
+    fn flags<'a>() -> &'a [Flag<Caps>] {
+        Caps::FLAGS
+    }
+
+    fn bits(&self) -> u32 {
+        self.0
+    }
+
+    fn from_bits_retain(bits: u32) -> Caps {
+        Caps(bits)
+    }
+}
 
 impl Caps {
+    /// The capabilities that the gateway announces.
+    pub const ANNOUNCED: Caps = Caps(
+        Self::CONNECT_VERSION.0
+            | Self::DISCONNECT_ACK.0
+            | Self::MAX_PACKET_SIZE.0
+            | Self::WIDE_IDS.0
+            | Self::WIDE_BULK_LENGTH.0,
+    );
+
+    /// No capability.
+    pub fn empty() -> Caps
+        ensures { result ≡ no_caps }
+    {
+        Flags::empty()
+    }
+
+    /// Whether each of these capabilities is there.
+    pub fn contains(self, other: Caps) -> bool
+        ensures { result ≡ has self other }
+    {
+        Flags::contains(&self, other)
+    }
+
     /// The capabilities that both sides have.
     pub fn agreed(self, other: Caps) -> Caps
         ensures value { result ≡ agreed self other }
         ensures both { HasBoth self other result }
     {
-        Caps {
-            bits: self.bits & other.bits,
-        }
-    }
-
-    /// Whether this capability is there.
-    pub fn has(self, bit: u32) -> bool
-        requires { bit < 32 }
-        ensures { result ≡ has self bit }
-    {
-        self.bits >> bit & 1 == 1
+        self.intersection(other)
     }
 }
 
@@ -49,8 +89,8 @@ impl Hello {
         ensures { result ≡ caps_of self.now }
     {
         match self.words.as_slice() {
-            [] => Caps { bits: 0 },
-            [first, ..] => Caps { bits: *first },
+            [] => Caps::empty(),
+            [first, ..] => Caps::from_bits_retain(*first),
         }
     }
 }

@@ -8,7 +8,6 @@ ghost use Rattle.packet_stream.specs.Reads.{Answers, IfTold};
 ghost use Rattle.redir_wire.specs.Header.{headers, header_at, head_size, is_wide};
 ghost use Rattle.redir_wire.specs.Reads.{never};
 
-use crate::capability::WIDE_IDS;
 use crate::kind::{HELLO, Kind, is_left_out};
 use crate::packet::{Caps, Header, HeaderRead, Way};
 use packet_stream::{Read, ReadError};
@@ -83,7 +82,7 @@ pub fn header_size(first: bool, caps: Caps) -> usize
 pub(crate) fn is_wide(first: bool, caps: Caps) -> bool
     ensures { result ≡ is_wide first caps }
 {
-    !first && caps.has(WIDE_IDS)
+    !first && caps.contains(Caps::WIDE_IDS)
 }
 
 fn header_at(wide: bool, bytes: &[u8]) -> Header

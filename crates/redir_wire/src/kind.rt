@@ -2,9 +2,8 @@
 
 ghost use Rattle.std.specs.Prelude.{◌≡◌, ◌<◌, ◌≤◌, IfSome};
 ghost use Rattle.redir_wire.specs.Table.{of_type, with, plain_row, data_row, row_of, plain_numbered, data_numbered, kind_numbered, goes, has_wanted, has_more, is_longer, plain_name, data_name, fixed_length, has_length, is_left_out};
-ghost use Rattle.redir_wire.specs.Bits.{AreBits};
+ghost use Rattle.redir_wire.specs.Small.{IsSmall};
 
-use crate::capability::{CONNECT_VERSION, DISCONNECT_ACK, MAX_PACKET_SIZE, WIDE_BULK_LENGTH};
 use crate::packet::{Caps, Way};
 
 /// The number of `usb_redir_hello`.
@@ -56,7 +55,7 @@ pub enum Kind {
 /// Fields that a packet has only with a capability, behind its other fixed fields.
 #[derive(Clone, Copy)]
 pub struct More {
-    pub capability: u32,
+    pub capability: Caps,
     pub bytes: u32,
 }
 
@@ -77,7 +76,7 @@ pub struct TypeRow {
     /// The one way that it goes, or none where it goes both.
     pub way: Option<Way>,
     /// The capability without which it isn't sent.
-    pub wanted: Option<u32>,
+    pub wanted: Option<Caps>,
     /// How many bytes its fixed fields have, with no capability.
     pub fixed: u32,
     pub more: Option<More>,
@@ -137,11 +136,14 @@ impl PlainKind {
     {
         match self {
             PlainKind::Hello => ("HELLO", both_ways(0, 64, Tail::Words)),
-            PlainKind::Connect => ("DEVICE_CONNECT", to_guest(1, 8).with(CONNECT_VERSION, 2)),
+            PlainKind::Connect => (
+                "DEVICE_CONNECT",
+                to_guest(1, 8).with(Caps::CONNECT_VERSION, 2),
+            ),
             PlainKind::Disconnect => ("DEVICE_DISCONNECT", to_guest(2, 0)),
             PlainKind::Reset => ("RESET", to_host(3, 0)),
             PlainKind::InterfaceInfo => ("INTERFACE_INFO", to_guest(4, 132)),
-            PlainKind::EpInfo => ("EP_INFO", to_guest(5, 96).with(MAX_PACKET_SIZE, 64)),
+            PlainKind::EpInfo => ("EP_INFO", to_guest(5, 96).with(Caps::MAX_PACKET_SIZE, 64)),
             PlainKind::SetConfiguration => ("SET_CONFIGURATION", to_host(6, 1)),
             PlainKind::GetConfiguration => ("GET_CONFIGURATION", to_host(7, 0)),
             PlainKind::ConfigurationStatus => ("CONFIGURATION_STATUS", to_guest(8, 2)),
@@ -157,7 +159,7 @@ impl PlainKind {
             PlainKind::Cancel => ("CANCEL_DATA_PACKET", to_host(21, 0)),
             PlainKind::DisconnectAck => (
                 "DEVICE_DISCONNECT_ACK",
-                to_host(24, 0).wanting(DISCONNECT_ACK),
+                to_host(24, 0).wanting(Caps::DISCONNECT_ACK),
             ),
         }
     }
@@ -202,7 +204,7 @@ impl DataKind {
             DataKind::Control => ("CONTROL", both_ways(100, 10, Tail::Data)),
             DataKind::Bulk => (
                 "BULK",
-                both_ways(101, 8, Tail::Data).with(WIDE_BULK_LENGTH, 2),
+                both_ways(101, 8, Tail::Data).with(Caps::WIDE_BULK_LENGTH, 2),
             ),
             DataKind::Iso => ("ISO", both_ways(102, 4, Tail::Data)),
             DataKind::Interrupt => ("INTERRUPT", both_ways(103, 4, Tail::Data)),
@@ -225,7 +227,7 @@ impl Kind {
     /// What the protocol says of it.
     pub fn row(self) -> TypeRow
         ensures row { result ≡ row_of self }
-        ensures bits { AreBits result }
+        ensures small { IsSmall result }
     {
         match self {
             Kind::Plain(kind) => kind.row(),
@@ -267,7 +269,7 @@ const fn to_host(number: u32, fixed: u32) -> TypeRow
 
 impl TypeRow {
     /// The same with so many bytes more where this capability is there.
-    const fn with(self, capability: u32, bytes: u32) -> TypeRow
+    const fn with(self, capability: Caps, bytes: u32) -> TypeRow
         ensures { result ≡ of_type self.number self.way self.wanted self.fixed (with capability bytes) self.tail }
     {
         let more = Some(More { capability, bytes });
@@ -275,7 +277,7 @@ impl TypeRow {
     }
 
     /// The same, sent only with this capability.
-    const fn wanting(self, capability: u32) -> TypeRow
+    const fn wanting(self, capability: Caps) -> TypeRow
         ensures { result ≡ of_type self.number self.way (Some capability) self.fixed self.more self.tail }
     {
         let wanted = Some(capability);
@@ -294,23 +296,21 @@ impl TypeRow {
 
     /// Whether such packets are sent with these capabilities.
     pub fn is_agreed(&self, caps: Caps) -> bool
-        requires { AreBits self.now }
         ensures { result ≡ has_wanted caps self.now }
     {
         match self.wanted {
             None => true,
-            Some(bit) => caps.has(bit),
+            Some(wanted) => caps.contains(wanted),
         }
     }
 
     /// Whether the fields are there that go with a capability.
     pub fn has_more(&self, caps: Caps) -> bool
-        requires { AreBits self.now }
         ensures { result ≡ has_more caps self.now }
     {
         match self.more {
             None => false,
-            Some(more) => caps.has(more.capability),
+            Some(more) => caps.contains(more.capability),
         }
     }
 
@@ -323,19 +323,19 @@ impl TypeRow {
 
     /// How many bytes the fixed fields have.
     pub fn fixed(&self, caps: Caps) -> u32
-        requires { AreBits self.now }
+        requires { IsSmall self.now }
         ensures value { result ≡ fixed_length caps self.now }
         ensures small { result < 1000 }
     {
         match self.more {
-            Some(more) if caps.has(more.capability) => self.fixed + more.bytes,
+            Some(more) if caps.contains(more.capability) => self.fixed + more.bytes,
             _ => self.fixed,
         }
     }
 
     /// Whether so many bytes may follow the header.
     pub fn has_length(&self, caps: Caps, length: u32) -> bool
-        requires { AreBits self.now }
+        requires { IsSmall self.now }
         ensures { result ≡ has_length caps self.now length }
     {
         let fixed = self.fixed(caps);

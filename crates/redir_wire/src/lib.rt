@@ -13,9 +13,6 @@ mod packet;
 mod read;
 mod write;
 
-pub use capability::{
-    ANNOUNCED, CONNECT_VERSION, DISCONNECT_ACK, MAX_PACKET_SIZE, WIDE_BULK_LENGTH, WIDE_IDS,
-};
 pub use field::{FieldWriter, Wire};
 pub use header::{LONGEST_PACKET, MAX_LENGTH, header_size, read_header};
 pub use kind::{DataKind, Kind, More, PlainKind, Tail, TypeRow, is_left_out};

@@ -13,11 +13,9 @@ pub enum Way {
     ToHost,
 }
 
-/// Capabilities, of which bit n says that capability n is there.
+/// Capabilities, a flag each: bit n says that capability n is there.
 #[derive(Clone, Copy)]
-pub struct Caps {
-    pub bits: u32,
-}
+pub struct Caps(pub u32);
 
 /// Capability words, bit 0 of the first word being capability 0.
 pub type Words = List<u32>;
@@ -162,7 +160,7 @@ pub enum RedirControl {
     },
     /// Type 21, to the host: cancels the data packet that has this packet's id.
     Cancel,
-    /// Type 24, to the host, with capability 3: a disconnect was seen.
+    /// Type 24, to the host, with `DISCONNECT_ACK`: a disconnect was seen.
     DisconnectAck,
 }
 

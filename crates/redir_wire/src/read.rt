@@ -13,7 +13,6 @@ ghost use Rattle.redir_wire.specs.Plain.{controls, count_check, is_plain, takes_
 ghost use Rattle.redir_wire.specs.Header.{is_its_length};
 ghost use Rattle.redir_wire.specs.Reads.{AnswersBehind};
 
-use crate::capability::{CONNECT_VERSION, MAX_PACKET_SIZE};
 use crate::kind::{INTERFACE_INFO, PlainKind};
 use crate::packet::{
     Caps, Connect, EpInfo, Header, Hello, InterfaceInfo, MAX_INTERFACES, RedirControl, WireError,
@@ -72,11 +71,17 @@ fn control_at(
 {
     Ok(match kind {
         PlainKind::Hello => RedirControl::Hello(hello_at(alloc, bytes, (size as usize - 64) / 4)?),
-        PlainKind::Connect => RedirControl::Connect(connect_at(caps.has(CONNECT_VERSION), bytes)),
+        PlainKind::Connect => RedirControl::Connect(connect_at(
+            caps.contains(Caps::CONNECT_VERSION),
+            bytes,
+        )),
         PlainKind::Disconnect => RedirControl::Disconnect,
         PlainKind::Reset => RedirControl::Reset,
         PlainKind::InterfaceInfo => RedirControl::InterfaceInfo(interface_info_at(bytes)),
-        PlainKind::EpInfo => RedirControl::EpInfo(ep_info_at(caps.has(MAX_PACKET_SIZE), bytes)),
+        PlainKind::EpInfo => RedirControl::EpInfo(ep_info_at(
+            caps.contains(Caps::MAX_PACKET_SIZE),
+            bytes,
+        )),
         PlainKind::SetConfiguration => RedirControl::SetConfiguration {
             configuration: bytes[0],
         },

@@ -3,6 +3,7 @@ use Rattle.std.proofs.Common.{◌≡◌, ℕ, suc, ◌&&◌, not, Bool, true, fa
 use Rattle.std.specs.List.{flat_map, AllByRecursion as Each}
 use Rattle.usbip_urb.specs.declared.packet.UrbPacket.{UrbPacket}
 use Rattle.usbip_urb.specs.declared.client.ClientPacket.TheVariants.{Urb}
+use Rattle.redir_wire.specs.declared.packet.TheConstants.Caps.{DISCONNECT_ACK}
 use Rattle.redir_wire.specs.Capability.{has}
 use Rattle.redir_wire.specs.declared.packet.RedirControl.TheVariants as plain
 use Rattle.redir_data.specs.declared.packet.RedirPacket.{RedirPacket}
@@ -124,10 +125,10 @@ module _ {S : Type 0} (m : Meaning S) (w : World S) (j : Shared) (place : ℕ) (
     line = record {
       held = rel.line.held;
       half = rel.line.half;
-      coming = ap (λ (l : List InLine). half_line j.half ++ l) (lines-append w.to_host acks ∙ ap (λ (l : List InLine). lines w.to_host ++ l) (acked (has st.agreed 3)).0 ∙ append-nil (lines w.to_host)) ∙ rel.line.coming;
+      coming = ap (λ (l : List InLine). half_line j.half ++ l) (lines-append w.to_host acks ∙ ap (λ (l : List InLine). lines w.to_host ++ l) (acked (has st.agreed DISCONNECT_ACK)).0 ∙ append-nil (lines w.to_host)) ∙ rel.line.coming;
       loads = rel.line.loads;
-      calls_in = Each-append (λ (p : ℕ × RedirPacket). CallIsIn (called_endpoint p.1)) w.to_host acks rel.line.calls_in (uncalled (has st.agreed 3));
-      cancels = fits-nil j.half j.held w.to_host acks j.coming rel.line.coming rel.line.cancels (acked (has st.agreed 3)).2;
+      calls_in = Each-append (λ (p : ℕ × RedirPacket). CallIsIn (called_endpoint p.1)) w.to_host acks rel.line.calls_in (uncalled (has st.agreed DISCONNECT_ACK));
+      cancels = fits-nil j.half j.held w.to_host acks j.coming rel.line.coming rel.line.cancels (acked (has st.agreed DISCONNECT_ACK)).2;
       behind = rel.line.behind;
     };
     answers = refl;
@@ -136,7 +137,7 @@ module _ {S : Type 0} (m : Meaning S) (w : World S) (j : Shared) (place : ℕ) (
     real = rel.real;
     runs_at_in = rel.runs_at_in;
     before = λ h. absurd (clash w.host.guest.first h met);
-    asked = λ h. Each-append (λ (p : ℕ × RedirPacket). IsAsking p.1) w.to_host acks (rel.asked h) (acked (has st.agreed 3)).1;
+    asked = λ h. Each-append (λ (p : ℕ × RedirPacket). IsAsking p.1) w.to_host acks (rel.asked h) (acked (has st.agreed DISCONNECT_ACK)).1;
     meets = record {
       host = rel.meets.host;
       gate = rel.meets.gate;

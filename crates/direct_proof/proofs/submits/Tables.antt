@@ -8,6 +8,7 @@ use Rattle.usb_base.specs.declared.endpoint.EpKind.TheVariants as kind
 use Rattle.usb_base.specs.Endpoint.{row_of, no_endpoint, kind_of_byte, endpoint_index}
 use Rattle.redir_wire.specs.declared.packet.EpInfo.{EpInfo}
 use Rattle.redir_wire.specs.EpTable.{ep_row, ep_rows, table_of}
+use Rattle.redir_wire.specs.declared.packet.TheConstants.Caps.{MAX_PACKET_SIZE}
 use Rattle.redir_wire.specs.Capability.{has}
 use Rattle.redir_host.specs.device.Facts.{kind_byte, column, ep_info_of}
 use Rattle.direct_run.specs.Packets.{both_caps}
@@ -59,7 +60,7 @@ row-told t ep h =
       kind = (ap kind_of_byte (column-cell (λ r. kind_byte r.kind) t 32 k 0 h) ∙ same-kind (row_of t ep).kind) i;
       interval = column-cell (λ r. r.interval) t 32 k 0 h i;
       interface = column-cell (λ r. r.interface) t 32 k 0 h i;
-      max_packet = column-cell (λ r. if has both_caps 4 then r.max_packet else 0) t 32 k 0 h i;
+      max_packet = column-cell (λ r. if has both_caps MAX_PACKET_SIZE then r.max_packet else 0) t 32 k 0 h i;
     })
   where
     k : ℕ

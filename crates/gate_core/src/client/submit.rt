@@ -34,7 +34,7 @@ use gate_parts::{
     write_without_packets,
 };
 use redir_data::move_data;
-use redir_wire::{WIDE_BULK_LENGTH, WIDE_IDS, Way};
+use redir_wire::{Caps, Way};
 use unlink_race::{Live, LiveKind, StreamEnd};
 use usb_base::{Bytes, Memory, Reason};
 use usbip_urb::Submit;
@@ -75,7 +75,7 @@ impl Kept {
         ensures answered { CanGo self.now request.now result }
     {
         let changing = self.lives.change_waits();
-        let wide = self.caps.has(WIDE_BULK_LENGTH);
+        let wide = self.caps.contains(Caps::WIDE_BULK_LENGTH);
         decide(
             self.lost,
             self.lives.len(),
@@ -213,7 +213,12 @@ impl Kept {
         ensures value { result ≡ draw (greatest (wide_ids self.now.caps)) (flying_in self.now) last }
         ensures fits { IdFits (wide_ids self.now.caps) result }
     {
-        draw(&self.lives, &self.calls, self.caps.has(WIDE_IDS), last)
+        draw(
+            &self.lives,
+            &self.calls,
+            self.caps.contains(Caps::WIDE_IDS),
+            last,
+        )
     }
 
     /// Takes a request in, the last of those in flight, for which this id was drawn last.

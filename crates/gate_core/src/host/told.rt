@@ -32,7 +32,7 @@ use gate_parts::{
     stream_packet, write_completed,
 };
 use redir_data::{RedirData, RedirPacket};
-use redir_wire::{ANNOUNCED, Caps, Header, Hello, RedirControl};
+use redir_wire::{Caps, Header, Hello, RedirControl};
 use usb_base::{Memory, Refusal, UsbStatus};
 
 impl Kept {
@@ -119,7 +119,7 @@ impl Kept {
         ensures kept { IsKept self.new }
         ensures agreed { self.new ≡ record self.old { caps = agreed (caps_of hello.now) announced } }
     {
-        self.caps = hello.caps().agreed(Caps { bits: ANNOUNCED });
+        self.caps = hello.caps().agreed(Caps::ANNOUNCED);
     }
 
     /// The host tells of an endpoint's stream, by the id of what started or stopped it.

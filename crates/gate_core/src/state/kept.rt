@@ -54,7 +54,7 @@ impl Kept {
             alloc,
             lives: Lives::make(alloc)?,
             facts: Facts::none(),
-            caps: Caps { bits: 0 },
+            caps: Caps::empty(),
             imported: false,
             lost: false,
             client_over: false,

@@ -1,6 +1,7 @@
 -- The ids in flight, and those that an item draws.
 use Rattle.std.specs.Prelude.{ℕ, ◌-◌, Bool, List, ◌++◌, map, filter}
 use Rattle.redir_wire.specs.declared.packet.Caps.{Caps}
+use Rattle.redir_wire.specs.declared.packet.TheConstants.Caps.{WIDE_IDS, WIDE_BULK_LENGTH}
 use Rattle.redir_wire.specs.Capability.{has}
 use Rattle.gate_history.specs.step.Folds.{rfold}
 use Rattle.gate_history.specs.state.Ids.{last_of}
@@ -9,13 +10,13 @@ use Rattle.gate_history.specs.step.Marks.{Submission, Mark}
 use Rattle.gate_history.specs.client.Submits.{live, abandoned}
 use Rattle.gate_history.specs.state.Calls.{calls, call_ids}
 
--- capability 5: ids have 64 bits
+-- `usb_redir_cap_64bits_ids`: ids have 64 bits
 abbrev pub wide_ids : Caps → Bool
-wide_ids caps = has caps 5
+wide_ids caps = has caps WIDE_IDS
 
--- capability 6: bulk packets have 32 bits for their lengths
+-- `usb_redir_cap_32bits_bulk_length`: bulk packets have 32 bits for their lengths
 abbrev pub wide_bulk : Caps → Bool
-wide_bulk caps = has caps 6
+wide_bulk caps = has caps WIDE_BULK_LENGTH
 
 abbrev pub ids_of : List Submission → List ℕ
 ids_of ss = map (λ s. s.id) (filter (λ s. goes_by_id s.verdict) ss)

@@ -33,7 +33,7 @@ host_bytes_of st m = flat_map (host_packet_bytes st.agreed) (to_host st m)
 
 -- the gateway's hello: its name, and the capabilities that it announces
 abbrev pub gateway_hello : RedirPacket
-gateway_hello = Plain (plain.Hello (record { version = codes "usbgate 1" ++ replicate 55 0; words = announced.bits ∷ [] }))
+gateway_hello = Plain (plain.Hello (record { version = codes "usbgate 1" ++ replicate 55 0; words = announced.0 ∷ [] }))
 
 abbrev pub out_client : ℕ → List Mark → List ℕ
 out_client first ms = all_of client_bytes_of first ms

@@ -3,6 +3,7 @@ use Rattle.std.specs.Prelude.{ℕ, ◌==◌, ◌&&◌, ◌||◌, Bool, if◌then
 use Rattle.std.specs.List.{list_any, flat_map}
 use Rattle.redir_wire.specs.declared.packet.Caps.{Caps}
 use Rattle.redir_wire.specs.declared.packet.RedirControl.TheVariants as plain
+use Rattle.redir_wire.specs.declared.packet.TheConstants.Caps.{DISCONNECT_ACK}
 use Rattle.redir_wire.specs.Capability.{has}
 use Rattle.redir_data.specs.declared.packet.RedirPacket.{RedirPacket}
 use Rattle.redir_data.specs.declared.packet.RedirPacket.TheVariants.{Plain}
@@ -58,9 +59,9 @@ cancels e p = is_wire p.submit.verdict && is_none p.unlinker && leaves e
 abbrev pub cancel : Pending → ℕ × RedirPacket
 cancel p = (p.submit.id, Plain plain.Cancel)
 
--- capability 3: a disconnect is acknowledged, with its id
+-- `usb_redir_cap_device_disconnect_ack`: a disconnect is acknowledged, with its id
 abbrev pub acknowledgements : Caps → Effect → List (ℕ × RedirPacket)
-acknowledgements caps (Disconnects id) = if has caps 3 then (id, Plain plain.DisconnectAck) ∷ [] else []
+acknowledgements caps (Disconnects id) = if has caps DISCONNECT_ACK then (id, Plain plain.DisconnectAck) ∷ [] else []
 acknowledgements caps _ = []
 
 abbrev pub to_host : State → Mark → List (ℕ × RedirPacket)

@@ -20,7 +20,7 @@ use crate::write::field::field;
 use control_route::Route;
 use gate_history::Pipe;
 use redir_data::RedirData;
-use redir_wire::{ANNOUNCED, Caps, DISCONNECT_ACK, Hello, RedirControl, Words, write_control};
+use redir_wire::{Caps, Hello, RedirControl, Words, write_control};
 use std::alloc::Global;
 use stream_buffers::Up;
 use unlink_race::{Live, LiveKind};
@@ -184,12 +184,12 @@ pub fn write_hello(alloc: Global, out: &mut Bytes) -> Result<(), Memory>
     ensures err { OnErr result (out.new ≡ out.old) }
 {
     let mut words = Words::new(alloc);
-    words.push(ANNOUNCED)?;
+    words.push(Caps::ANNOUNCED.0)?;
     let hello = Hello {
         version: field(b"usbgate 1"),
         words,
     };
-    write_control(&RedirControl::Hello(hello), 0, Caps { bits: 0 }, out)
+    write_control(&RedirControl::Hello(hello), 0, Caps::empty(), out)
 }
 
 /// Appends the cancel of a transfer on the wire, and nothing for any other request.
@@ -212,7 +212,7 @@ pub fn acknowledge(id: u64, caps: Caps, to_host: &mut Bytes) -> Result<(), Memor
     ensures err { OnErr result (to_host.new ≡ to_host.old) }
     ensures wants { OnErr result (0 < length (acknowledgements caps (Disconnects id))) }
 {
-    if caps.has(DISCONNECT_ACK) {
+    if caps.contains(Caps::DISCONNECT_ACK) {
         write_control(&RedirControl::DisconnectAck, id, caps, to_host)?;
     }
     Ok(())

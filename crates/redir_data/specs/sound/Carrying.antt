@@ -11,6 +11,7 @@ use Rattle.redir_wire.specs.declared.packet.Way.{Way}
 use Rattle.redir_wire.specs.declared.packet.Header.{Header}
 use Rattle.redir_wire.specs.declared.kind.DataKind.{DataKind}
 use Rattle.redir_wire.specs.declared.kind.DataKind.TheVariants.{Control, Bulk, Iso, Interrupt}
+use Rattle.redir_wire.specs.declared.packet.TheConstants.Caps.{WIDE_BULK_LENGTH}
 use Rattle.redir_wire.specs.Capability.{has}
 use Rattle.redir_wire.specs.Table.{data_row, data_numbered}
 use Rattle.redir_wire.specs.Header.{IsHeader}
@@ -39,7 +40,7 @@ bulk_more false b more there = le_at-append_16 2 b more (omega arith)
 
 told_more : (caps : Caps) (k : DataKind) (b more : List ℕ) → fixed caps k ≤ length b → told_length caps k (b ++ more) ≡ told_length caps k b
 told_more caps Control b more there = le_at-append_16 8 b more there
-told_more caps Bulk b more there = bulk_more (has caps 6) b more there
+told_more caps Bulk b more there = bulk_more (has caps WIDE_BULK_LENGTH) b more there
 told_more caps Iso b more there = le_at-append_16 2 b more there
 told_more caps Interrupt b more there = le_at-append_16 2 b more there
 
@@ -61,7 +62,7 @@ most true = omega arith
 most false = omega arith
 
 steady : (caps : Caps) (way : Way) → AreSteadyBehind 0 (transfers caps way).checks
-steady caps way = (omega arith, sees caps way Iso, (omega arith, sees caps way Interrupt, (fixed_least caps Bulk, sees caps way Bulk, (most (has caps 6), sees caps way Control, tt))))
+steady caps way = (omega arith, sees caps way Iso, (omega arith, sees caps way Interrupt, (fixed_least caps Bulk, sees caps way Bulk, (most (has caps WIDE_BULK_LENGTH), sees caps way Control, tt))))
 
 -- ---- what is found
 

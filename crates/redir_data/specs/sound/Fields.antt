@@ -8,6 +8,7 @@ use Rattle.usb_base.proofs.Numbers.{part_found, join, le_spelled_16, le_spelled_
 use Rattle.redir_wire.specs.declared.packet.Caps.{Caps}
 use Rattle.redir_wire.specs.declared.kind.DataKind.{DataKind}
 use Rattle.redir_wire.specs.declared.kind.DataKind.TheVariants as kinds
+use Rattle.redir_wire.specs.declared.packet.TheConstants.Caps.{WIDE_BULK_LENGTH}
 use Rattle.redir_wire.specs.Capability.{has}
 use Rattle.redir_wire.specs.Field.{wire_bytes}
 use Rattle.redir_wire.proofs.Controls.{bytes_there}
@@ -55,19 +56,19 @@ fixed_spelled caps kinds.Control b body are there =
     let last = join 8 2 0 b _ _ (le_spelled_16 8 b are (omega arith)) refl in
     let numbers = join 4 2 4 b _ _ (le_spelled_16 4 b are (omega arith)) (join 6 2 2 b _ _ (le_spelled_16 6 b are (omega arith)) last) in
     join 0 4 6 b _ _ (bytes_there 4 b (omega arith)) (join 4 6 0 b _ _ numbers refl)
-fixed_spelled caps kinds.Bulk b body are there = bulk_spelled (has caps 6) b are there
+fixed_spelled caps kinds.Bulk b body are there = bulk_spelled (has caps WIDE_BULK_LENGTH) b are there
 fixed_spelled caps kinds.Iso b body are there = periodic_spelled b are there
 fixed_spelled caps kinds.Interrupt b body are there = periodic_spelled b are there
 
 pub ranges_there : (caps : Caps) (k : DataKind) (b body : List ℕ) → AreBytes b → Ranges (fields_with k b (told_length caps k b) body)
 ranges_there caps kinds.Control b body are = ((le_at-below_16 4 b are, (le_at-below_16 6 b are, (le_at-below_16 8 b are, tt))), tt)
-ranges_there caps kinds.Bulk b body are = ((le_at-below_32 4 b are, tt), ((bulk_below (has caps 6) b are).0, tt))
+ranges_there caps kinds.Bulk b body are = ((le_at-below_32 4 b are, tt), ((bulk_below (has caps WIDE_BULK_LENGTH) b are).0, tt))
 ranges_there caps kinds.Iso b body are = ((le_at-below_16 2 b are, tt), tt)
 ranges_there caps kinds.Interrupt b body are = ((le_at-below_16 2 b are, tt), tt)
 
 pub length_there : (caps : Caps) (k : DataKind) (b body : List ℕ) → AreBytes b → LengthFits caps (fields_with k b (told_length caps k b) body)
 length_there caps kinds.Control b body are = tt
-length_there caps kinds.Bulk b body are = (bulk_below (has caps 6) b are).1
+length_there caps kinds.Bulk b body are = (bulk_below (has caps WIDE_BULK_LENGTH) b are).1
 length_there caps kinds.Iso b body are = tt
 length_there caps kinds.Interrupt b body are = tt
 
@@ -92,7 +93,7 @@ length_bulk false endpoint status told stream = refl
 pub length_fixed : (caps : Caps) (d : RedirData) → length (fixed_fields caps d) ≡ fixed caps (form_of d).kind
 unfolding le
 length_fixed caps (moving.Control endpoint request kind status value index told body) = refl
-length_fixed caps (moving.Bulk endpoint status told stream body) = length_bulk (has caps 6) endpoint status told stream
+length_fixed caps (moving.Bulk endpoint status told stream body) = length_bulk (has caps WIDE_BULK_LENGTH) endpoint status told stream
 length_fixed caps (moving.Iso endpoint status told body) = refl
 length_fixed caps (moving.Interrupt endpoint status told body) = refl
 
@@ -119,7 +120,7 @@ stream_again false endpoint status told stream body more fits = from_le_bytes-to
 pub told_again : (caps : Caps) (d : RedirData) (more : List ℕ) → Ranges d → LengthFits caps d → told_length caps (form_of d).kind (fields caps d ++ more) ≡ (form_of d).told
 unfolding le le_at
 told_again caps (moving.Control endpoint request kind status value index told body) more r l = from_le_bytes-to_le_bytes_2 told r.0.1.1.0
-told_again caps (moving.Bulk endpoint status told stream body) more r l = bulk_again (has caps 6) endpoint status told stream body more r.1.0 l
+told_again caps (moving.Bulk endpoint status told stream body) more r l = bulk_again (has caps WIDE_BULK_LENGTH) endpoint status told stream body more r.1.0 l
 told_again caps (moving.Iso endpoint status told body) more r l = from_le_bytes-to_le_bytes_2 told r.0.0
 told_again caps (moving.Interrupt endpoint status told body) more r l = from_le_bytes-to_le_bytes_2 told r.0.0
 
@@ -132,7 +133,7 @@ with_again caps (moving.Control endpoint request kind status value index told bo
     let first = from_le_bytes-to_le_bytes_2 value r.0.0 in
     let second = from_le_bytes-to_le_bytes_2 index r.0.1.0 in
     λ i. moving.Control endpoint request kind status (first i) (second i) told body
-with_again caps (moving.Bulk endpoint status told stream body) more r = ap (λ (s : ℕ). moving.Bulk endpoint status told s body) (stream_again (has caps 6) endpoint status told stream body more r.0.0)
+with_again caps (moving.Bulk endpoint status told stream body) more r = ap (λ (s : ℕ). moving.Bulk endpoint status told s body) (stream_again (has caps WIDE_BULK_LENGTH) endpoint status told stream body more r.0.0)
 with_again caps (moving.Iso endpoint status told body) more r = refl
 with_again caps (moving.Interrupt endpoint status told body) more r = refl
 

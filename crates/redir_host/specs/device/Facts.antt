@@ -9,6 +9,7 @@ use Rattle.redir_wire.specs.declared.packet.Caps.{Caps}
 use Rattle.redir_wire.specs.declared.packet.Connect.{Connect}
 use Rattle.redir_wire.specs.declared.packet.EpInfo.{EpInfo}
 use Rattle.redir_wire.specs.declared.packet.RedirControl.TheVariants as plain
+use Rattle.redir_wire.specs.declared.packet.TheConstants.Caps.{CONNECT_VERSION, MAX_PACKET_SIZE}
 use Rattle.redir_wire.specs.Capability.{has}
 use Rattle.redir_data.specs.declared.packet.RedirPacket.{RedirPacket}
 use Rattle.redir_data.specs.declared.packet.RedirPacket.TheVariants.{Plain}
@@ -26,18 +27,18 @@ unfoldable pub column : (EpRow → ℕ) → EpTable → ℕ → List ℕ
 column f t zero = []
 column f t (suc n) = column f t n ++ f (get_or t.rows n no_endpoint) ∷ []
 
--- capability 4: the largest packets, 0 where they aren't sent
+-- `usb_redir_cap_ep_info_max_packet_size`: the largest packets, 0 where they aren't sent
 abbrev pub ep_info_of : Caps → EpTable → EpInfo
 ep_info_of caps t = record {
   kinds = column (λ r. kind_byte r.kind) t 32;
   interval = column (λ r. r.interval) t 32;
   interface = column (λ r. r.interface) t 32;
-  max_packet = column (λ r. if has caps 4 then r.max_packet else 0) t 32;
+  max_packet = column (λ r. if has caps MAX_PACKET_SIZE then r.max_packet else 0) t 32;
 }
 
--- capability 1: the device's release, 0 where it isn't sent
+-- `usb_redir_cap_connect_device_version`: the device's release, 0 where it isn't sent
 abbrev pub connect_of : Caps → Connect → Connect
-connect_of caps c = if has caps 1 then c else record c { version = 0 }
+connect_of caps c = if has caps CONNECT_VERSION then c else record c { version = 0 }
 
 -- the endpoints and the interfaces as they are now, with id 0
 abbrev pub facts_of : {S : Type 0} → Caps → Meaning S → S → List (ℕ × RedirPacket)

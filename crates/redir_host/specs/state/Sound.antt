@@ -4,6 +4,7 @@ use Rattle.std.specs.List.{AllByRecursion}
 use Rattle.usb_base.specs.Endpoint.{is_in_endpoint}
 use Rattle.redir_wire.specs.declared.packet.Caps.{Caps}
 use Rattle.redir_wire.specs.declared.packet.Way.TheVariants.{ToGuest}
+use Rattle.redir_wire.specs.declared.packet.TheConstants.Caps.{WIDE_BULK_LENGTH}
 use Rattle.redir_wire.specs.Capability.{has}
 use Rattle.redir_wire.specs.Header.{is_wide, IdFits}
 use Rattle.redir_wire.specs.Written.{CanWrite}
@@ -33,7 +34,7 @@ DoneFits _ done = Unit {0}
 
 -- and so has that of its packet
 abbrev pub WantedFits : Caps → Form → ℕ → Type 0
-WantedFits caps (form.Bulk stream) wanted = (wanted ≤ greatest) × BulkLengthFits (has caps 6) wanted
+WantedFits caps (form.Bulk stream) wanted = (wanted ≤ greatest) × BulkLengthFits (has caps WIDE_BULK_LENGTH) wanted
 WantedFits caps _ wanted = wanted < 2 ^ 16
 
 -- and so have the fields of its answer that are its own

@@ -7,6 +7,7 @@ use Rattle.redir_wire.specs.declared.packet.Caps.{Caps}
 use Rattle.redir_wire.specs.declared.packet.Header.{Header}
 use Rattle.redir_wire.specs.declared.packet.Way.TheVariants.{ToGuest, ToHost}
 use Rattle.redir_wire.specs.declared.packet.RedirControl.{RedirControl}
+use Rattle.redir_wire.specs.declared.packet.TheConstants.Caps.{WIDE_BULK_LENGTH}
 use Rattle.redir_wire.specs.Capability.{has}
 use Rattle.redir_wire.specs.Header.{is_wide, IdFits}
 use Rattle.redir_wire.specs.Spelling.{is_hello}
@@ -65,7 +66,7 @@ flushed_bytes caps r table queue = flat_map (told_bytes caps) (map cancelled (fi
 
 -- the answer of a request of this form and endpoint can be written
 abbrev pub LengthFits : Caps → Form → ℕ → Type 0
-LengthFits caps (form.Bulk stream) done = BulkLengthFits (has caps 6) done
+LengthFits caps (form.Bulk stream) done = BulkLengthFits (has caps WIDE_BULK_LENGTH) done
 LengthFits caps _ done = Unit {0}
 
 pub record AnswerFits (caps : Caps) (f : Form) (ep : ℕ) (o : Outcome) : Type 0 where

@@ -14,7 +14,7 @@ use Rattle.redir_host.specs.step.Machine.{run, told_bytes, bytes_of, notes_of, a
 
 -- the host's hello: its name, and the capabilities that it announces
 abbrev pub host_hello : RedirControl
-host_hello = plain.Hello (record { version = codes "usbgate host 1" ++ replicate 50 0; words = announced.bits ∷ [] })
+host_hello = plain.Hello (record { version = codes "usbgate host 1" ++ replicate 50 0; words = announced.0 ∷ [] })
 
 -- it is the first packet, and spelled as one
 abbrev pub first_packet : ℕ × RedirPacket

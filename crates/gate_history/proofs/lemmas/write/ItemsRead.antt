@@ -18,6 +18,7 @@ use Rattle.redir_wire.specs.declared.packet.Connect.{Connect}
 use Rattle.redir_wire.specs.declared.packet.Header.{Header}
 use Rattle.redir_wire.specs.declared.packet.RedirControl.TheVariants as plain
 use Rattle.redir_wire.specs.declared.packet.Way.TheVariants.{ToHost}
+use Rattle.redir_wire.specs.declared.packet.TheConstants.Caps.{DISCONNECT_ACK}
 use Rattle.redir_wire.specs.Capability.{has}
 use Rattle.redir_wire.specs.Header.{IdFits}
 use Rattle.redir_data.specs.declared.packet.RedirData.{RedirData}
@@ -228,9 +229,9 @@ each-zip caps (id ∷ ids) [] fits sends = tt
 each-zip caps (id ∷ ids) (p ∷ ps) fits sends = (sends.0 id fits.0, each-zip caps ids ps fits.1 sends.1)
 
 acknowledged : (caps : Caps) (e : Effect) → AckFits (wide_ids caps) e → Each (Reads caps) (acknowledgements caps e)
-acknowledged caps (Disconnects id) fits = by (has caps 3) refl
+acknowledged caps (Disconnects id) fits = by (has caps DISCONNECT_ACK) refl
   where
-    by : (b : Bool) → has caps 3 ≡ b → Each (Reads caps) (cond b ((id, Plain plain.DisconnectAck) ∷ []) [])
+    by : (b : Bool) → has caps DISCONNECT_ACK ≡ b → Each (Reads caps) (cond b ((id, Plain plain.DisconnectAck) ∷ []) [])
     by true e = (control_sent ToHost caps id plain.DisconnectAck refl tt (record { agreed = e; id_fits = fits; writable = tt }) refl, tt)
     by false e = tt
 acknowledged caps e fits = tt

@@ -1,4 +1,5 @@
 use Rattle.std.proofs.Common.{◌≡◌, if◌then◌else◌, refl, arith}
+use Rattle.redir_wire.specs.declared.packet.TheConstants.Caps.{MAX_PACKET_SIZE}
 use Rattle.redir_wire.specs.Capability.{has}
 use Rattle.redir_host.specs.device.Facts.{kind_byte}
 use Rattle.redir_host.proofs.lemmas.device.Columns.{first_column, next_cell, set_halves, whole_column, zero_halves}
@@ -24,7 +25,7 @@ loop-index-preserved c =
       kinds = next_cell (λ r. kind_byte r.kind) t at.index at.info.kinds row c.kind_byte.result is c.kind_byte.ensures less at.invariant.kinds;
       intervals = next_cell (λ r. r.interval) t at.index at.info.interval row row.interval is refl less at.invariant.intervals;
       interfaces = next_cell (λ r. r.interface) t at.index at.info.interface row row.interface is refl less at.invariant.interfaces;
-      max_packets = next_cell (λ r. if has c.args.caps 4 then r.max_packet else 0) t at.index at.info.max_packet row c.max_packet.result is c.max_packet.ensures.size less at.invariant.max_packets;
+      max_packets = next_cell (λ r. if has c.args.caps MAX_PACKET_SIZE then r.max_packet else 0) t at.index at.info.max_packet row c.max_packet.result is c.max_packet.ensures.size less at.invariant.max_packets;
       halves = set_halves at.info.max_packet at.index c.max_packet.result at.invariant.halves c.max_packet.ensures.fits;
     }
 
@@ -37,7 +38,7 @@ returns-clause-info c =
       kinds = whole_column (λ r. kind_byte r.kind) t at.index at.info.kinds all at.invariant.kinds i;
       interval = whole_column (λ r. r.interval) t at.index at.info.interval all at.invariant.intervals i;
       interface = whole_column (λ r. r.interface) t at.index at.info.interface all at.invariant.interfaces i;
-      max_packet = whole_column (λ r. if has c.args.caps 4 then r.max_packet else 0) t at.index at.info.max_packet all at.invariant.max_packets i;
+      max_packet = whole_column (λ r. if has c.args.caps MAX_PACKET_SIZE then r.max_packet else 0) t at.index at.info.max_packet all at.invariant.max_packets i;
     }
 
 pub returns-clause-ranges : goal.returns-clause-ranges

@@ -1,4 +1,5 @@
 use Rattle.std.proofs.Common.{if◌then◌else◌}
+use Rattle.redir_wire.specs.declared.packet.TheConstants.Caps.{MAX_PACKET_SIZE}
 use Rattle.redir_wire.specs.Capability.{has}
 use Rattle.std.specs.Int.{w16}
 use Rattle.redir_wire.specs.Words.{AreNumbers}
@@ -11,6 +12,6 @@ invariant-loop-index l = record {
   kinds : IsColumn (λ r. kind_byte r.kind) l.table l.index l.info.kinds;
   intervals : IsColumn (λ r. r.interval) l.table l.index l.info.interval;
   interfaces : IsColumn (λ r. r.interface) l.table l.index l.info.interface;
-  max_packets : IsColumn (λ r. if has l.caps 4 then r.max_packet else 0) l.table l.index l.info.max_packet;
+  max_packets : IsColumn (λ r. if has l.caps MAX_PACKET_SIZE then r.max_packet else 0) l.table l.index l.info.max_packet;
   halves : AreNumbers w16 l.info.max_packet;
 }

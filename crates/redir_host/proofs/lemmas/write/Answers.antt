@@ -6,6 +6,7 @@ use Rattle.usb_base.specs.declared.status.UsbStatus.{UsbStatus}
 use Rattle.usb_base.specs.declared.transfer.Outcome.{Outcome}
 use Rattle.redir_wire.specs.declared.packet.Caps.{Caps}
 use Rattle.redir_wire.specs.declared.packet.Way.TheVariants.{ToGuest}
+use Rattle.redir_wire.specs.declared.packet.TheConstants.Caps.{WIDE_BULK_LENGTH}
 use Rattle.redir_wire.specs.Capability.{has}
 use Rattle.redir_wire.specs.Header.{is_wide, IdFits}
 use Rattle.redir_data.specs.declared.state.RedirState.{RedirState}
@@ -26,7 +27,7 @@ more_bytes false = omega arith
 
 pub can_answer : (caps : Caps) (configuration id : ℕ) (f : Form) (ep : ℕ) (o : Outcome) → IdFits (is_wide false caps) id → AnswerFits caps f ep o → CanTell caps id (answer_by configuration f ep o)
 can_answer caps configuration id (form.Control s) ep o fits a = record { id_fits = fits; length_fits = tt; data_there = a.data_there; in_limit = (let few = a.few_bytes in omega arith) }
-can_answer caps configuration id (form.Bulk stream) ep o fits a = record { id_fits = fits; length_fits = a.length_fits; data_there = a.data_there; in_limit = (let few = a.few_bytes in let more = more_bytes (has caps 6) in omega arith) }
+can_answer caps configuration id (form.Bulk stream) ep o fits a = record { id_fits = fits; length_fits = a.length_fits; data_there = a.data_there; in_limit = (let few = a.few_bytes in let more = more_bytes (has caps WIDE_BULK_LENGTH) in omega arith) }
 can_answer caps configuration id form.Interrupt ep o fits a = record { id_fits = fits; length_fits = tt; data_there = a.data_there; in_limit = (let few = a.few_bytes in omega arith) }
 can_answer caps configuration id (form.SetConfiguration asked) ep o fits a = record { agreed = refl; id_fits = fits; writable = tt }
 can_answer caps configuration id form.GetConfiguration ep o fits a = record { agreed = refl; id_fits = fits; writable = tt }
@@ -54,7 +55,7 @@ ended_done (form.GetAlt interface) = tt
 
 ended_length : (caps : Caps) (f : Form) → LengthFits caps f 0
 ended_length caps (form.Control s) = tt
-ended_length caps (form.Bulk stream) = no_length (has caps 6)
+ended_length caps (form.Bulk stream) = no_length (has caps WIDE_BULK_LENGTH)
 ended_length caps form.Interrupt = tt
 ended_length caps (form.SetConfiguration asked) = tt
 ended_length caps form.GetConfiguration = tt
@@ -81,7 +82,7 @@ less_length false wanted done w less = omega arith
 
 outcome_length : (caps : Caps) (f : Form) (wanted done : ℕ) → WantedFits caps f wanted → done ≤ wanted → LengthFits caps f done
 outcome_length caps (form.Control s) wanted done w less = tt
-outcome_length caps (form.Bulk stream) wanted done w less = less_length (has caps 6) wanted done w.1 less
+outcome_length caps (form.Bulk stream) wanted done w less = less_length (has caps WIDE_BULK_LENGTH) wanted done w.1 less
 outcome_length caps form.Interrupt wanted done w less = tt
 outcome_length caps (form.SetConfiguration asked) wanted done w less = tt
 outcome_length caps form.GetConfiguration wanted done w less = tt

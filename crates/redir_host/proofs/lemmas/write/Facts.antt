@@ -7,6 +7,7 @@ use Rattle.redir_wire.specs.declared.packet.Caps.{Caps}
 use Rattle.redir_wire.specs.declared.packet.Connect.{Connect}
 use Rattle.redir_wire.specs.declared.packet.InterfaceInfo.{InterfaceInfo}
 use Rattle.redir_wire.specs.declared.packet.RedirControl.TheVariants as plain
+use Rattle.redir_wire.specs.declared.packet.TheConstants.Caps.{CONNECT_VERSION, MAX_PACKET_SIZE, WIDE_IDS}
 use Rattle.redir_wire.specs.Capability.{has}
 use Rattle.redir_wire.specs.Header.{IdFits}
 use Rattle.redir_wire.specs.Ranges.{IsSent}
@@ -29,20 +30,20 @@ no_sizes t true = tt
 no_sizes t false = refl
 
 pub ep_info : (caps : Caps) (t : EpTable) → CanWrite 0 caps (plain.EpInfo (ep_info_of caps t))
-ep_info caps t = record { agreed = refl; id_fits = no_id (has caps 5); writable = no_sizes t (has caps 4) }
+ep_info caps t = record { agreed = refl; id_fits = no_id (has caps WIDE_IDS); writable = no_sizes t (has caps MAX_PACKET_SIZE) }
 
 pub interface_info : (caps : Caps) (i : InterfaceInfo) → i.count ≤ 32 → CanWrite 0 caps (plain.InterfaceInfo i)
-interface_info caps i few = record { agreed = refl; id_fits = no_id (has caps 5); writable = few }
+interface_info caps i few = record { agreed = refl; id_fits = no_id (has caps WIDE_IDS); writable = few }
 
 no_version : (c : Connect) (b : Bool) → IsSent b 0 (cond b c (record c { version = 0 })).version
 no_version c true = tt
 no_version c false = refl
 
 pub connect : (caps : Caps) (c : Connect) → CanWrite 0 caps (plain.Connect (connect_of caps c))
-connect caps c = record { agreed = refl; id_fits = no_id (has caps 5); writable = no_version c (has caps 1) }
+connect caps c = record { agreed = refl; id_fits = no_id (has caps WIDE_IDS); writable = no_version c (has caps CONNECT_VERSION) }
 
 -- ---- packets of streams
 
 pub stream_told : (caps : Caps) (k : StreamKind) (ep : ℕ) (p : StreamPacket) → is_in_endpoint ep ≡ true → length p.body ≤ MAX_STREAM_PACKET → CanTell caps 0 (stream_packet k ep p).1
-stream_told caps Iso ep p way few = record { id_fits = no_id (has caps 5); length_fits = tt; data_there = sym (ap (λ (b : Bool). cond b (length p.body) 0) way); in_limit = omega arith }
-stream_told caps Interrupt ep p way few = record { id_fits = no_id (has caps 5); length_fits = tt; data_there = sym (ap (λ (b : Bool). cond b (length p.body) 0) way); in_limit = omega arith }
+stream_told caps Iso ep p way few = record { id_fits = no_id (has caps WIDE_IDS); length_fits = tt; data_there = sym (ap (λ (b : Bool). cond b (length p.body) 0) way); in_limit = omega arith }
+stream_told caps Interrupt ep p way few = record { id_fits = no_id (has caps WIDE_IDS); length_fits = tt; data_there = sym (ap (λ (b : Bool). cond b (length p.body) 0) way); in_limit = omega arith }

@@ -12,6 +12,7 @@ use Rattle.usb_base.specs.declared.transfer.StreamPacket.{StreamPacket}
 use Rattle.redir_wire.specs.declared.packet.Caps.{Caps}
 use Rattle.redir_wire.specs.declared.packet.RedirControl.TheVariants as plain
 use Rattle.redir_wire.specs.declared.packet.Way.TheVariants.{ToGuest}
+use Rattle.redir_wire.specs.declared.packet.TheConstants.Caps.{WIDE_IDS}
 use Rattle.redir_wire.specs.Capability.{has}
 use Rattle.redir_wire.specs.Header.{is_wide, IdFits}
 use Rattle.redir_data.specs.declared.packet.RedirData.TheVariants as moving
@@ -216,7 +217,7 @@ offer-read {S = S} m lawful h ep sound =
 gone : (guest : RedirState) (b : Bool) → guest.first ≡ b → AreRead guest (cond b [] ((0, Plain plain.Disconnect) ∷ []))
 gone guest true first = nothing-sent guest
 gone guest false greeted =
-    are-read guest ((0, Plain plain.Disconnect) ∷ []) greeted (control_sent ToGuest guest.caps 0 plain.Disconnect refl tt (record { agreed = refl; id_fits = no_id (has guest.caps 5); writable = tt }) refl, tt)
+    are-read guest ((0, Plain plain.Disconnect) ∷ []) greeted (control_sent ToGuest guest.caps 0 plain.Disconnect refl tt (record { agreed = refl; id_fits = no_id (has guest.caps WIDE_IDS); writable = tt }) refl, tt)
 
 pub unplug-read : {S : Type 0} (h : Host S) → AreRead h.guest (unplug_move h).sent
 unplug-read {S = S} h =
