@@ -118,7 +118,7 @@ fn read_bytes(alloc: Global, digits: &[u8]) -> Result<Bytes, LineError>
     ensures memory { result ≡ Err (LineError.Memory want) → is_some (bytes_of digits.now) ≡ true }
 {
     match hex::decode(alloc, digits) {
-        Ok(decoded) if !decoded.is_empty() => Ok(Bytes::of(alloc, decoded)),
+        Ok(decoded) if !decoded.is_empty() => Ok(Bytes::of(decoded)),
         // Memory is wanted before the digits are looked at.
         Err(FromHexError::OutOfMemory) if are_digits(digits) => {
             Err(LineError::Memory(AllocError.into()))

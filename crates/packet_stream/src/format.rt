@@ -8,7 +8,7 @@ ghost use Rattle.packet_stream.specs.Reads.{Answers, bytes_left};
 
 use crate::read::{Read, ReadError};
 use std::alloc::Global;
-use usb_base::Bytes;
+use usb_base::ReceiveBuffer;
 
 /// How the packets of a stream are read, where those that came decide how the next one is.
 pub trait PacketFormat {
@@ -28,7 +28,7 @@ pub trait PacketFormat {
     fn take(
         alloc: Global,
         state: &Self::State,
-        bytes: &mut Bytes,
+        bytes: &mut ReceiveBuffer,
     ) -> Result<Read<Self::Packet>, ReadError>
         ensures exact { Answers takes_memory result (reading (format state.now) bytes.old) }
         ensures left { bytes.new ≡ bytes_left result bytes.old };

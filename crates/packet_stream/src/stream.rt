@@ -10,7 +10,7 @@ use crate::read::{Read, ReadError};
 use std::alloc::Global;
 use std::marker::Model;
 use std::snapshot::Snapshot;
-use usb_base::{Bytes, Memory};
+use usb_base::{Bytes, Memory, ReceiveBuffer};
 
 /// The packet that was given last, with all that has come behind it.
 #[derive(Drop)]
@@ -19,7 +19,7 @@ struct Given {
     place: u64,
     len: usize,
     /// They are not kept: only contracts speak of them.
-    bytes: Snapshot<Bytes>,
+    bytes: Snapshot<ReceiveBuffer>,
 }
 
 /// One side's stream: the bytes that have come of it and belong to no packet that was taken, where in the
@@ -28,7 +28,7 @@ struct Given {
 pub struct Stream<F: PacketFormat> {
     state: F::State,
     /// From the next packet on.
-    bytes: Bytes,
+    bytes: ReceiveBuffer,
     /// Where the next packet begins in the side's stream, counted in the same way.
     place: u64,
     /// It counts as held until the next call.
@@ -60,7 +60,7 @@ impl<F: PacketFormat> Stream<F> {
         ensures kept { result ≡ record { state = state; rest = []; place = 0; held = []; at = 0; over = false } }
         ensures follows { Follows (reads F.format F.after) (record { state = state; place = 0 }) result [] [] }
     {
-        let bytes = Bytes::new(alloc);
+        let bytes = ReceiveBuffer::new(alloc);
         let given = given_from(0, &bytes);
         Stream {
             state,
@@ -175,7 +175,7 @@ impl<F: PacketFormat> Stream<F> {
 }
 
 /// The packet that begins there, with all these bytes.
-fn given_from(place: u64, bytes: &Bytes) -> Given
+fn given_from(place: u64, bytes: &ReceiveBuffer) -> Given
     ensures place { result.place ≡ place }
     ensures len { result.len ≡ length bytes.now }
     ensures small { result.len < 2 ^ 63 }

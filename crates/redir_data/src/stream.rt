@@ -14,7 +14,7 @@ use packet_stream::{PacketFormat, Read, ReadError};
 use redir_wire::{Caps, Header, RedirControl, Way};
 use std::alloc::Global;
 use std::marker::PhantomData;
-use usb_base::Bytes;
+use usb_base::ReceiveBuffer;
 
 impl RedirState {
     /// Before the hello, where nothing is agreed.
@@ -92,7 +92,7 @@ impl<S: Sender> PacketFormat for SentBy<S> {
     fn take(
         alloc: Global,
         state: &RedirState,
-        bytes: &mut Bytes,
+        bytes: &mut ReceiveBuffer,
     ) -> Result<Read<(Header, RedirPacket)>, ReadError> {
         take_redir(alloc, state.first, state.caps, S::WAY, bytes)
     }

@@ -8,6 +8,7 @@ mod memory;
 mod number;
 mod packet_bytes;
 mod reason;
+mod receive_buffer;
 mod refusal;
 mod setup;
 mod side;
@@ -24,6 +25,7 @@ pub use number::{
 };
 pub use packet_bytes::PacketBytes;
 pub use reason::Reason;
+pub use receive_buffer::ReceiveBuffer;
 pub use refusal::Refusal;
 pub use setup::{Setup, setups_spell_again};
 pub use side::Side;

@@ -3,19 +3,15 @@
 ghost use Rattle.std.specs.Prelude.{◌≡◌, ◌++◌, ◌∷◌, [], ◌≤◌, ◌<◌, length, take, drop, IsTrue, ◌↔◌, OnOk, OnErr, IfOk};
 
 use crate::memory::Memory;
-use crate::packet_bytes::PacketBytes;
 use std::alloc::Global;
 use std::marker::Model;
-use std::mem;
 
 /// A list on the heap. It keeps the allocator that it was made with.
 #[derive(Drop)]
 pub struct List<T> {
-    items: Vec<T>,
+    pub(crate) items: Vec<T>,
     /// How many of them, at the front, are no more of the list: their room is kept for what may be put before the others.
-    front: usize,
-    /// Memory for later, that another list needed no more. What stands in it counts for nothing.
-    spare: Vec<T>,
+    pub(crate) front: usize,
 }
 
 /// Bytes, as they come from a peer or go to one.
@@ -39,7 +35,6 @@ impl<T> List<T> {
         List {
             items: Vec::new(alloc),
             front: 0,
-            spare: Vec::new(alloc),
         }
     }
 
@@ -56,6 +51,11 @@ impl<T> List<T> {
         ensures { result ≡ length self.now }
     {
         self.items.len() - self.front
+    }
+
+    /// How many items it has memory for, with the room in front.
+    pub(crate) fn capacity(&self) -> usize {
+        self.items.capacity()
     }
 
     /// Whether it has none.
@@ -117,10 +117,10 @@ impl<T: Drop> List<T> {
 }
 
 /// How many bytes a list has at least that is moved and not copied where it is put behind another.
-const LONG: usize = 32_768;
+pub(crate) const LONG: usize = 32_768;
 
 /// The room before the bytes of a long list: for the head of any packet that carries them.
-const ROOM: usize = 64;
+pub(crate) const ROOM: usize = 64;
 
 impl List<u8> {
     /// A copy of a piece. It takes no memory where that is empty.
@@ -136,22 +136,14 @@ impl List<u8> {
         let mut items = Vec::with_capacity(alloc, ROOM + piece.len())?;
         items.extend_from_slice(&[0; ROOM])?;
         items.extend_from_slice(piece)?;
-        Ok(List {
-            items,
-            front: ROOM,
-            spare: Vec::new(alloc),
-        })
+        Ok(List { items, front: ROOM })
     }
 
     /// These bytes, which are not copied.
-    pub fn of(alloc: Global, items: Vec<u8>) -> Self
+    pub fn of(items: Vec<u8>) -> Self
         ensures { result ≡ items.items }
     {
-        List {
-            items,
-            front: 0,
-            spare: Vec::new(alloc),
-        }
+        List { items, front: 0 }
     }
 
     /// Puts a piece at the end.
@@ -192,110 +184,11 @@ impl List<u8> {
         self.items.truncate(self.items.len() - count);
     }
 
-    /// Drops the first `count` bytes and moves none: their room is used again at the next `receive`.
+    /// Drops the first `count` bytes and moves none: their room is kept.
     pub fn advance(&mut self, count: usize)
         requires { count ≤ length self.old }
         ensures { self.new ≡ drop count self.old }
     {
         self.front += count;
-    }
-
-    /// Puts a piece of a stream at the end, where `awaited` bytes are to stand in all before any is taken: there is room
-    /// for them at once, and behind it none is moved again. Bytes are moved only where others before them were dropped, no
-    /// fewer than they are or such that there is no room else. It takes no memory for an empty piece.
-    pub fn receive(&mut self, piece: &[u8], awaited: usize) -> Result<(), Memory>
-        ensures ok { OnOk result (self.new ≡ self.old ++ piece.now) }
-        ensures err { OnErr result (self.new ≡ self.old) }
-        ensures wants { OnErr result (0 < length piece.now) }
-    {
-        if piece.is_empty() {
-            return Ok(());
-        }
-        let missing = awaited.saturating_sub(self.len()).max(piece.len());
-        self.settle(missing)?;
-        self.items.reserve(missing)?;
-        self.append(piece)
-    }
-
-    /// Keeps the memory of an empty list for later, where that is long, and more than what it keeps so far. The other list
-    /// has that then.
-    pub fn keep_memory(&mut self, empty: &mut List<u8>)
-        ensures stands { self.new ≡ self.old }
-        ensures empty { empty.new ≡ empty.old }
-    {
-        let least = LONG.max(self.spare.capacity());
-        if empty.is_empty() && empty.items.capacity() > least {
-            self.spare.clear();
-            empty.front = 0;
-            mem::swap(&mut self.spare, &mut empty.items);
-        }
-    }
-
-    /// An empty list, in the memory that is kept for later, if there is some.
-    fn in_spare(&mut self, alloc: Global) -> List<u8>
-        ensures stands { self.new ≡ self.old }
-        ensures empty { result ≡ [] }
-    {
-        let mut items = mem::replace(&mut self.spare, Vec::new(alloc));
-        items.clear();
-        List {
-            items,
-            front: 0,
-            spare: Vec::new(alloc),
-        }
-    }
-
-    /// Moves the bytes up to the room that a long list has before them, where that is worth it for so many more.
-    fn settle(&mut self, more: usize) -> Result<(), Memory>
-        ensures { self.new ≡ self.old }
-    {
-        if self.items.is_empty() {
-            self.items.extend_from_slice(&[0; ROOM])?;
-            self.front = ROOM;
-        } else if self.front > ROOM && self.is_movable(more) {
-            let dropped = self.front - ROOM;
-            self.front = ROOM;
-            self.skip(dropped);
-        }
-        Ok(())
-    }
-
-    /// Whether the bytes are no more than those that were dropped before them, or have no room for so many behind them.
-    fn is_movable(&self, more: usize) -> bool {
-        self.len() <= self.front || self.items.capacity().saturating_sub(self.items.len()) < more
-    }
-}
-
-impl PacketBytes for Bytes {
-    ghost contents = { λ bytes. bytes };
-
-    fn as_slice(&self) -> &[u8] {
-        self.as_slice()
-    }
-
-    fn advance(&mut self, count: usize) {
-        self.advance(count);
-    }
-
-    /// Where the part is long, and no shorter than what stands behind it, the memory of the list becomes its own, and what
-    /// stands behind is copied to another; else the part is copied.
-    fn take_part(
-        &mut self,
-        alloc: Global,
-        from: usize,
-        len: usize,
-        size: usize,
-    ) -> Result<Bytes, Memory> {
-        if len < LONG || len < self.len() - size {
-            let part = Bytes::copied(alloc, &self.as_slice()[from..from + len])?;
-            self.advance(size);
-            return Ok(part);
-        }
-        let mut rest = self.in_spare(alloc);
-        rest.receive(&self.as_slice()[size..], 0)?;
-        let mut part = mem::replace(self, rest);
-        part.advance(from);
-        part.cut(len);
-        Ok(part)
     }
 }

@@ -12,7 +12,7 @@ use crate::packet::UrbPacket;
 use crate::request::take_urb;
 use packet_stream::{PacketFormat, Read, ReadError};
 use std::alloc::Global;
-use usb_base::{Bytes, PacketBytes, be_u16_at};
+use usb_base::{PacketBytes, ReceiveBuffer, be_u16_at};
 use usbip_op::{OpPacket, USBIP_VERSION, read_request};
 
 /// What a client sends.
@@ -98,7 +98,7 @@ impl PacketFormat for ClientFormat {
     fn take(
         alloc: Global,
         _state: &(),
-        bytes: &mut Bytes,
+        bytes: &mut ReceiveBuffer,
     ) -> Result<Read<ClientPacket>, ReadError> {
         take_packet(alloc, bytes)
     }

@@ -1,0 +1,167 @@
+//! The bytes of a stream, as its packets are taken out of them.
+
+ghost use Rattle.std.specs.Prelude.{◌≡◌, ◌++◌, ◌<◌, [], length, IsTrue, ◌↔◌, OnOk, OnErr};
+
+use crate::list::{Bytes, LONG, List, ROOM};
+use crate::memory::Memory;
+use crate::packet_bytes::PacketBytes;
+use std::alloc::Global;
+use std::marker::Model;
+use std::mem;
+
+/// The bytes of a stream that have come and are in no packet that was taken.
+#[derive(Drop)]
+pub struct ReceiveBuffer {
+    bytes: Bytes,
+    /// Memory for later, that another list needed no more. What stands in it counts for nothing.
+    spare: Bytes,
+}
+
+impl Model for ReceiveBuffer {
+    ghost use Rattle.std.specs.Prelude.{List as Items, ℕ};
+
+    ghost Value = { Items ℕ };
+
+    ghost view = { λ buffer. buffer.bytes };
+}
+
+impl ReceiveBuffer {
+    /// The buffer of a stream of which nothing has come. It takes no memory.
+    pub fn new(alloc: Global) -> Self
+        ensures { result ≡ [] }
+    {
+        ReceiveBuffer {
+            bytes: Bytes::new(alloc),
+            spare: Bytes::new(alloc),
+        }
+    }
+
+    /// Its bytes, in order.
+    pub fn as_slice(&self) -> &[u8]
+        ensures { result.now ≡ self.now }
+    {
+        self.bytes.as_slice()
+    }
+
+    /// How many bytes it has.
+    pub fn len(&self) -> usize
+        ensures { result ≡ length self.now }
+    {
+        self.bytes.len()
+    }
+
+    /// Whether it has none.
+    pub fn is_empty(&self) -> bool
+        ensures { IsTrue result ↔ (self.now ≡ []) }
+    {
+        self.bytes.is_empty()
+    }
+
+    /// Drops every byte, and keeps the room.
+    pub fn clear(&mut self)
+        ensures { self.new ≡ [] }
+    {
+        self.bytes.clear();
+    }
+
+    /// Puts a piece at the end, where `awaited` bytes are to stand in all before any is taken: there is room for them at
+    /// once, and behind it none is moved again. Bytes are moved only where others before them were dropped, no fewer than
+    /// they are or such that there is no room else. It takes no memory for an empty piece.
+    pub fn receive(&mut self, piece: &[u8], awaited: usize) -> Result<(), Memory>
+        ensures ok { OnOk result (self.new ≡ self.old ++ piece.now) }
+        ensures err { OnErr result (self.new ≡ self.old) }
+        ensures wants { OnErr result (0 < length piece.now) }
+    {
+        if piece.is_empty() {
+            return Ok(());
+        }
+        let missing = awaited.saturating_sub(self.len()).max(piece.len());
+        self.bytes.settle(missing)?;
+        self.bytes.reserve(missing)?;
+        self.bytes.append(piece)
+    }
+
+    /// Keeps the memory of an empty list for later, where that is long, and more than what it keeps so far. The other list
+    /// has that then.
+    pub fn keep_memory(&mut self, empty: &mut Bytes)
+        ensures stands { self.new ≡ self.old }
+        ensures empty { empty.new ≡ empty.old }
+    {
+        let least = LONG.max(self.spare.capacity());
+        if empty.is_empty() && empty.capacity() > least {
+            self.spare.clear();
+            mem::swap(&mut self.spare, empty);
+        }
+    }
+
+    /// An empty buffer, in the memory that is kept for later, if there is some.
+    fn in_spare(&mut self, alloc: Global) -> ReceiveBuffer
+        ensures stands { self.new ≡ self.old }
+        ensures empty { result ≡ [] }
+    {
+        let mut bytes = mem::replace(&mut self.spare, Bytes::new(alloc));
+        bytes.clear();
+        ReceiveBuffer {
+            bytes,
+            spare: Bytes::new(alloc),
+        }
+    }
+}
+
+impl PacketBytes for ReceiveBuffer {
+    ghost contents = { λ buffer. buffer };
+
+    fn as_slice(&self) -> &[u8] {
+        self.as_slice()
+    }
+
+    /// No byte is moved: the room of those that are dropped is used again at the next `receive`.
+    fn advance(&mut self, count: usize) {
+        self.bytes.advance(count);
+    }
+
+    /// Where the part is long, and no shorter than what stands behind it, the memory of the bytes becomes its own, and
+    /// what stands behind is copied to another; else the part is copied.
+    fn take_part(
+        &mut self,
+        alloc: Global,
+        from: usize,
+        len: usize,
+        size: usize,
+    ) -> Result<Bytes, Memory> {
+        if len < LONG || len < self.len() - size {
+            let part = Bytes::copied(alloc, &self.as_slice()[from..from + len])?;
+            self.bytes.advance(size);
+            return Ok(part);
+        }
+        let mut rest = self.in_spare(alloc);
+        rest.receive(&self.as_slice()[size..], 0)?;
+        let mut part = mem::replace(self, rest).bytes;
+        part.advance(from);
+        part.cut(len);
+        Ok(part)
+    }
+}
+
+/// The list of a stream's bytes, which begins anywhere behind the room that it has in front.
+impl List<u8> {
+    /// Moves the bytes up to the room that a long list has before them, where that is worth it for so many more.
+    fn settle(&mut self, more: usize) -> Result<(), Memory>
+        ensures { self.new ≡ self.old }
+    {
+        if self.items.is_empty() {
+            self.items.extend_from_slice(&[0; ROOM])?;
+            self.front = ROOM;
+        } else if self.front > ROOM && self.is_movable(more) {
+            let dropped = self.front - ROOM;
+            self.front = ROOM;
+            self.skip(dropped);
+        }
+        Ok(())
+    }
+
+    /// Whether the bytes are no more than those that were dropped before them, or have no room for so many behind them.
+    fn is_movable(&self, more: usize) -> bool {
+        self.len() <= self.front || self.capacity().saturating_sub(self.items.len()) < more
+    }
+}
