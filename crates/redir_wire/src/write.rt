@@ -1,15 +1,15 @@
 //! Writes packets that move no data.
 
-ghost use Rattle.std.specs.Prelude.{◌≡◌, ◌++◌, OnOk, OnErr};
-ghost use Rattle.usb_base.specs.Number.{le};
+ghost use Rattle.std.specs.Prelude.{◌≡◌, ◌<◌, ◌^◌, ◌++◌, true, false, OnOk, OnErr};
 ghost use Rattle.packet_stream.specs.Writes.{AppendsSome};
-ghost use Rattle.redir_wire.specs.Header.{head_bytes, id_width, IdFits};
+ghost use Rattle.redir_wire.specs.Header.{head_bytes, IdFits};
 ghost use Rattle.redir_wire.specs.Written.{CanWrite, packet_bytes};
 
 use crate::field::Wire;
 use crate::header::is_wide;
 use crate::packet::{Caps, Header, RedirControl};
-use usb_base::{Bytes, Memory, push_le_u32, push_le_u64};
+use byteorder::{ByteOrder, LittleEndian};
+use usb_base::{Bytes, Memory};
 
 /// Appends a packet with this id, in its form with these capabilities. For want of memory `out` stands.
 pub fn write_control(
@@ -44,20 +44,33 @@ pub fn push_header(wide: bool, header: &Header, out: &mut Bytes) -> Result<(), M
     requires { IdFits wide header.now.id }
     ensures { AppendsSome result out.old out.new (head_bytes wide header.now) }
 {
-    push_le_u32(out, header.kind)?;
-    push_le_u32(out, header.length)?;
-    push_id(wide, header.id, out)?;
-    Ok(())
+    if wide {
+        out.append(&wide_header(header))
+    } else {
+        out.append(&narrow_header(header))
+    }
 }
 
-fn push_id(wide: bool, id: u64, out: &mut Bytes) -> Result<(), Memory>
-    requires { IdFits wide id }
-    ensures ok { OnOk result (out.new ≡ out.old ++ le (id_width wide) id) }
-    ensures err { OnErr result (out.new ≡ out.old) }
+/// A header whose id has 64 bits.
+#[tactic(auto, unfolding(usb_base::specs::Number::le))]
+fn wide_header(header: &Header) -> [u8; 16]
+    ensures { result ≡ head_bytes true header.now }
 {
-    if wide {
-        push_le_u64(out, id)
-    } else {
-        push_le_u32(out, id as u32)
-    }
+    let mut head = [0; 16];
+    let (front, id) = head.split_at_mut(8);
+    LittleEndian::write_u32_into(&[header.kind, header.length], front);
+    LittleEndian::write_u64(id, header.id);
+    head
+}
+
+/// A header whose id has 32 bits.
+#[tactic(auto, unfolding(usb_base::specs::Number::le))]
+fn narrow_header(header: &Header) -> [u8; 12]
+    requires { header.now.id < 2 ^ 32 }
+    ensures { result ≡ head_bytes false header.now }
+{
+    let mut head = [0; 12];
+    let numbers = [header.kind, header.length, header.id as u32];
+    LittleEndian::write_u32_into(&numbers, &mut head);
+    head
 }

@@ -1,7 +1,7 @@
 //! Numbers and fixed fields at places of a packet, and at its end.
 
 ghost use Rattle.std.specs.Prelude.{◌≡◌, ◌+◌, ◌++◌, ◌≤◌, length, OnOk, OnErr};
-ghost use Rattle.std.specs.Int.{w16, w32, w64};
+ghost use Rattle.std.specs.Int.{w16, w32};
 ghost use Rattle.usb_base.specs.Number.{be, le, be_at, le_at, part};
 
 use crate::list::Bytes;
@@ -96,16 +96,5 @@ pub fn push_le_u32(out: &mut Bytes, n: u32) -> Result<(), Memory>
 {
     let mut field = [0; 4];
     LittleEndian::write_u32(&mut field, n);
-    out.append(&field)
-}
-
-/// Appends a u64, little-endian.
-#[tactic(auto, unfolding(crate::specs::Number::le))]
-pub fn push_le_u64(out: &mut Bytes, n: u64) -> Result<(), Memory>
-    ensures ok { OnOk result (out.new ≡ out.old ++ le w64 n) }
-    ensures err { OnErr result (out.new ≡ out.old) }
-{
-    let mut field = [0; 8];
-    LittleEndian::write_u64(&mut field, n);
     out.append(&field)
 }
