@@ -8,4 +8,4 @@ pub draw-requires : goal.draw-requires
 draw-requires c = omega (arith, c.requires.few, c.requires.left, few-ids c.args.self.now.calls (record { started = c.requires.started; stopped = c.requires.stopped }))
 
 pub returns-clause-value : goal.returns-clause-value
-returns-clause-value c = c.draw.ensures.value ∙ ap (λ (w : Bool). draw (greatest w) (flying_in c.args.self.now) c.args.last) c.has.ensures
+returns-clause-value c = c.draw.ensures.value ∙ ap (λ (w : Bool). draw (greatest w) (flying_in c.args.self.now) c.args.last) c.contains.ensures

@@ -16,7 +16,7 @@ returns-clause-value c st h =
     let t = c.args.self.now in
     let live = c.len.ensures.len ∙ ap length h.live ∙ length-map st.live row in
     let changing = c.change_waits-changing.ensures ∙ ap (list_any changes) h.live ∙ change-rows st.live in
-    let wide = c.has-wide.ensures ∙ ap wide_bulk h.caps in
+    let wide = c.contains-wide.ensures ∙ ap wide_bulk h.caps in
     c.decide.ensures.value ∙ (λ i. verdict (h.lost i) (live i) (changing i) (h.facts i).table (wide i) c.args.request.now)
 
 pub returns-clause-answered : goal.returns-clause-answered
@@ -28,5 +28,5 @@ returns-clause-answered c =
       answered = λ by. record { packets = record { few = w.few_packets; counted = w.descs }; few_bytes = w.few_bytes; read = c.decide.ensures.reads w by; by_id = not-stream c.decide.result r.transfer.ep by };
       room = λ by. omega (arith, c.decide.ensures.room by, c.len.ensures.len);
       waits = λ waits. (record { packets = record { few = w.few_packets; counted = w.descs }; few_bytes = w.few_bytes; lies = c.decide.ensures.lies waits }, omega (arith, c.decide.ensures.waits waits, c.len.ensures.len));
-      sends = subst HasRoute (sym c.decide.ensures.value) (verdict-sends t.lost c.len.result c.change_waits-changing.result t.facts.table c.has-wide.result r);
+      sends = subst HasRoute (sym c.decide.ensures.value) (verdict-sends t.lost c.len.result c.change_waits-changing.result t.facts.table c.contains-wide.result r);
     }
