@@ -1,5 +1,5 @@
 -- Packets that are sent one after another, with ids in turn.
-use Rattle.std.proofs.Common.{◌≡◌, ℕ, ◌+◌, ◌<◌, Bool, List, [], ◌∷◌, ◌++◌, length, take, get_or, Option, sym, ap, ◌∙◌, append_assoc}
+use Rattle.std.proofs.Common.{◌≡◌, ℕ, ◌+◌, ◌<◌, Bool, List, [], ◌∷◌, ◌++◌, length, take, get_or, Option, refl, sym, ap, ◌∙◌, append_assoc}
 use Rattle.std.specs.Prelude.{Result, Ok, Err, OnErr}
 use Rattle.std.specs.List.{flat_map, last_or}
 use Rattle.std.proofs.lemmas.List.{append-nil, take_more}
@@ -7,6 +7,7 @@ use Rattle.std.proofs.lemmas.Grind.{flat_map-append}
 use Rattle.redir_data.specs.declared.packet.RedirPacket.{RedirPacket}
 use Rattle.gate_core.specs.declared.state.kept.Kept.{Kept}
 use Rattle.gate_parts.specs.declared.write.outputs.Outputs.{Outputs}
+use Rattle.gate_history.specs.declared.note.Note.{Note}
 use Rattle.gate_history.specs.state.Ups.{Up}
 use Rattle.gate_parts.specs.declared.state.calls.Called.{Called}
 use Rattle.gate_history.specs.state.Ids.{greatest, last_of}
@@ -93,4 +94,14 @@ leaves-host old new out host_new same written = record {
   client = record { more = []; is = sym (append-nil out.to_client) };
   host = written;
   notes = record { more = []; is = sym (append-nil out.notes) };
+}
+
+-- or behind bytes to the host, as a note is told
+pub leaves-untold : (old : Kept) (out : Outputs) (host_new : List ℕ) (notes_new : List Note) → Extends out.to_host host_new → notes_new ≡ out.notes →
+    StopsShort old old out (record out { to_host = host_new; notes = notes_new })
+leaves-untold old out host_new notes_new written untold = record {
+  same = refl;
+  client = record { more = []; is = sym (append-nil out.to_client) };
+  host = written;
+  notes = record { more = []; is = untold ∙ sym (append-nil out.notes) };
 }

@@ -7,7 +7,7 @@ use Rattle.gate_history.specs.step.Marks.{Refuses}
 use Rattle.gate_history.specs.write.Notes.{when}
 use Rattle.gate_core.proofs.lemmas.client.Leave.{leaving-asked, does-leave}
 use Rattle.gate_core.proofs.lemmas.state.Ids.{parts-are, leaving-sent}
-use Rattle.gate_core.proofs.lemmas.write.InTurn.{extends-after, on-err, leaves-host}
+use Rattle.gate_core.proofs.lemmas.write.InTurn.{extends-after, on-err, leaves-host, leaves-untold}
 use Rattle.gate_core.proofs.state.kept.Kept.refuse_client.Goals as goal
 
 pub returns-clause-ok : goal.returns-clause-ok
@@ -31,3 +31,8 @@ returns-in_err-called-clause-err c = on-err c.from_residual-in_err-called.result
 
 pub returns-in_err-write_cancels-clause-err : goal.returns-in_err-write_cancels-clause-err
 returns-in_err-write_cancels-clause-err c = on-err c.from_residual.result _ (leaves-host c.args.self.now c.args.self.now c.args.out.now c.write_cancels.new.to_host refl c.in_err-write_cancels.ensures.err)
+
+pub returns-in_err-push-clause-err : goal.returns-in_err-push-clause-err
+returns-in_err-push-clause-err c = on-err c.from_residual-in_err-push.result _ (leaves-untold c.args.self.now c.args.out.now c.write_stops.new.to_host c.push.new.self
+    (extends-after c.args.out.now.to_host c.write_cancels.new.to_host c.write_stops.new.to_host _ c.in_ok-write_cancels.ensures.ok (record { more = _; is = c.in_ok-called.ensures.sent }))
+    c.in_err-push.ensures.err)
