@@ -3,7 +3,7 @@
 use crate::fronts::push_answer;
 use crate::output::Output;
 use crate::reader::{Told, told_by};
-use crate::type_rows::longer_of;
+use crate::type_rows::{CAPS, longer_of};
 use packet_stream::ReadError;
 use redir_data::read_redir;
 use redir_wire::{Caps, Way};
@@ -19,17 +19,6 @@ struct Form {
     place: u32,
     longer: Option<(Caps, u32)>,
 }
-
-/// No capability, each one that makes a difference alone, and all that are announced.
-const CAPS: [Caps; 7] = [
-    Caps(0),
-    Caps::CONNECT_VERSION,
-    Caps::DISCONNECT_ACK,
-    Caps::MAX_PACKET_SIZE,
-    Caps::WIDE_IDS,
-    Caps::WIDE_BULK_LENGTH,
-    Caps::ANNOUNCED,
-];
 
 const WAYS: [Way; 2] = [Way::ToGuest, Way::ToHost];
 

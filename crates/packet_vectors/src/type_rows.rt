@@ -30,8 +30,8 @@ struct Form {
     longer: Option<(Caps, u32)>,
 }
 
-/// No capability, each one that makes a difference alone, each but one, and all.
-const CAPS: [Caps; 8] = [
+/// No capability, each one that makes a difference alone, all that are announced, and every bit.
+pub const CAPS: [Caps; 8] = [
     Caps(0),
     Caps::CONNECT_VERSION,
     Caps::DISCONNECT_ACK,
