@@ -1,7 +1,11 @@
-//! Laws of the packets, as contracts of functions that do nothing.
+//! Laws of the packets and of their numbers, as contracts of functions that do nothing.
 
+ghost use Rattle.std.specs.Prelude.{◌≡◌, ◌+◌, ◌^◌};
 ghost use Rattle.redir_wire.specs.Past.{HeadersSound, ReadByParts};
 ghost use Rattle.redir_wire.specs.Written.{PlainSound, ReadAgain};
+
+use crate::header::{LONGEST_PACKET, MAX_LENGTH};
+use crate::packet::{Caps, MAX_INTERFACES};
 
 /// What is read as a header is spelled so, and what is spelled so is read.
 pub fn headers_sound()
@@ -21,4 +25,16 @@ pub fn read_by_parts()
 /// A packet that was written is read again, whatever comes after it.
 pub fn read_again()
     ensures { ReadAgain }
+{}
+
+/// The capabilities are the protocol's bits, five of which the gateway announces, and the limits are these.
+pub fn protocol_numbers()
+    ensures version { Caps.CONNECT_VERSION.0 ≡ 2 ^ 1 }
+    ensures acknowledged { Caps.DISCONNECT_ACK.0 ≡ 2 ^ 3 }
+    ensures sizes { Caps.MAX_PACKET_SIZE.0 ≡ 2 ^ 4 }
+    ensures ids { Caps.WIDE_IDS.0 ≡ 2 ^ 5 }
+    ensures lengths { Caps.WIDE_BULK_LENGTH.0 ≡ 2 ^ 6 }
+    ensures announced { Caps.ANNOUNCED.0 ≡ 2 ^ 1 + 2 ^ 3 + 2 ^ 4 + 2 ^ 5 + 2 ^ 6 }
+    ensures interfaces { MAX_INTERFACES ≡ 32 }
+    ensures longest { (MAX_LENGTH ≡ 16777216 + 64) × (LONGEST_PACKET ≡ 16 + MAX_LENGTH) }
 {}

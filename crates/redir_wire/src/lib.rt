@@ -16,7 +16,7 @@ mod write;
 pub use field::{FieldWriter, Wire};
 pub use header::{LONGEST_PACKET, MAX_LENGTH, header_size, read_header};
 pub use kind::{DataKind, Kind, More, PlainKind, Tail, TypeRow, is_left_out};
-pub use laws::{headers_sound, plain_sound, read_again, read_by_parts};
+pub use laws::{headers_sound, plain_sound, protocol_numbers, read_again, read_by_parts};
 pub use next::next_control;
 pub use packet::{
     Caps, Connect, EpInfo, Header, HeaderRead, Hello, InterfaceInfo, MAX_INTERFACES, RedirControl,

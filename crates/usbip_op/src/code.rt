@@ -1,6 +1,8 @@
 //! What the first four bytes of a packet say: the version, and then what the packet is; and what a list is kept
 //! to.
 
+ghost use Rattle.std.specs.Prelude.{◌≡◌};
+
 /// The protocol's version 1.1.1.
 pub const USBIP_VERSION: u16 = 0x0111;
 
@@ -15,3 +17,11 @@ pub const OP_REP_IMPORT: u16 = 0x0003;
 
 /// How many devices a list may have.
 pub const MAX_DEVICES: u32 = 1024;
+
+/// A law: the numbers that definitions name are these.
+pub fn protocol_numbers()
+    ensures version { USBIP_VERSION ≡ 0x0111 }
+    ensures list { (OP_REQ_DEVLIST ≡ 0x8005) × (OP_REP_DEVLIST ≡ 0x0005) }
+    ensures import { (OP_REQ_IMPORT ≡ 0x8003) × (OP_REP_IMPORT ≡ 0x0003) }
+    ensures devices { MAX_DEVICES ≡ 1024 }
+{}

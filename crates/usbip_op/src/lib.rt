@@ -12,6 +12,7 @@ mod write;
 
 pub use code::{
     MAX_DEVICES, OP_REP_DEVLIST, OP_REP_IMPORT, OP_REQ_DEVLIST, OP_REQ_IMPORT, USBIP_VERSION,
+    protocol_numbers,
 };
 pub use next::next_op;
 pub use packet::{

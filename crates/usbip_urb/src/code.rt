@@ -1,6 +1,8 @@
 //! The protocol's numbers by their names ("usbip_protocol", USBIP_CMD_SUBMIT to USBIP_RET_UNLINK), and the limits
 //! that this gateway sets.
 
+ghost use Rattle.std.specs.Prelude.{◌≡◌, ◌+◌, ◌*◌};
+
 /// Asks for a transfer.
 pub const USBIP_CMD_SUBMIT: u32 = 1;
 /// Asks to take back a submit.
@@ -38,3 +40,15 @@ pub const LONGEST_PACKET: usize = 16_793_648;
 pub const HEAD_SIZE: usize = 48;
 /// How many bytes a descriptor has.
 pub const DESC_SIZE: usize = 16;
+
+/// A law: the numbers that definitions name are these.
+pub fn protocol_numbers()
+    ensures submit { (USBIP_CMD_SUBMIT ≡ 1) × (USBIP_RET_SUBMIT ≡ 3) }
+    ensures unlink { (USBIP_CMD_UNLINK ≡ 2) × (USBIP_RET_UNLINK ≡ 4) }
+    ensures directions { (USBIP_DIR_OUT ≡ 0) × (USBIP_DIR_IN ≡ 1) }
+    ensures device { (EXPORTED_DEVID ≡ 0x0001_0002) × (MAX_ENDPOINT ≡ 15) }
+    ensures sizes { (HEAD_SIZE ≡ 48) × (DESC_SIZE ≡ 16) }
+    ensures none { NO_PACKETS ≡ 0xFFFF_FFFF }
+    ensures limits { (MAX_LIVE ≡ 4096) × (MAX_LENGTH ≡ 16777216) × (MAX_PACKETS ≡ 1024) × (MAX_PACKET_LENGTH ≡ 65535) }
+    ensures longest { LONGEST_PACKET ≡ 48 + 16777216 + 1024 * 16 }
+{}
