@@ -53,7 +53,7 @@ pub fn serve<D: Doors, K: Sink, T: Tape>(
     requires host_down { (D.link doors.old Host).up ≡ false }
     requires idle { 1 ≤ idle }
     requires budget { 1 ≤ budget }
-    requires first_id { (1 ≤ first_id) × (first_id ≤ 4294967295) }
+    requires first_id { (1 ≤ first_id) × (first_id ≤ u32.MAX) }
     // Over doors that tell, and a sink and a tape that may.
     ensures leaves { (c : Course) → NothingYet idle budget c → Tells (outside (D.link doors.old) (D.door doors.old)) (written (K.contents out.old) (K.contents out.old) (T.contents tape.old)) c
         → Leaves result (gate_runs_out first_id) (record { served = gate_sends after_loss first_id; idle = idle }) (Goes Making c) (outside (D.link doors.new) (D.door doors.new)) (written (K.contents out.old) (K.contents out.new) (T.contents tape.new)) }

@@ -40,7 +40,7 @@ impl Model for Gate {
 impl Gate {
     /// The gate to which nothing has happened. It appends its hello for the host. Ids are drawn from the first one on.
     pub fn make(alloc: Global, first_id: u64, to_host: &mut Bytes) -> Result<Gate, Memory>
-        requires { (1 ≤ first_id) × (first_id ≤ 4294967295) }
+        requires { (1 ≤ first_id) × (first_id ≤ u32.MAX) }
         ensures made { IfOk result (λ gate. Stands first_id gate []) }
         ensures sent { OnOk result (to_host.new ≡ to_host.old ++ out_host first_id []) }
         ensures err { OnErr result (to_host.new ≡ to_host.old) }

@@ -18,9 +18,10 @@ use std::io;
 use std::marker::Model;
 use std::net::SocketAddr;
 
-/// How many bytes are read ahead at a time, and how often in a row.
+/// How many bytes are read ahead at a time.
 const CHUNK: usize = 16_384;
 
+/// How often in a row.
 const CHUNKS: u32 = 256;
 
 /// How many polls pass over a link of which a read has taken all that was there, or had to wait, where the system tells

@@ -21,9 +21,10 @@ use std::time::Duration;
 /// How often a write that is blocked is tried.
 const TRIES: u32 = 1_000_000;
 
-/// How many bytes of a link are read ahead at most: the longest packet of its side.
+/// How many bytes of the client's link are read ahead at most: one less than its longest packet has.
 const CLIENT_AHEAD: usize = 16_793_647;
 
+/// How many of the host's, likewise.
 const HOST_AHEAD: usize = 16_777_295;
 
 /// Connections of a network. The contracts say what each call asked of them, and what they answered: a poll gives what

@@ -14,10 +14,7 @@ pub(crate) struct Peer {
 
 impl fmt::Display for Peer {
     fn fmt<W: fmt::Write>(&self, f: &mut fmt::Formatter<W>) -> fmt::Result {
-        f.write_str(match self.side {
-            Side::Client => "client",
-            Side::Host => "host",
-        })?;
+        f.write_str(self.side.name())?;
         match self.addr {
             Some(addr) => write!(f, " {addr}"),
             None => Ok(()),

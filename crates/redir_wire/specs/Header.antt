@@ -50,7 +50,7 @@ is_its_length caps number length = row_says (λ r. has_length caps r length) num
 abbrev pub type_check : Reason → (ℕ → Bool) → Check Reason
 type_check reason passes = check 0 4 reason (λ b. passes (le_at w32 0 b))
 
--- the greatest length is a transfer of 16 MiB and the fields of the longest data packet
+-- the greatest length is a transfer of 16 MiB and 64 bytes more, which is room for the fields of any data packet
 abbrev pub head_checks : Bool → Caps → Way → List (Check Reason)
 head_checks first caps way =
     type_check HelloFirst (λ number. if first then number == 0 else not (number == 0))

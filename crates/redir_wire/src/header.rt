@@ -13,7 +13,8 @@ use crate::packet::{Caps, Header, HeaderRead, Way};
 use packet_stream::{Read, ReadError};
 use usb_base::{Reason, array_at, le_u32_at};
 
-/// The greatest length that a header may tell: a transfer of 16 MiB, and the fields of the longest data packet.
+/// The greatest length that a header may tell, in bytes: a transfer of 16 MiB and 64 more, which is room for the fields of
+/// any data packet.
 pub const MAX_LENGTH: u32 = 16_777_280;
 
 /// The longest packet, in bytes, with its header.

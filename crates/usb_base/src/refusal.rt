@@ -8,13 +8,15 @@ use crate::reason::Reason;
 use crate::side::Side;
 use std::alloc::Global;
 
-/// A side is refused: nothing of it is read from `place` on, which counts bytes from the first of that
-/// side's stream and stands still at `u64::MAX`. Some reasons keep two values.
+/// A side is refused: nothing of it is read from a place on.
 #[derive(Clone, Copy)]
 pub struct Refusal {
     pub side: Side,
+    /// In bytes from the first of that side's stream on; it stands still at `u64::MAX`.
     pub place: u64,
+    /// What is wrong there.
     pub reason: Reason,
+    /// Of a `Mismatch` the type that was expected, and the one that came.
     pub kept: Option<(u64, u64)>,
 }
 

@@ -74,14 +74,22 @@ fn run_args(
             }
             status
         }
-        Err(_) => run(
-            rt.alloc(),
-            &words,
-            &mut tape,
-            &mut out,
-            &mut NoDoors::new(),
-            &mut recording,
-        ),
+        Err(error) => {
+            let status = run(
+                rt.alloc(),
+                &words,
+                &mut tape,
+                &mut out,
+                &mut NoDoors::new(),
+                &mut recording,
+            );
+            match status {
+                Status::LinkFault(_) => tell_no_sockets(rt, &error),
+                Status::Usage => tell_wrong(rt, &words, recording.has_failed()),
+                _ => {}
+            }
+            status
+        }
     }
 }
 
@@ -117,6 +125,11 @@ fn tell_wrong(rt: &(impl Eprint + AllocGlobal), words: &[&str], was_there: bool)
         let _ = rt.eprint(wrong);
     }
     let _ = rt.eprint(COMMANDS);
+}
+
+/// Says on standard error why there is no link.
+fn tell_no_sockets(rt: &impl Eprint, error: &io::Error) {
+    let _ = rt.eprintln(format_args!("usbgate: no sockets: {error}"));
 }
 
 /// Says on standard error why serving or lending has ended. A recording that has failed has ended it.

@@ -26,7 +26,7 @@ fn after(greatest: u64, id: u64) -> u64
 /// The first id after the last drawn that no request in flight has, and none of the starts and stops of streams. The
 /// loop ends: it passes over no more ids than are in flight, and there are more ids than that.
 pub fn draw(lives: &Lives, calls: &Calls, wide: bool, last: u64) -> u64
-    requires few { length lives.now.live + length lives.now.abandoned + length (call_ids calls.now) < 4294967295 }
+    requires few { length lives.now.live + length lives.now.abandoned + length (call_ids calls.now) < u32.MAX }
     ensures value { result ≡ draw (greatest wide) (ids_in lives.now ++ call_ids calls.now) last }
     ensures free { holds (ids_in lives.now ++ call_ids calls.now) result ≡ false }
     ensures fits { IdFits wide result }

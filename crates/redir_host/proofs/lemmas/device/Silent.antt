@@ -11,7 +11,7 @@ use Rattle.redir_host.specs.declared.request.Request.{Request}
 use Rattle.redir_host.specs.device.Changes.{changed}
 use Rattle.redir_host.specs.device.Offering.{offer_move, unplug_move}
 use Rattle.redir_host.specs.device.Performing.{done_by, perform_move}
-use Rattle.redir_host.proofs.lemmas.device.Performs.{always-kept, IsKept, offer-kept, perform-kept}
+use Rattle.redir_host.proofs.lemmas.device.Performs.{always-kept, IsPreserved, offer-kept, perform-kept}
 use Rattle.redir_host.proofs.lemmas.state.Sound.{unplugged-by}
 
 changed-silent : {S : Type 0} (m : Meaning S) (r : Route) (t : EpTable) (b : Bool) (h : Host S) → (changed m r t b h).notes ≡ []
@@ -22,7 +22,7 @@ done-silent : {S : Type 0} (m : Meaning S) (t : EpTable) (h : Host S) (q : Reque
 done-silent m t h q None o = refl
 done-silent m t h q (Some r) o = changed-silent m r t (is_success o.status) h
 
-silent : {S : Type 0} (m : Meaning S) → IsKept m (λ q. Unit {0}) (λ h. Unit {0}) (λ v. v.notes ≡ [])
+silent : {S : Type 0} (m : Meaning S) → IsPreserved m (λ q. Unit {0}) (λ h. Unit {0}) (λ v. v.notes ≡ [])
 silent m = always-kept (λ h. refl) (changed-silent m) (done-silent m) (λ v w first then. ap (λ (ns : List HostNote). ns ++ w.notes) first ∙ then)
 
 pub perform-silent : {S : Type 0} (m : Meaning S) (h : Host S) (ep : ℕ) → (perform_move m h ep).notes ≡ []

@@ -35,7 +35,7 @@ use Rattle.redir_host.specs.step.Moves.{Move, quiet}
 use Rattle.chapter9.specs.Standard.{ended}
 use Rattle.redir_host.specs.write.Answers.{answer, cancelled}
 use Rattle.redir_host.proofs.lemmas.state.Each.{each_filtered, each_found, each_joined}
-use Rattle.redir_host.proofs.lemmas.device.Performs.{IsKept, offer-kept, perform-kept}
+use Rattle.redir_host.proofs.lemmas.device.Performs.{IsPreserved, offer-kept, perform-kept}
 use Rattle.redir_host.proofs.lemmas.state.Sound.{each-without, unplugged-by}
 use Rattle.redir_host.proofs.lemmas.step.Paired.{Answers, Same, queue-answers}
 use Rattle.redir_host.proofs.lemmas.step.Replied.{AsksAnswers, data-answers, run-queue}
@@ -69,7 +69,7 @@ done-known {S = S} m table h q (Some r) o one answers =
     let v : Move S = changed m r table (is_success o.status) h in
     each_joined IsKnown v.sent (answer (m.configuration h.gadget) q o ∷ []) (changed-known m r table (is_success o.status) h answers) (inl (one q.id (m.configuration h.gadget) o), tt)
 
-known : {S : Type 0} (m : Meaning S) → IsKept m IsAnswered (λ h. Each IsAnswered h.queue) IsAll
+known : {S : Type 0} (m : Meaning S) → IsPreserved m IsAnswered (λ h. Each IsAnswered h.queue) IsAll
 known m = record {
   none = λ h. tt;
   gadget = λ h s answers. answers;

@@ -37,7 +37,7 @@ use Rattle.redir_host.specs.step.Machine.{move, run, all_given}
 use Rattle.redir_host.specs.step.Moves.{Move, quiet}
 use Rattle.chapter9.specs.Standard.{ended}
 use Rattle.redir_host.specs.write.Answers.{answer, answer_by, cancelled}
-use Rattle.redir_host.proofs.lemmas.device.Performs.{IsKept, offer-kept, perform-kept, always-kept}
+use Rattle.redir_host.proofs.lemmas.device.Performs.{IsPreserved, offer-kept, perform-kept, always-kept}
 use Rattle.redir_host.proofs.lemmas.state.Sound.{unplugged-by}
 use Rattle.redir_host.proofs.lemmas.step.Replied.{run-gone}
 
@@ -80,7 +80,7 @@ done-none {S = S} m table h q (Some r) o =
     let last = answer (m.configuration h.gadget) q o in
     filter-append is_status v.sent (last ∷ []) ∙ (λ i. changed-none m r table (is_success o.status) h i ++ answer-passed (m.configuration h.gadget) q o [] i)
 
-without : {S : Type 0} (m : Meaning S) → IsKept m (λ q. Unit {0}) (λ h. Unit {0}) HasNone
+without : {S : Type 0} (m : Meaning S) → IsPreserved m (λ q. Unit {0}) (λ h. Unit {0}) HasNone
 without m = always-kept (λ h. refl) (changed-none m) (done-none m) (λ v w first then. filter-append is_status v.sent w.sent ∙ (λ i. first i ++ then i))
 
 -- ---- offers, and the end
