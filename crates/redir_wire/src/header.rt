@@ -57,12 +57,11 @@ pub fn read_header(first: bool, caps: Caps, way: Way, bytes: &[u8]) -> HeaderRea
     if !row.has_length(caps, length) {
         return refused(4, Reason::BadLength);
     }
-    let wide = is_wide(first, caps);
-    let size = if wide { 16 } else { 12 };
+    let size = header_size(first, caps);
     if bytes.len() < size {
         return Ok(Read::Short);
     }
-    Ok(Read::Whole(header_at(wide, bytes), size))
+    Ok(Read::Whole(header_at(is_wide(first, caps), bytes), size))
 }
 
 fn refused(place: u64, reason: Reason) -> HeaderRead

@@ -13,7 +13,7 @@ ghost use Rattle.gate_history.specs.state.Flight.{wide_ids};
 
 use control_route::Route;
 use redir_data::RedirData;
-use redir_wire::{Caps, DataKind, PlainKind, RedirControl};
+use redir_wire::{Caps, DataKind, PlainKind, RedirControl, header_size};
 use std::alloc::Global;
 use unlink_race::{Live, LiveKind};
 use usb_base::{Bytes, EpKind, Memory, Outcome, Reason, Refusal, Side, StreamPacket, UsbStatus};
@@ -288,9 +288,5 @@ pub fn stream_packet(packet: RedirData) -> StreamPacket
 pub fn head_size(caps: Caps) -> u64
     ensures { result ≡ head_size (wide_ids caps) }
 {
-    if caps.contains(Caps::WIDE_IDS) {
-        16
-    } else {
-        12
-    }
+    header_size(false, caps) as u64
 }
