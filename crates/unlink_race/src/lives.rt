@@ -130,9 +130,19 @@ impl Lives {
         if self.table.len() == MAX_LIVE {
             return Err(NotAccepted::Full);
         }
+        self.push(live);
+        Ok(())
+    }
+
+    /// Takes a request in, as the last, where there is room. Whether its number is live isn't looked for again: who
+    /// must not have one twice has asked (`has`).
+    pub fn push(&mut self, live: Live)
+        requires one_client { self.old.abandoned ≡ [] }
+        requires room { length self.old.live < MAX_LIVE }
+        ensures { self.new ≡ record self.old { live = self.old.live ++ live ∷ [] } }
+    {
         self.client_gone = false;
         self.table.push(live);
-        Ok(())
     }
 
     /// The live request at a place, counted from the earliest.

@@ -229,7 +229,7 @@ impl Kept {
         ensures kept { IsKept self.new }
         ensures opened { HasOpened live last self.old self.new }
     {
-        self.lives.accept(live).unwrap();
+        self.lives.push(live);
         self.last = last;
     }
 }

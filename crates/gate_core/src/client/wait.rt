@@ -60,7 +60,7 @@ impl Kept {
             interface: up.row().interface,
         };
         let live = row_of(request, kind, 0);
-        self.lives.accept(live).unwrap();
+        self.lives.push(live);
         match self.fill(ep, up, out) {
             Ok(()) => Ok(()),
             Err(memory) => {
