@@ -21,6 +21,9 @@ use std::time::Duration;
 /// How often a write that is blocked is tried.
 const TRIES: u32 = 1_000_000;
 
+/// How often a blocked write waits for its turn before anything is read ahead.
+const PATIENCE: u32 = 8;
+
 /// How many bytes of the client's link are read ahead at most: one less than its longest packet has.
 const CLIENT_AHEAD: usize = 16_793_647;
 
@@ -182,14 +185,15 @@ impl<'rt, N: Network + Eprint> TcpDoors<'rt, N> {
         }
     }
 
-    /// Waits for a moment where a write is blocked. Where it may not go on then, both links are read ahead: a peer that
-    /// writes before it reads may be what it waits for.
-    fn wait_to_write(&mut self)
+    /// Waits for a moment where a write is blocked, which was tried so often before. Where it may not go on then, and has
+    /// waited some moments, both links are read ahead: a peer that writes before it reads may be what it waits for. What
+    /// is read ahead is copied more often than what a poll reads.
+    fn wait_to_write(&mut self, tried: u32)
         ensures client { ReadOn N.Stream.read_gives N.Stream.write_gives self.old.client self.new.client }
         ensures host { ReadOn N.Stream.read_gives N.Stream.write_gives self.old.host self.new.host }
         ensures door { self.new.door ≡ self.old.door }
     {
-        if !self.ready.blocked() {
+        if !self.ready.blocked() && tried >= PATIENCE {
             self.client.read_on(CLIENT_AHEAD);
             self.host.read_on(HOST_AHEAD);
         }
@@ -306,12 +310,12 @@ impl<'rt, N: Network + Eprint> Doors for TcpDoors<'rt, N> {
         ensures door { self.new.door ≡ self.old.door }
         ensures gives { CallGives (record { dials = N.dial_gives; listens = N.listen_gives; accepts = N.accept_gives; sets_up = N.Stream.set_up_gives; reads = N.Stream.read_gives; writes = N.Stream.write_gives }) self.old (Write side piece.now result) self.new }
     {
-        for _tried in 0..TRIES {
+        for tried in 0..TRIES {
             if let Some(count) = self.write_once(side, piece) {
                 self.ready.moved();
                 return Ok(count);
             }
-            self.wait_to_write();
+            self.wait_to_write(tried);
         }
         match self.write_once(side, piece) {
             Some(count) => Ok(count),

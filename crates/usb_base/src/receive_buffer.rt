@@ -65,8 +65,9 @@ impl ReceiveBuffer {
     }
 
     /// Puts a piece at the end, where `awaited` bytes are to stand in all before any is taken: there is room for them at
-    /// once, and behind it none is moved again. Bytes are moved only where others before them were dropped, no fewer than
-    /// they are or such that there is no room else. It takes no memory for an empty piece.
+    /// once, and behind it none is moved again. Bytes are moved only to memory that is kept for later, where they have no
+    /// room else, and where others before them were dropped, no fewer than they are or such that there is no room else. It
+    /// takes no memory for an empty piece.
     pub fn receive(&mut self, piece: &[u8], awaited: usize) -> Result<(), Memory>
         ensures ok { OnOk result (self.new ≡ self.old ++ piece.now) }
         ensures err { OnErr result (self.new ≡ self.old) }
@@ -76,6 +77,7 @@ impl ReceiveBuffer {
             return Ok(());
         }
         let missing = awaited.saturating_sub(self.len()).max(piece.len());
+        self.move_to_spare(missing)?;
         self.bytes.settle(missing)?;
         self.bytes.reserve(missing)?;
         self.bytes.append(piece)
@@ -92,6 +94,21 @@ impl ReceiveBuffer {
             self.spare.clear();
             mem::swap(&mut self.spare, empty);
         }
+    }
+
+    /// Moves the bytes to the memory that is kept for later, where they have no room for so many more and that has. So one
+    /// block goes round with the long bodies, and not two in turns, each out of the processor's cache by then.
+    fn move_to_spare(&mut self, more: usize) -> Result<(), Memory>
+        ensures { self.new ≡ self.old }
+    {
+        let needed = ROOM.saturating_add(self.len()).saturating_add(more);
+        if self.bytes.capacity() < needed && needed <= self.spare.capacity() {
+            self.spare.clear();
+            self.spare.settle(0)?;
+            self.spare.append(self.bytes.as_slice())?;
+            mem::swap(&mut self.spare, &mut self.bytes);
+        }
+        Ok(())
     }
 
     /// An empty buffer, in the memory that is kept for later, if there is some.

@@ -54,7 +54,7 @@ returns-in-Some-write_once-clause-other g c = ap (λ (s : State _). untold s) c.
 
 pub returns-in-None-clause-side : goal.returns-in-None-clause-side
 returns-in-None-clause-side g c =
-    let all : 1 + c.loop-tried._tried ≡ 1000001 = omega (arith, c.loop-tried-test.false, c.loop-tried.auto._tried-end) in
+    let all : 1 + c.loop-tried.tried ≡ 1000001 = omega (arith, c.loop-tried-test.false, c.loop-tried.auto.tried-end) in
     given-up c.loop-tried.invariant.0 c.in-None.ensures.side.0 all c.in-None.ensures.side.1 c.fail.ensures.side
 
 pub returns-in-None-clause-link : goal.returns-in-None-clause-link
@@ -83,7 +83,7 @@ returns-in-Some-write_once-clause-gives g c = (
 
 pub returns-in-None-clause-gives : goal.returns-in-None-clause-gives
 returns-in-None-clause-gives g c =
-    let all : 1 + c.loop-tried._tried ≡ 1000001 = omega (arith, c.loop-tried-test.false, c.loop-tried.auto._tried-end) in (
+    let all : 1 + c.loop-tried.tried ≡ 1000001 = omega (arith, c.loop-tried-test.false, c.loop-tried.auto.tried-end) in (
       given-up c.loop-tried.invariant.0 c.in-None.ensures.side.0 all c.in-None.ensures.side.1 c.fail.ensures.side,
       read-same c.loop-tried.invariant.1 (c.fail.ensures.other ∙ c.in-None.ensures.other),
       c.fail.ensures.door ∙ c.in-None.ensures.door ∙ c.loop-tried.invariant.2,
