@@ -5,4 +5,4 @@ pub mod Fill
 pub mod StreamEnd
 pub mod Unlink
 pub mod Steps
-pub mod Sides
+pub mod Takers

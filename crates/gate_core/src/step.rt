@@ -1,5 +1,5 @@
 //! One item, one event, and all of them.
 
 pub mod inner;
-pub mod side;
+pub mod taker;
 pub mod translator;

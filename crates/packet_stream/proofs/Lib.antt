@@ -6,6 +6,7 @@ pub mod Laws
 pub mod Splits
 pub mod Following
 pub mod Loops
+pub mod Takers
 pub mod Pieces
 pub mod Fronts
 pub mod Spelled

@@ -6,4 +6,5 @@ pub mod Writes
 pub mod Split
 pub mod Streams
 pub mod Loops
+pub mod Takers
 pub mod Items

@@ -6,9 +6,11 @@ mod format;
 mod read;
 mod splitting;
 mod stream;
+mod taker;
 
 pub use format::PacketFormat;
 pub use read::{Read, ReadError};
 pub use splitting::splits_well;
 pub use stream::Stream;
+pub use taker::{PacketTaker, take_piece};
 pub use usb_base::PacketBytes;

@@ -1,3 +1,4 @@
 -- How what the code keeps is seen.
 pub mod Views
+pub mod Takers
 pub mod Waiting

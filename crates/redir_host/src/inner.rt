@@ -1,18 +1,15 @@
 //! What a host core keeps, and how acts change it.
 
 ghost use Rattle.std.specs.Prelude.{◌≡◌, [], false, OnOk, OnErr};
-ghost use Rattle.packet_stream.specs.Loops.{TakesPackets};
 ghost use Rattle.redir_host.specs.step.Acts.{Piece};
-ghost use Rattle.redir_host.specs.guest.Guest.{guest_reader};
-ghost use Rattle.redir_host.specs.state.Sound.{IsSound};
 ghost use Rattle.redir_host.specs.step.Stands.{HasFailed, HasPast, HostStands, StopsIn, TakesPiece};
-ghost use Rattle.redir_host.specs.guest.Takings.{HasRead, LeavesWanted, TookAndSent};
 ghost use Rattle.redir_host.specs.inner.Views.{kept_of};
 
 use crate::host::Host;
-use crate::note::{HostNote, HostNotes};
+use crate::note::HostNotes;
+use crate::taker::GuestTaker;
 use model_device::Gadget;
-use packet_stream::{ReadError, Stream};
+use packet_stream::{Stream, take_piece};
 use redir_data::{FromGuest, RedirState};
 use std::alloc::Global;
 use usb_base::{Bytes, Memory};
@@ -77,36 +74,12 @@ impl<G: Gadget> Inner<G> {
         ensures ok { OnOk result (TakesPiece G.meaning piece.now (kept_of self.old) (kept_of self.new) out.old out.new notes.old notes.new) }
         ensures err { OnErr result (StopsIn G.meaning (Piece piece.now) (kept_of self.old) out.old out.new) }
     {
-        if self.stream.is_over() {
-            return Ok(());
-        }
-        self.stream.put(piece)?;
-        match take_packets(self.alloc, &mut self.stream, &mut self.host, out, notes) {
-            Ok(()) => Ok(()),
-            Err(ReadError::Refused { place, reason }) => {
-                notes.push(HostNote::Refused { place, reason })?;
-                Ok(())
-            }
-            Err(ReadError::Memory(memory)) => Err(memory),
-        }
+        let mut taker = GuestTaker {
+            alloc: self.alloc,
+            host: &mut self.host,
+            out,
+            notes,
+        };
+        take_piece(self.alloc, &mut self.stream, piece, &mut taker)
     }
-}
-
-/// Takes the packets that are whole, one by one.
-fn take_packets<G: Gadget>(
-    alloc: Global,
-    stream: &mut Stream<FromGuest>,
-    host: &mut Host<G>,
-    out: &mut Bytes,
-    notes: &mut HostNotes,
-) -> Result<(), ReadError>
-    requires read { HasRead stream.old host.old.guest }
-    requires sound { IsSound host.old }
-    ensures takes { TakesPackets guest_reader result stream.old stream.new (TookAndSent result G.meaning host.old host.new out.old out.new notes.old notes.new) }
-    ensures wants { LeavesWanted result G.meaning stream.old host.old out.old out.new }
-{
-    while let Some((_, (header, packet))) = stream.next(alloc)? {
-        host.take(alloc, header, packet, out, notes)?;
-    }
-    Ok(())
 }

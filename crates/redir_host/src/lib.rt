@@ -17,6 +17,7 @@ mod request;
 mod routed;
 mod running;
 mod take;
+mod taker;
 mod waiting;
 mod write;
 

@@ -4,6 +4,7 @@ pub mod Quiet
 pub mod Steady
 pub mod Take
 pub mod Translator
+pub mod Halves
 pub mod Sides
 pub mod Pieces
 pub mod Streams

@@ -1,19 +1,15 @@
 //! What the gate keeps, and how an event changes it.
 
 ghost use Rattle.std.specs.Prelude.{◌≡◌, ◌≤◌, ℕ, List, [], IfOk};
-ghost use Rattle.packet_stream.specs.Split.{reads};
-ghost use Rattle.gate_history.specs.step.Events.{ClientEnd, HostEnd, event_of};
-ghost use Rattle.gate_history.specs.declared.item.Item.{Item as PastItem};
+ghost use Rattle.gate_history.specs.step.Events.{ClientPiece, ClientEnd, HostPiece, HostEnd, event_of};
 ghost use Rattle.gate_core.specs.step.Stands.{HasPast, Stands};
-ghost use Rattle.gate_core.specs.inner.Steps.{NextItem, TakesEvent, kept_of, ended_if};
-ghost use Rattle.gate_core.specs.inner.Sides.{IsSide, IsAt, FitsNext, TakesPiece};
+ghost use Rattle.gate_core.specs.inner.Steps.{TakesEvent, kept_of};
 
-use crate::state::kept::Kept;
-use crate::step::side::GateSide;
+use crate::step::taker::ItemTaker;
 use crate::step::translator::Translator;
 use gate_history::{Event, Item};
 use gate_parts::Outputs;
-use packet_stream::{ReadError, Stream};
+use packet_stream::{Stream, take_piece};
 use redir_data::{FromHost, RedirState};
 use std::alloc::Global;
 use usb_base::{Bytes, Memory};
@@ -63,23 +59,23 @@ impl Inner {
         ensures { TakesEvent result self.old self.new (event_of event.entry) out.old out.new }
     {
         match event {
-            Event::ClientPiece(piece) => take_piece(
-                self.alloc,
-                &mut self.client,
-                &mut self.translator,
-                piece,
-                out,
-            ),
+            Event::ClientPiece(piece) => self.take_client(piece, out),
             Event::ClientEnd => self.change_client(out),
-            Event::HostPiece(piece) => take_piece(
-                self.alloc,
-                &mut self.host,
-                &mut self.translator,
-                piece,
-                out,
-            ),
+            Event::HostPiece(piece) => self.take_host(piece, out),
             Event::HostEnd => self.end_host(out),
         }
+    }
+
+    /// Takes a piece of the client's stream.
+    fn take_client(&mut self, piece: &[u8], out: &mut Outputs) -> Result<(), Memory>
+        requires { HasPast (kept_of self.old) }
+        ensures { TakesEvent result self.old self.new (ClientPiece piece.now) out.old out.new }
+    {
+        let mut taker = ItemTaker {
+            translator: &mut self.translator,
+            out,
+        };
+        take_piece(self.alloc, &mut self.client, piece, &mut taker)
     }
 
     /// Takes the client's end. The next client may come.
@@ -90,6 +86,18 @@ impl Inner {
         self.translator.take(Item::ClientLeft, out)?;
         self.client = Stream::new(self.alloc, ());
         Ok(())
+    }
+
+    /// Takes a piece of the host's stream.
+    fn take_host(&mut self, piece: &[u8], out: &mut Outputs) -> Result<(), Memory>
+        requires { HasPast (kept_of self.old) }
+        ensures { TakesEvent result self.old self.new (HostPiece piece.now) out.old out.new }
+    {
+        let mut taker = ItemTaker {
+            translator: &mut self.translator,
+            out,
+        };
+        take_piece(self.alloc, &mut self.host, piece, &mut taker)
     }
 
     /// Takes the host's end.
@@ -103,47 +111,5 @@ impl Inner {
         self.translator.take(Item::HostLeft, out)?;
         self.host.end();
         Ok(())
-    }
-}
-
-/// Takes a piece of a side's stream, item by item.
-fn take_piece<S: GateSide>(
-    alloc: Global,
-    stream: &mut Stream<S>,
-    translator: &mut Translator,
-    piece: &[u8],
-    out: &mut Outputs,
-) -> Result<(), Memory>
-    requires side { (first : ℕ) → IsSide first (S.half first) (reads S.format S.after) S.takes_memory S.over_in S.raw_packet S.raw_wrong }
-    requires fits { FitsNext S.half (reads S.format S.after) S.takes_memory S.raw_packet S.raw_wrong }
-    requires past { ∥ ((first : ℕ) × ((bytes : List ℕ) × ((before : List PastItem) × IsAt first (S.half first) stream.old translator.old bytes before))) ∥₁ }
-    ensures { TakesPiece result S.half stream.old stream.new translator.old translator.new piece.now out.old out.new }
-{
-    stream.put(piece)?;
-    'items: while let Some(item) = next_item(alloc, stream)? {
-        translator.take(item, out)?;
-        close(stream, translator.kept());
-    }
-    Ok(())
-}
-
-/// The next item of a side's stream.
-fn next_item<S: GateSide>(alloc: Global, stream: &mut Stream<S>) -> Result<Option<Item>, Memory>
-    ensures { NextItem (reads S.format S.after) S.takes_memory S.raw_packet S.raw_wrong result stream.old stream.new }
-{
-    match stream.next(alloc) {
-        Ok(Some((place, packet))) => Ok(Some(S::packet(place, packet))),
-        Ok(None) => Ok(None),
-        Err(ReadError::Refused { place, reason }) => Ok(Some(S::wrong(place, reason))),
-        Err(ReadError::Memory(memory)) => Err(memory),
-    }
-}
-
-/// Ends a side's stream where the side was refused.
-fn close<S: GateSide>(stream: &mut Stream<S>, kept: &Kept)
-    ensures { stream.new ≡ ended_if (S.over_in kept.now) stream.old }
-{
-    if S::is_over(kept) {
-        stream.end();
     }
 }

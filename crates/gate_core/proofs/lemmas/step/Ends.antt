@@ -31,7 +31,7 @@ use Rattle.gate_history.proofs.lemmas.state.Sound.{state-sound}
 use Rattle.gate_history.proofs.lemmas.step.Apart.{left-host, left-client}
 use Rattle.gate_history.proofs.lemmas.step.Capabilities.{left-over}
 use Rattle.gate_core.proofs.lemmas.step.Translator.{sends-none, translates-past, sends-past, past-skipped, translates-item, sends-item}
-use Rattle.gate_core.proofs.lemmas.step.Pieces.{TakesItem}
+use Rattle.gate_core.specs.inner.Takers.{TakesItem}
 use Rattle.gate_core.proofs.lemmas.step.Event.{all-same, stops-before, stops-still, stands-for}
 use Rattle.gate_history.proofs.lemmas.step.Empty.{split-empty}
 

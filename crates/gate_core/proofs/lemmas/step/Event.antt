@@ -24,7 +24,7 @@ use Rattle.gate_core.specs.step.Stands.{IsLeftBy, StreamStands, StandsFor, HasAl
 use Rattle.gate_history.specs.step.Wants.{IsHeld, FirstWants}
 use Rattle.gate_core.specs.inner.Holds.{DoesNothing}
 use Rattle.gate_core.specs.inner.Steps.{kept_of, TakesEvent}
-use Rattle.gate_core.specs.inner.Sides.{Packets, Half, IsAt, Halted, TakesPiece, client_half, host_half}
+use Rattle.gate_core.proofs.lemmas.step.Halves.{Packets, Half, IsAt, Halted, TakesPiece, client_half, host_half}
 use Rattle.gate_core.proofs.lemmas.step.Take.{follows-all, all-passed}
 use Rattle.gate_core.proofs.lemmas.step.Translator.{gains-none}
 use Rattle.gate_core.proofs.lemmas.step.Sides.{client-steady, host-steady}

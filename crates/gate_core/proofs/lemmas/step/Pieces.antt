@@ -1,6 +1,7 @@
 -- A piece of either side, item by item: the translator takes each, until the side is over.
 use Rattle.std.proofs.Common.{◌≡◌, ℕ, zero, suc, Bool, true, false, inl, inr, List, [], ◌∷◌, ◌++◌, length, Option, Some, None, Result, Ok, Err, refl, sym, ap, subst, ◌∙◌, append_assoc}
-use Rattle.std.specs.Prelude.{◌⊎◌, IsErr, drop}
+use Rattle.std.specs.Prelude.{◌⊎◌, drop}
+use Rattle.std.proofs.Math.Logic.{∥∥₁_map}
 use Rattle.std.proofs.lemmas.Bool.{true≢false}
 use Rattle.std.proofs.lemmas.List.{append-nil}
 use Rattle.usb_base.specs.Number.{AreBytes}
@@ -9,29 +10,30 @@ use Rattle.usb_base.specs.declared.reason.Reason.{Reason}
 use Rattle.usb_base.proofs.Numbers.{AreBytes-append}
 use Rattle.packet_stream.specs.declared.read.ReadError.{ReadError}
 use Rattle.packet_stream.specs.declared.read.ReadError.TheVariants.{Refused, Memory as OutOfMemory}
-use Rattle.packet_stream.specs.Split.{Splitting, split}
+use Rattle.packet_stream.specs.Split.{Reader, Splitting, split}
 use Rattle.packet_stream.specs.Streams.{StreamView, passed, after_piece, Follows, Nexts, Puts, Changes}
 use Rattle.packet_stream.specs.Items.{packets, wrongs, items, added}
-use Rattle.packet_stream.proofs.Loops.{changed_to}
+use Rattle.packet_stream.specs.Takers.{Taking as TakenBy, TakenStream, ended_if, TakesAnswer, Finishes, Reaches, TakesPiece as TakesBytes}
+use Rattle.packet_stream.proofs.Takers.{reaches-keeps, piece-keeps}
 use Rattle.gate_history.specs.declared.item.Item.{Item as RawItem, Item}
 use Rattle.gate_parts.specs.declared.write.outputs.Outputs.{Outputs}
 use Rattle.gate_core.specs.declared.state.kept.Kept.{Kept as Translator}
-use Rattle.gate_history.specs.state.State.{State, state_of}
-use Rattle.gate_history.specs.state.Sound.{IsSound}
-use Rattle.gate_history.specs.step.Meaning.{mark_of}
+use Rattle.gate_history.specs.state.State.{state_of}
 use Rattle.gate_history.specs.step.Past.{is_left_out, past}
 use Rattle.gate_history.specs.step.History.{onto}
-use Rattle.gate_history.specs.step.Wants.{takes_memory, GivesSome, Wants}
+use Rattle.gate_history.specs.step.Wants.{Wants}
 use Rattle.gate_core.specs.step.Stands.{Translates, HasAll, IsLeftBy}
-use Rattle.gate_core.specs.inner.Holds.{items_of, Holds, Does, DoesNothing}
-use Rattle.gate_history.specs.step.Fits.{IsItem}
-use Rattle.gate_core.specs.inner.Steps.{Sends, item_next, ended_if}
+use Rattle.gate_core.specs.inner.Holds.{items_of, DoesNothing}
+use Rattle.gate_history.specs.step.Fits.{IsItem, ItemFits}
+use Rattle.gate_core.specs.declared.step.taker.ItemTaker.{ItemTaker}
+use Rattle.gate_core.specs.inner.Steps.{Sends}
+use Rattle.gate_core.specs.inner.Takers.{Borrows, TakesItem, TakerTakes}
 use Rattle.gate_history.proofs.lemmas.Lists.{Each, Each-append}
 use Rattle.gate_history.proofs.lemmas.state.Sound.{state-sound}
 use Rattle.gate_core.proofs.lemmas.step.Take.{Taken, over-put, taken-put, taken-packet, taken-wrong, taken-ended, taken-all, cut-passed, IsMore, IsNextBy, taken-stuck}
 use Rattle.gate_core.proofs.lemmas.step.Translator.{sends-none, translates-past, sends-past, past-skipped, translates-item, sends-item}
-use Rattle.gate_core.specs.inner.Sides.{Half, IsAt, GoesOn, Finished, Halted, IsUnput, TakesPiece}
-use Rattle.gate_core.proofs.lemmas.step.Sides.{Side}
+use Rattle.gate_core.proofs.lemmas.step.Halves.{Half, IsAt, GoesOn, FitsNext, Finished, Halted, IsUnput, TakesPiece}
+use Rattle.gate_core.proofs.lemmas.step.Sides.{Side, side-of, TakenSide}
 use Rattle.gate_history.proofs.lemmas.step.Piece.{onto-append}
 
 -- ---- lists of items
@@ -124,11 +126,6 @@ goes-on {P = P} first d kept t bytes piece before out_old out_new k runs =
       translates = k.translates;
     }
 
--- what the translator says of an item that it took
-abbrev pub TakesItem : Translator → Translator → RawItem → Outputs → Outputs → Type 0
-TakesItem old new item out_old out_new =
-    (st : State) (x : Item) → IsItem item x → Holds old st → IsSound st → is_left_out st x ≡ false → Does st (mark_of st x) old new out_old out_new
-
 ended-over : {S : Type 0} (kept : StreamView S) (flag over : Bool) → flag ≡ over → (over ≡ false → kept.over ≡ false) → (ended_if flag kept).over ≡ over
 ended-over kept true over e going = e
 ended-over kept false over e going = going (sym e) ∙ e
@@ -156,27 +153,26 @@ taking-one first d old new t u bytes piece before out_old out out_new item x k r
       other_over = ap d.half.other_over behind ∙ other xs ∙ k.other_over;
     }
 
-pub same-item : (a b : RawItem) → ◌≡◌ {A = Result (Option RawItem) Memory} (Ok (Some a)) (Ok (Some b)) → a ≡ b
-same-item a b e = cc
+-- how a side's stream is taken
+abbrev pub taking_by : {S P : Type 0} → Reader S P Reason → (P → Bool) → (Translator → Bool) → (ℕ → P → RawItem) → (ℕ → Reason → RawItem) → TakenBy S P ItemTaker
+taking_by r takes flag raw_packet raw_wrong = record { reader = r; takes_memory = takes; Takes = TakerTakes raw_packet raw_wrong; is_over = λ t. flag t.translator.now }
 
-pub taking-item : {S P : Type 0} (first : ℕ) (d : Side S P first) (takes : P → Bool) (old new : StreamView S) (t u : Translator) (bytes piece : List ℕ) (before : List Item) (out_old out out_new : Outputs) (item : RawItem) (answer : Result (Option (ℕ × P)) ReadError) →
-    item_next d.raw_packet d.raw_wrong answer ≡ Ok (Some item) → Changes answer old new → Nexts d.half.stream.reader takes answer old new → TakesItem t u item out out_new →
-    Taking first d.half old t bytes piece before out_old out →
-    Taking first d.half (ended_if (d.flag u) new) u bytes piece before out_old out_new
-taking-item first d takes old new t u bytes piece before out_old out out_new item (Ok None) is changes nexts translator k = absurd cc
-taking-item first d takes old new t u bytes piece before out_old out out_new item (Ok (Some i)) is changes nexts translator k =
-    let a = taken-packet d.half.stream takes old new bytes piece (d.half.came before) k.taken i k.stream changes nexts in
-    let x = d.half.stream.packet a.at i.1 in
-    let it : IsItem item x = subst (λ (y : RawItem). IsItem y x) (same-item (d.raw_packet i.0 i.1) item is) (d.laws.is_packet i.0 a.at i.1 a.place-is) in
-    taking-one first d old new t u bytes piece before out_old out out_new item x k changes.1 a.stream it
-    (λ xs. d.laws.out_packet xs a.at i.1) (λ xs. d.laws.others_packet xs a.at i.1) (λ xs. d.laws.other_packet xs a.at i.1) (λ xs _. changes.2) translator
-taking-item first d takes old new t u bytes piece before out_old out out_new item (Err (Refused place why)) is changes nexts translator k =
-    let a = taken-wrong d.half.stream takes old new bytes piece (d.half.came before) k.taken place why k.stream changes nexts in
-    let x = d.half.stream.wrong a.at why in
-    let it : IsItem item x = subst (λ (y : RawItem). IsItem y x) (same-item (d.raw_wrong place why) item is) (d.laws.is_wrong place a.at why a.place-is) in
-    taking-one first d old new t u bytes piece before out_old out out_new item x k changes.0 a.stream it
-    (λ xs. d.laws.out_wrong xs a.at why) (λ xs. d.laws.others_wrong xs a.at why) (λ xs. d.laws.other_wrong xs a.at why) (λ xs e. absurd (true≢false (sym (d.laws.over_wrong xs a.at why) ∙ e))) translator
-taking-item first d takes old new t u bytes piece before out_old out out_new item (Err (OutOfMemory memory)) is changes nexts translator k = absurd cc
+abbrev pub taking_of : {S P : Type 0} {first : ℕ} → Side S P first → TakenBy S P ItemTaker
+taking_of d = taking_by d.half.stream.reader d.takes d.flag d.raw_packet d.raw_wrong
+
+taking-item : {S P : Type 0} (first : ℕ) (d : Side S P first) (old new : StreamView S) (a b : ItemTaker) (bytes piece : List ℕ) (before : List Item) (out_old : Outputs) (answer : Result (Option (ℕ × P)) ReadError) →
+    Changes answer old new → Nexts d.half.stream.reader d.takes answer old new → TakesAnswer (taking_of d) answer (Ok tt) a b → Taking first d.half old a.translator.now bytes piece before out_old a.out.now →
+    Taking first d.half (ended_if (d.flag b.translator.now) new) b.translator.now bytes piece before out_old b.out.now
+taking-item first d old new a b bytes piece before out_old (Ok None) changes nexts takes k = absurd takes
+taking-item first d old new a b bytes piece before out_old (Ok (Some i)) changes nexts takes k =
+    let n = taken-packet d.half.stream d.takes old new bytes piece (d.half.came before) k.taken i k.stream changes nexts in
+    taking-one first d old new a.translator.now b.translator.now bytes piece before out_old a.out.now b.out.now (d.raw_packet i.0 i.1) (d.half.stream.packet n.at i.1) k changes.1 n.stream (d.laws.is_packet i.0 n.at i.1 n.place-is)
+    (λ xs. d.laws.out_packet xs n.at i.1) (λ xs. d.laws.others_packet xs n.at i.1) (λ xs. d.laws.other_packet xs n.at i.1) (λ xs _. changes.2) takes.1
+taking-item first d old new a b bytes piece before out_old (Err (Refused place why)) changes nexts takes k =
+    let n = taken-wrong d.half.stream d.takes old new bytes piece (d.half.came before) k.taken place why k.stream changes nexts in
+    taking-one first d old new a.translator.now b.translator.now bytes piece before out_old a.out.now b.out.now (d.raw_wrong place why) (d.half.stream.wrong n.at why) k changes.0 n.stream (d.laws.is_wrong place n.at why n.place-is)
+    (λ xs. d.laws.out_wrong xs n.at why) (λ xs. d.laws.others_wrong xs n.at why) (λ xs. d.laws.other_wrong xs n.at why) (λ xs e. absurd (true≢false (sym (d.laws.over_wrong xs n.at why) ∙ e))) takes.1
+taking-item first d old new a b bytes piece before out_old (Err (OutOfMemory memory)) changes nexts takes k = absurd cc
 
 -- ---- nothing more is there
 
@@ -236,20 +232,6 @@ finished-by first d takes old new t bytes piece before out_old out_new are more 
 finished-by first d takes old new t bytes piece before out_old out_new are more changes nexts k true ends =
     finished-over first d old new t bytes piece before out_old out_new are more changes k ends
 
-no-item : {P : Type 0} (packet : ℕ → P → RawItem) (wrong : ℕ → Reason → RawItem) (answer : Result (Option (ℕ × P)) ReadError) → item_next packet wrong answer ≡ Ok None → answer ≡ Ok None
-no-item packet wrong (Ok None) e = refl
-no-item packet wrong (Ok (Some i)) e = absurd cc
-no-item packet wrong (Err (Refused place why)) e = absurd cc
-no-item packet wrong (Err (OutOfMemory memory)) e = absurd cc
-
-pub taking-all : {S P : Type 0} (first : ℕ) (d : Side S P first) (takes : P → Bool) (old new : StreamView S) (t : Translator) (bytes piece : List ℕ) (before : List Item) (out_old out_new : Outputs) (answer : Result (Option (ℕ × P)) ReadError) →
-    AreBytes bytes → AreBytes piece → item_next d.raw_packet d.raw_wrong answer ≡ Ok None → Changes answer old new → Nexts d.half.stream.reader takes answer old new →
-    Taking first d.half old t bytes piece before out_old out_new → Finished first d.half new t bytes piece before out_old out_new
-taking-all {P = P} first d takes old new t bytes piece before out_old out_new answer are more is changes nexts k =
-    let none = no-item d.raw_packet d.raw_wrong answer is in
-    finished-by first d takes old new t bytes piece before out_old out_new are more (changed_to old new answer (Ok None) changes none)
-    (subst (λ (x : Result (Option (ℕ × P)) ReadError). Nexts d.half.stream.reader takes x old new) none nexts) k old.over refl
-
 -- ---- memory ran out
 
 more-runs : {S P : Type 0} (old new : StreamView S) (answer : Result (Option (ℕ × P)) ReadError) → IsMore answer → Changes answer old new → old.over ≡ false
@@ -258,79 +240,139 @@ more-runs old new (Ok (Some i)) more changes = changes.1
 more-runs old new (Err (Refused place why)) more changes = changes.0
 more-runs old new (Err (OutOfMemory memory)) more changes = changes.0
 
--- what the stream has answered was an item that the translator wanted memory for, or that memory ran out
-abbrev pub WantsItem : Translator → Result (Option RawItem) Memory → Type 0
-WantsItem t (Ok None) = ⊥
-WantsItem t (Ok (Some item)) = (st : State) (x : Item) → IsItem item x → Holds t st → IsSound st → GivesSome st (mark_of st x)
-WantsItem t (Err memory) = Unit {0}
+pub nothing-done : (t : Translator) (out : Outputs) → DoesNothing t t out out
+nothing-done t out = record { same = refl; outputs = refl }
 
-wants-more : {P : Type 0} (packet : ℕ → P → RawItem) (wrong : ℕ → Reason → RawItem) (t : Translator) (answer : Result (Option (ℕ × P)) ReadError) → WantsItem t (item_next packet wrong answer) → IsMore answer
-wants-more packet wrong t (Ok None) w = w
-wants-more packet wrong t (Ok (Some i)) w = tt
-wants-more packet wrong t (Err e) w = tt
+-- the taker did nothing with it, and more is there
+lacks-nothing : {S P : Type 0} (first : ℕ) (d : Side S P first) (memory : Memory) (a b : ItemTaker) (answer : Result (Option (ℕ × P)) ReadError) → TakesAnswer (taking_of d) answer (Err memory) a b → DoesNothing a.translator.now b.translator.now a.out.now b.out.now
+lacks-nothing first d memory a b (Ok None) takes = absurd takes
+lacks-nothing first d memory a b (Ok (Some i)) takes = takes.1.0
+lacks-nothing first d memory a b (Err (Refused place why)) takes = takes.1.0
+lacks-nothing first d memory a b (Err (OutOfMemory m)) takes = subst (λ (t : ItemTaker). DoesNothing a.translator.now t.translator.now a.out.now t.out.now) (sym takes.1) (nothing-done a.translator.now a.out.now)
 
-wants-by : {S P : Type 0} (first : ℕ) (d : Side S P first) (takes : P → Bool) → ((n : ℕ) (p : P) → takes p ≡ takes_memory (d.half.stream.packet n p)) → (t : Translator) (xs : List Item) (answer : Result (Option (ℕ × P)) ReadError) (x : Item) →
-    IsNextBy d.half.stream takes answer x → WantsItem t (item_next d.raw_packet d.raw_wrong answer) → Translates first (items_of t) xs → d.half.stream.over xs ≡ false → Wants first xs x
-wants-by first d takes same t xs (Ok None) x is w translates over = absurd is
-wants-by {P = P} first d takes same t xs (Ok (Some i)) x is w translates over =
-    let st = state_of first (past first xs) in
+lacks-more : {S P : Type 0} (first : ℕ) (d : Side S P first) (memory : Memory) (a b : ItemTaker) (answer : Result (Option (ℕ × P)) ReadError) → TakesAnswer (taking_of d) answer (Err memory) a b → IsMore answer
+lacks-more first d memory a b (Ok None) takes = takes
+lacks-more first d memory a b (Ok (Some i)) takes = tt
+lacks-more first d memory a b (Err e) takes = tt
+
+wants-by : {S P : Type 0} (first : ℕ) (d : Side S P first) (memory : Memory) (a b : ItemTaker) (xs : List Item) (answer : Result (Option (ℕ × P)) ReadError) (x : Item) →
+    IsNextBy d.half.stream d.takes answer x → TakesAnswer (taking_of d) answer (Err memory) a b → Translates first (items_of a.translator.now) xs → d.half.stream.over xs ≡ false → Wants first xs x
+wants-by first d memory a b xs (Ok None) x is takes translates over = absurd is
+wants-by {P = P} first d memory a b xs (Ok (Some i)) x is takes translates over =
     subst (Wants first xs) (sym is.2) (record {
       comes = d.laws.out_packet xs is.0 i.1 ∙ over;
-      some = inr (w st (d.half.stream.packet is.0 i.1) (d.laws.is_packet i.0 is.0 i.1 is.1) translates.state (state-sound first xs));
+      some = inr (takes.1.1 (state_of first (past first xs)) (d.half.stream.packet is.0 i.1) (d.laws.is_packet i.0 is.0 i.1 is.1) translates.state (state-sound first xs));
     })
-wants-by first d takes same t xs (Err (Refused place why)) x is w translates over =
-    let st = state_of first (past first xs) in
+wants-by first d memory a b xs (Err (Refused place why)) x is takes translates over =
     subst (Wants first xs) (sym is.2) (record {
       comes = d.laws.out_wrong xs is.0 why ∙ over;
-      some = inr (w st (d.half.stream.wrong is.0 why) (d.laws.is_wrong place is.0 why is.1) translates.state (state-sound first xs));
+      some = inr (takes.1.1 (state_of first (past first xs)) (d.half.stream.wrong is.0 why) (d.laws.is_wrong place is.0 why is.1) translates.state (state-sound first xs));
     })
-wants-by first d takes same t xs (Err (OutOfMemory memory)) x is w translates over =
+wants-by first d memory a b xs (Err (OutOfMemory m)) x is takes translates over =
     subst (Wants first xs) (sym is.1) (record {
       comes = d.laws.out_packet xs is.0.0 is.0.1 ∙ over;
-      some = inl (sym (same is.0.0 is.0.1) ∙ is.2);
+      some = inl (sym (d.laws.takes_is is.0.0 is.0.1) ∙ is.2);
     })
 
-pub taking-halted : {S P : Type 0} (first : ℕ) (d : Side S P first) (takes : P → Bool) → ((n : ℕ) (p : P) → takes p ≡ takes_memory (d.half.stream.packet n p)) →
-    (old new : StreamView S) (t : Translator) (bytes piece : List ℕ) (before : List Item) (out_old out_new : Outputs) (answer : Result (Option (ℕ × P)) ReadError) →
-    WantsItem t (item_next d.raw_packet d.raw_wrong answer) → Changes answer old new → Nexts d.half.stream.reader takes answer old new →
-    Taking first d.half old t bytes piece before out_old out_new → Halted first d.half new t bytes piece before out_old out_new
-taking-halted {S = S} {P = P} first d takes same old new t bytes piece before out_old out_new answer wants changes nexts k =
-    let more = wants-more d.raw_packet d.raw_wrong t answer wants in
+halted : {S P : Type 0} (first : ℕ) (d : Side S P first) (old new : StreamView S) (memory : Memory) (a b : ItemTaker) (bytes piece : List ℕ) (before : List Item) (out_old : Outputs) (answer : Result (Option (ℕ × P)) ReadError) →
+    TakesAnswer (taking_of d) answer (Err memory) a b → Changes answer old new → Nexts d.half.stream.reader d.takes answer old new →
+    Taking first d.half old a.translator.now bytes piece before out_old a.out.now → Halted first d.half new b.translator.now bytes piece before out_old b.out.now
+halted {S = S} {P = P} first d old new memory a b bytes piece before out_old answer takes changes nexts k =
+    let more = lacks-more first d memory a b answer takes in
     let runs = more-runs old new answer more changes in
-    let stuck = taken-stuck d.half.stream takes old new bytes piece (d.half.came before) k.taken answer more k.stream changes nexts in
+    let stuck = taken-stuck d.half.stream d.takes old new bytes piece (d.half.came before) k.taken answer more k.stream changes nexts in
     let xs = onto k.taken before in
     let came : d.half.came xs ≡ d.half.came before ++ stuck.more = ap (λ (l : List Item). d.half.came (onto l before)) stuck.are ∙ came-onto first d stuck.more before in
     let over : d.half.stream.over xs ≡ false = sym k.over_is ∙ runs in
+    let nothing = lacks-nothing first d memory a b answer takes in
     record {
       taken = k.taken;
       next = stuck.next;
       behind = stuck.behind;
       parts = stuck.parts;
-      wants = wants-by first d takes same t xs answer stuck.next stuck.next-is wants k.translates over;
+      wants = wants-by first d memory a b xs answer stuck.next stuck.next-is takes k.translates over;
       stands = record {
         going = λ _. subst (λ (l : List (ℕ × P)). IsLeftBy d.half.stream.reader new (split d.half.stream.reader d.half.stream.start (bytes ++ piece)) l new.over) (sym came) stuck.left;
         ended = λ ends. absurd (true≢false (sym ends ∙ over));
         none = stuck.none;
       };
-      translates = k.translates;
-      sends = k.sends;
+      translates = subst (λ (t : Translator). Translates first (items_of t) xs) (sym nothing.same) k.translates;
+      sends = subst (λ (o : Outputs). Sends first out_old o before xs) (sym nothing.outputs) k.sends;
       others_are = k.others_are;
       other_over = k.other_over;
     }
 
-pub nothing-done : (t : Translator) (out : Outputs) → DoesNothing t t out out
-nothing-done t out = record { same = refl; outputs = refl }
+-- ---- the whole piece
 
--- for want of memory the translator has changed nothing
-pub halted-still : {S P : Type 0} (first : ℕ) (d : Side S P first) (kept : StreamView S) (t u : Translator) (bytes piece : List ℕ) (before : List Item) (out_old out out_new : Outputs) →
-    DoesNothing t u out out_new → Halted first d.half kept t bytes piece before out_old out → Halted first d.half kept u bytes piece before out_old out_new
-halted-still first d kept t u bytes piece before out_old out out_new nothing h =
-    subst (λ (x : Translator). Halted first d.half kept x bytes piece before out_old out_new) (sym nothing.same)
-    (subst (λ (o : Outputs). Halted first d.half kept t bytes piece before out_old o) (sym nothing.outputs) h)
+abbrev pub taken_side : {S P : Type 0} → TakenSide S P → TakenBy S P ItemTaker
+taken_side s = taking_by s.reader s.takes s.flag s.raw_packet s.raw_wrong
 
-pub err-piece : {S P : Type 0} (r : Result (Unit {0}) Memory) (half : ℕ → Half S P) (old new : StreamView S) (t u : Translator) (piece : List ℕ) (out_old out_new : Outputs) → IsErr r →
-    ((first : ℕ) (bytes : List ℕ) (before : List Item) → IsAt first (half first) old t bytes before →
-    IsUnput old new t u piece out_old out_new ⊎ Halted first (half first) new u bytes piece before out_old out_new) →
-    TakesPiece r half old new t u piece out_old out_new
-err-piece (Ok v) half old new t u piece out_old out_new is stops = absurd (true≢false (sym is))
-err-piece (Err memory) half old new t u piece out_old out_new is stops = stops
+abbrev pub side_at : {S P : Type 0} → TakenSide S P → (first : ℕ) → Side S P first
+side_at s first = side-of s.steady (s.laws first)
+
+-- wherever the side's stream stood
+pub within : {S P : Type 0} (s : TakenSide S P) (old now : TakenStream S ItemTaker) (piece : List ℕ) → AreBytes piece → Reaches (taken_side s) old piece now →
+    (first : ℕ) (bytes : List ℕ) (before : List Item) → IsAt first (s.half first) old.stream old.taker.translator.now bytes before →
+    Taking first (s.half first) now.stream now.taker.translator.now bytes piece before old.taker.out.now now.taker.out.now
+within {S = S} {P = P} s old now piece are r first bytes before at =
+    let d = side_at s first in
+    let is = sym (s.laws first).reader in
+    reaches-keeps (taken_side s) (λ (k : TakenStream S ItemTaker). Taking first d.half k.stream k.taker.translator.now bytes piece before old.taker.out.now k.taker.out.now) old now piece
+    (λ stream put puts. taking-first first d old.stream stream old.taker.translator.now bytes piece before old.taker.out.now are at.all at.translates put (subst (λ (x : Reader S P Reason). Puts x piece old.stream stream) is puts))
+    (λ k l t one. subst (λ (x : StreamView S). Taking first d.half x l.taker.translator.now bytes piece before old.taker.out.now l.taker.out.now) (sym one.stream)
+    (taking-item first d k.stream one.answered k.taker l.taker bytes piece before old.taker.out.now one.took.answer one.took.changes
+    (subst (λ (x : Reader S P Reason). Nexts x s.takes one.took.answer k.stream one.answered) is one.took.nexts) one.took.takes t))
+    r
+
+-- what comes next is an item that the translator can take
+pub can-take : {S P : Type 0} (s : TakenSide S P) → FitsNext s.half s.reader s.takes s.raw_packet → (old now : TakenStream S ItemTaker) (piece : List ℕ) →
+    ∥ ((first : ℕ) × ((bytes : List ℕ) × ((before : List Item) × IsAt first (s.half first) old.stream old.taker.translator.now bytes before))) ∥₁ → AreBytes piece → Reaches (taken_side s) old piece now →
+    (new : StreamView S) (i : ℕ × P) → Changes (Ok (Some i)) now.stream new → Nexts s.reader s.takes (Ok (Some i)) now.stream new → ItemFits now.taker.translator.now.caps (s.raw_packet i.0 i.1)
+can-take s fits old now piece past are reaches new i changes nexts =
+    fits now.stream new now.taker.translator.now i
+    (λ runs. ∥∥₁_map past (λ w. (
+      w.0,
+      goes-on w.0 (side_at s w.0) now.stream now.taker.translator.now w.1.0 piece w.1.1.0 old.taker.out.now now.taker.out.now (within s old now piece are reaches w.0 w.1.0 w.1.1.0 w.1.1.1) runs,
+    )))
+    changes nexts
+
+finished : {S P : Type 0} (s : TakenSide S P) (old last new : TakenStream S ItemTaker) (piece : List ℕ) → AreBytes piece → Reaches (taken_side s) old piece last → Finishes (taken_side s) last new →
+    (first : ℕ) (bytes : List ℕ) (before : List Item) → IsAt first (s.half first) old.stream old.taker.translator.now bytes before → Finished first (s.half first) new.stream new.taker.translator.now bytes piece before old.taker.out.now new.taker.out.now
+finished {S = S} {P = P} s old last new piece are reaches ends first bytes before at =
+    let d = side_at s first in
+    subst (λ (t : ItemTaker). Finished first d.half new.stream t.translator.now bytes piece before old.taker.out.now t.out.now) (sym ends.taker)
+    (finished-by first d s.takes last.stream new.stream last.taker.translator.now bytes piece before old.taker.out.now last.taker.out.now at.all.fits are ends.changes
+    (subst (λ (x : Reader S P Reason). Nexts {P = P} x s.takes (Ok None) last.stream new.stream) (sym (s.laws first).reader) ends.nexts)
+    (within s old last piece are reaches first bytes before at) last.stream.over refl)
+
+stopped : {S P : Type 0} (s : TakenSide S P) (memory : Memory) (old new : TakenStream S ItemTaker) (piece : List ℕ) → AreBytes piece → TakesBytes (taken_side s) (Err memory) old piece new →
+    (first : ℕ) (bytes : List ℕ) (before : List Item) → IsAt first (s.half first) old.stream old.taker.translator.now bytes before →
+    IsUnput old.stream new.stream old.taker.translator.now new.taker.translator.now piece old.taker.out.now new.taker.out.now ⊎ Halted first (s.half first) new.stream new.taker.translator.now bytes piece before old.taker.out.now new.taker.out.now
+stopped s memory old new piece are (inl unput) first bytes before at = inl (record {
+  kept = unput.stream;
+  some = unput.some;
+  nothing = subst (λ (t : ItemTaker). DoesNothing old.taker.translator.now t.translator.now old.taker.out.now t.out.now) (sym unput.taker) (nothing-done old.taker.translator.now old.taker.out.now);
+})
+stopped {S = S} {P = P} s memory old new piece are (inr w) first bytes before at =
+    inr (halted first (side_at s first) w.0.stream new.stream memory w.0.taker new.taker bytes piece before old.taker.out.now w.1.1.answer w.1.1.takes w.1.1.changes
+    (subst (λ (x : Reader S P Reason). Nexts x s.takes w.1.1.answer w.0.stream new.stream) (sym (s.laws first).reader) w.1.1.nexts)
+    (within s old w.0 piece are w.1.0 first bytes before at))
+
+takes-by : {S P : Type 0} (s : TakenSide S P) (r : Result (Unit {0}) Memory) (old new : TakenStream S ItemTaker) (piece : List ℕ) → AreBytes piece → TakesBytes (taken_side s) r old piece new →
+    TakesPiece r s.half old.stream new.stream old.taker.translator.now new.taker.translator.now piece old.taker.out.now new.taker.out.now
+takes-by s (Ok v) old new piece are takes = finished s old takes.0 new piece are takes.1.0 takes.1.1
+takes-by s (Err memory) old new piece are takes = stopped s memory old new piece are takes
+
+-- the translator and the outputs are what the taker leaves behind them
+pub takes-piece : {S P : Type 0} (s : TakenSide S P) (r : Result (Unit {0}) Memory) (old new : TakenStream S ItemTaker) (t : Translator) (piece : List ℕ) (out : Outputs) → AreBytes piece → t ≡ new.taker.translator.now → out ≡ new.taker.out.now →
+    TakesBytes (taken_side s) r old piece new → TakesPiece r s.half old.stream new.stream old.taker.translator.now t piece old.taker.out.now out
+takes-piece s r old new t piece out are is sends takes =
+    subst (λ (x : Translator). TakesPiece r s.half old.stream new.stream old.taker.translator.now x piece old.taker.out.now out) (sym is)
+    (subst (λ (o : Outputs). TakesPiece r s.half old.stream new.stream old.taker.translator.now new.taker.translator.now piece old.taker.out.now o) (sym sends) (takes-by s r old new piece are takes))
+
+-- ---- what is borrowed, which is the same at the end
+
+pub borrows-piece : {S P : Type 0} (s : TakenSide S P) (r : Result (Unit {0}) Memory) (old new : TakenStream S ItemTaker) (piece : List ℕ) → TakesBytes (taken_side s) r old piece new → Borrows old.taker new.taker
+borrows-piece s r old new piece takes =
+    piece-keeps (taken_side s) (λ (t u : ItemTaker). Borrows t u) (λ t. record { translator = refl; out = refl })
+    (λ t u v a b. record { translator = b.translator ∙ a.translator; out = b.out ∙ a.out }) (λ place found r t u took. took.0) r old piece new takes

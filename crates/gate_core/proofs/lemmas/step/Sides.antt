@@ -3,7 +3,11 @@ use Rattle.std.proofs.Common.{◌≡◌, ℕ, Bool, true, false, cond, List, ◌
 use Rattle.usb_base.specs.declared.reason.Reason.{Reason}
 use Rattle.packet_stream.specs.Split.{Reader}
 use Rattle.packet_stream.proofs.Laws.{IsSteady, reads_steady}
+use Rattle.redir_wire.specs.declared.packet.Header.{Header}
 use Rattle.redir_wire.specs.declared.packet.Way.TheVariants.{ToGuest}
+use Rattle.redir_data.specs.declared.packet.RedirPacket.{RedirPacket}
+use Rattle.redir_data.specs.declared.state.RedirState.{RedirState}
+use Rattle.usbip_urb.specs.declared.client.ClientPacket.{ClientPacket}
 use Rattle.redir_data.specs.Streams.{after, stream_format}
 use Rattle.redir_data.specs.sound.Joined.{stream_sound}
 use Rattle.usbip_urb.specs.ClientPackets.{takes_memory as asked_takes_memory, client_packets}
@@ -20,7 +24,7 @@ use Rattle.gate_history.specs.step.Meaning.{mark_of}
 use Rattle.gate_history.specs.step.Past.{past}
 use Rattle.gate_history.specs.step.Streams.{client_reader, host_reader}
 use Rattle.gate_core.specs.inner.Steps.{raw_told}
-use Rattle.gate_core.specs.inner.Sides.{Half, IsSide, client_half, host_half}
+use Rattle.gate_core.proofs.lemmas.step.Halves.{Half, IsSide, client_half, host_half}
 use Rattle.gate_history.proofs.lemmas.step.Apart.{asked-host, wrong-host, told-client, wrong-client}
 use Rattle.gate_history.proofs.lemmas.step.Capabilities.{wrong-over}
 
@@ -95,4 +99,40 @@ is-host first = record {
   others_wrong = λ xs n why. refl;
   other_packet = λ xs n p. told-client first xs n p.0 p.1;
   other_wrong = wrong-client first;
+}
+
+-- ---- a side, as its code reads and takes it
+
+pub record TakenSide (S P : Type 0) : Type 0 where
+  pub half : ℕ → Half S P
+  pub reader : Reader S P Reason
+  pub steady : IsSteady reader
+  pub takes : P → Bool
+  pub flag : Translator → Bool
+  pub raw_packet : ℕ → P → RawItem
+  pub raw_wrong : ℕ → Reason → RawItem
+  pub laws : (first : ℕ) → IsSide first (half first) reader takes flag raw_packet raw_wrong
+
+abbrev pub client_side : TakenSide (Unit {0}) ClientPacket
+client_side = record {
+  half = client_half;
+  reader = client_reader;
+  steady = client-steady;
+  takes = asked_takes_memory;
+  flag = λ t. t.client_over;
+  raw_packet = raw.Asked;
+  raw_wrong = raw.ClientWrong;
+  laws = is-client;
+}
+
+abbrev pub host_side : TakenSide RedirState (Header × RedirPacket)
+host_side = record {
+  half = host_half;
+  reader = host_reader;
+  steady = host-steady;
+  takes = told_takes_memory;
+  flag = λ t. t.host_over;
+  raw_packet = raw_told;
+  raw_wrong = raw.HostWrong;
+  laws = is-host;
 }

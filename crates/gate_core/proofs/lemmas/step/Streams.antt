@@ -1,10 +1,9 @@
 -- What a side's stream answers next is an item that the translator can take.
-use Rattle.std.proofs.Common.{◌≡◌, ℕ, Bool, true, false, List, [], ◌∷◌, ◌++◌, Some, None, Ok, Err, refl, sym, subst, ◌∙◌, append_assoc, arith}
+use Rattle.std.proofs.Common.{◌≡◌, ℕ, Bool, true, false, List, [], ◌∷◌, ◌++◌, Some, Ok, refl, sym, subst, ◌∙◌, append_assoc, arith}
 use Rattle.std.proofs.Props.{props}
 use Rattle.std.proofs.Math.Logic.{∥∥₁_elim}
 use Rattle.usb_base.specs.Number.{AreBytes}
 use Rattle.usb_base.specs.declared.reason.Reason.{Reason}
-use Rattle.packet_stream.specs.declared.read.ReadError.TheVariants.{Refused, Memory as OutOfMemory}
 use Rattle.packet_stream.specs.Split.{Reader, Splitting, split}
 use Rattle.packet_stream.specs.Streams.{StreamView, Left, FollowsBy, Nexts, capped}
 use Rattle.packet_stream.proofs.Following.{follows-front}
@@ -19,12 +18,11 @@ use Rattle.gate_history.specs.declared.item.Item.TheVariants as raw
 use Rattle.gate_core.specs.declared.state.kept.Kept.{Kept as Translator}
 use Rattle.gate_history.specs.step.Streams.{client_reader, host_reader, host_start}
 use Rattle.gate_history.specs.step.Came.{told}
-use Rattle.gate_history.specs.step.Fits.{ToldFits, ItemFits}
+use Rattle.gate_history.specs.step.Fits.{ToldFits}
 use Rattle.gate_core.specs.inner.Steps.{raw_told}
-use Rattle.gate_core.specs.inner.Sides.{Half, GoesOn, FitsNext, client_half, host_half}
+use Rattle.gate_core.proofs.lemmas.step.Halves.{Half, GoesOn, FitsNext, client_half, host_half}
 use Rattle.gate_history.proofs.lemmas.step.Capabilities.{told-fits, told_fits-prop}
 use Rattle.gate_core.proofs.lemmas.step.NextPacket.{IsReadable, fits-next}
-use Rattle.gate_core.proofs.lemmas.step.Pieces.{same-item}
 
 -- ---- the client's
 
@@ -43,14 +41,10 @@ readable first h kept t g runs =
     let left = left-by h.stream.reader kept (split h.stream.reader h.stream.start g.bytes) (h.came g.items) kept.over runs g.follows.follows in
     (left.fits, capped-again kept.place left.at.place left.place)
 
-pub asked-fits : FitsNext client_half client_reader asked_takes_memory raw.Asked raw.ClientWrong
-asked-fits kept new t (Ok None) item goes is changes nexts = absurd cc
-asked-fits kept new t (Ok (Some i)) item goes is changes nexts =
+pub asked-fits : FitsNext client_half client_reader asked_takes_memory raw.Asked
+asked-fits kept new t i goes changes nexts =
     let can : IsReadable kept = λ runs. ∥∥₁_elim (goes runs) (readable-prop kept) (λ w. readable w.0 (client_half w.0) kept t w.1 runs) in
-    subst (ItemFits t.caps) (same-item (raw.Asked i.0 i.1) item is)
-    (fits-next (λ s. client_packets) (λ s p. s) (λ s. client_packets_sound) asked_takes_memory kept new (Ok (Some i)) i can changes nexts refl)
-asked-fits kept new t (Err (Refused place why)) item goes is changes nexts = subst (ItemFits t.caps) (same-item (raw.ClientWrong place why) item is) tt
-asked-fits kept new t (Err (OutOfMemory memory)) item goes is changes nexts = absurd cc
+    fits-next (λ s. client_packets) (λ s p. s) (λ s. client_packets_sound) asked_takes_memory kept new (Ok (Some i)) i can changes nexts refl
 
 -- ---- the host's
 
@@ -63,10 +57,5 @@ told-next first kept new t i nexts g =
     let parts : (split host_reader host_start g.bytes).packets ≡ given ++ (n.at, i.1) ∷ front.0 = front.1 ∙ append_assoc given one front.0 in
     subst (λ (c : Caps). ToldFits c i.1.0 i.1.1) (sym g.translates.state.caps) (told-fits first g.items g.bytes front.0 (n.at, i.1) g.runs g.follows.fits parts)
 
-pub told-fits-next : FitsNext host_half host_reader told_takes_memory raw_told raw.HostWrong
-told-fits-next kept new t (Ok None) item goes is changes nexts = absurd cc
-told-fits-next kept new t (Ok (Some i)) item goes is changes nexts =
-    subst (ItemFits t.caps) (same-item (raw_told i.0 i.1) item is)
-    (∥∥₁_elim (goes changes.1) (told_fits-prop t.caps i.1.0 i.1.1) (λ w. told-next w.0 kept new t i nexts w.1))
-told-fits-next kept new t (Err (Refused place why)) item goes is changes nexts = subst (ItemFits t.caps) (same-item (raw.HostWrong place why) item is) tt
-told-fits-next kept new t (Err (OutOfMemory memory)) item goes is changes nexts = absurd cc
+pub told-fits-next : FitsNext host_half host_reader told_takes_memory raw_told
+told-fits-next kept new t i goes changes nexts = ∥∥₁_elim (goes changes.1) (told_fits-prop t.caps i.1.0 i.1.1) (λ w. told-next w.0 kept new t i nexts w.1)

@@ -9,11 +9,11 @@ use Rattle.packet_stream.specs.declared.read.ReadError.TheVariants.{Refused, Mem
 use Rattle.packet_stream.specs.Split.{Reader, Position, split}
 use Rattle.packet_stream.specs.Streams.{StreamView, passed, ended, after_piece, after_piece_by, Follows, Drained, Closed, Answered, Nexts, Puts, Changes, capped}
 use Rattle.packet_stream.specs.Items.{SideStream, packets, wrongs, added}
+use Rattle.packet_stream.specs.Takers.{ended_if}
 use Rattle.packet_stream.proofs.Laws.{IsSteady}
 use Rattle.packet_stream.proofs.Following.{drained-follows, follows-front, follows-holds, over_after}
 use Rattle.packet_stream.proofs.Pieces.{added-more, added-front}
 use Rattle.gate_core.specs.step.Stands.{HasAll, IsLeftBy}
-use Rattle.gate_core.specs.inner.Steps.{ended_if}
 
 -- what is known of the stream before the piece
 pub record Before {S P : Type 0} (r : Reader S P Reason) (start : Position S) (bytes : List ℕ) (given : List (ℕ × P)) : Type 0 where

@@ -1,44 +1,35 @@
-use Rattle.std.proofs.Common.{◌++◌, refl, sym, ◌∙◌, arith}
-use Rattle.redir_host.specs.step.Acts.{guest_bytes}
-use Rattle.redir_host.specs.guest.Guest.{guest_split}
-use Rattle.redir_host.proofs.lemmas.guest.PieceEnds.{on-err, over-piece, all-taken, wrong-told, stops-first, stops-packet, stops-note}
-use Rattle.redir_host.proofs.lemmas.guest.Pieces.{before}
+use Rattle.std.proofs.Common.{rules, sym, is_some, arith}
 use Rattle.redir_host.specs.inner.Views.{kept_of}
+use Rattle.redir_host.specs.step.Acts.{guest_bytes}
+use Rattle.redir_host.proofs.lemmas.guest.PieceEnds.{before, piece-ok, piece-err}
+use Rattle.redir_host.proofs.lemmas.guest.Pieces.{borrows-piece, can-take, within}
 use Rattle.redir_host.proofs.inner.Inner.take.Goals as goal
 
-pub returns-then-is_over-clause-ok : goal.returns-then-is_over-clause-ok
-returns-then-is_over-clause-ok g c first acts stands =
-    over-piece g.G.Gadget.meaning first (kept_of c.args.self.now) acts c.args.piece.now c.args.out.now c.args.notes.now (λ i. omega (arith, c.type_inv.piece i)) stands (sym c.is_over.ensures ∙ c.if-is_over.true)
-
-pub take_packets-requires-clause-read : goal.take_packets-requires-clause-read
-take_packets-requires-clause-read g c =
+pub take_piece-requires : goal.take_piece-requires
+take_piece-requires g c now reaches new i changes nexts =
+    let m = g.G.Gadget.meaning in
     let acts = c.requires.1.0 in
-    let stands = c.requires.1.1 in
-    let b = before g.G.Gadget.meaning c.requires.0 (kept_of c.args.self.now) c.put.new.self acts c.args.piece.now (λ i. omega (arith, c.type_inv.piece i)) stands (sym c.is_over.ensures ∙ c.if-is_over.false) c.in_ok-put.ensures.ok c.in_ok-put.ensures.follows in
-    (guest_bytes acts ++ c.args.piece.now, ((guest_split (guest_bytes acts)).packets, record { follows = b.follows; state = stands.state }))
+    let piece = c.args.piece.now in
+    let before = before m c.requires.0 (kept_of c.args.self.now) acts c.requires.1.1 in
+    can-take m (guest_bytes acts) piece _ now new i (within m g.met.G.Gadget.lawful c.args.self.now.stream _ now (guest_bytes acts) piece (λ i. omega (arith, c.type_inv.piece i)) before reaches) changes nexts
 
-pub returns-in_err-push-in-Err-Refused-clause-err : goal.returns-in_err-push-in-Err-Refused-clause-err
-returns-in_err-push-in-Err-Refused-clause-err g c =
-    on-err c.from_residual-in_err-push-in-Err-Refused.result _
-    (λ first acts stands.
-    stops-note g.G.Gadget.meaning first (kept_of c.args.self.now) c.take_packets.new.host c.put.new.self c.take_packets.new.stream acts c.args.piece.now c.args.out.now c.take_packets.new.out c.args.notes.now c.take_packets.new.notes c.in-Err-Refused.place c.in-Err-Refused.reason
-    (λ i. omega (arith, c.type_inv.piece i)) stands (sym c.is_over.ensures ∙ c.if-is_over.false) c.in_ok-put.ensures.ok c.in_ok-put.ensures.follows c.in-Err-Refused.field-0 c.in-Err-Refused.field-0-is c.in-Err-Refused.ensures.takes)
+-- the host is lent to the taker until the end
+pub shape_of-self : goal.shape_of-self
+shape_of-self g c =
+    let p = c.take_piece in
+    sym (borrows-piece g.G.Gadget.meaning p.result _ (record { stream = p.new.stream; taker = p.new.taker }) c.args.piece.now p.ensures).host
 
-pub returns-in-Ok-clause-ok : goal.returns-in-Ok-clause-ok
-returns-in-Ok-clause-ok g c first acts stands =
-    all-taken g.G.Gadget.meaning first (kept_of c.args.self.now) _ c.put.new.self acts c.args.piece.now c.args.out.now c.take_packets.new.out c.args.notes.now c.take_packets.new.notes
-    (λ i. omega (arith, c.type_inv.piece i)) stands (sym c.is_over.ensures ∙ c.if-is_over.false) c.in_ok-put.ensures.ok c.in_ok-put.ensures.follows refl c.in-Ok.ensures.takes
+pub returns-clause-ok : goal.returns-clause-ok
+returns-clause-ok g c =
+    let m = g.G.Gadget.meaning in
+    let p = c.take_piece in
+    let borrows = borrows-piece m p.result _ (record { stream = p.new.stream; taker = p.new.taker }) c.args.piece.now p.ensures in
+    piece-ok m g.met.G.Gadget.lawful (is_some c.args.self.now.want) p.result _ (record { stream = p.new.stream; taker = p.new.taker }) _ c.args.piece.now _ _ (λ i. omega (arith, c.type_inv.piece i))
+    (search rules) (search rules) (search rules) p.ensures
 
-pub returns-in_ok-push-in-Err-Refused-clause-ok : goal.returns-in_ok-push-in-Err-Refused-clause-ok
-returns-in_ok-push-in-Err-Refused-clause-ok g c first acts stands =
-    wrong-told g.G.Gadget.meaning first (kept_of c.args.self.now) _ c.put.new.self acts c.args.piece.now c.args.out.now c.take_packets.new.out c.args.notes.now c.take_packets.new.notes c.push.new.self c.in-Err-Refused.place c.in-Err-Refused.reason
-    (λ i. omega (arith, c.type_inv.piece i)) stands (sym c.is_over.ensures ∙ c.if-is_over.false) c.in_ok-put.ensures.ok c.in_ok-put.ensures.follows refl c.in-Err-Refused.field-0 c.in-Err-Refused.field-0-is c.in-Err-Refused.ensures.takes c.in_ok-push-in-Err-Refused.ensures.ok
-
-pub returns-in-Err-Memory-clause-err : goal.returns-in-Err-Memory-clause-err
-returns-in-Err-Memory-clause-err g c first acts stands =
-    stops-packet g.G.Gadget.meaning first (kept_of c.args.self.now) c.put.new.self acts c.args.piece.now c.args.out.now c.take_packets.new.out
-    (λ i. omega (arith, c.type_inv.piece i)) stands (sym c.is_over.ensures ∙ c.if-is_over.false) c.in_ok-put.ensures.ok c.in_ok-put.ensures.follows c.in-Err-Memory.field-0 _ c.in-Err-Memory.field-0-is c.in-Err-Memory.ensures.wants
-
-pub returns-in_err-put-clause-err : goal.returns-in_err-put-clause-err
-returns-in_err-put-clause-err g c =
-    on-err c.from_residual.result _ (λ first acts stands. stops-first g.G.Gadget.meaning first (kept_of c.args.self.now) acts c.args.piece.now c.args.out.now stands c.in_err-put.ensures.wants)
+pub returns-clause-err : goal.returns-clause-err
+returns-clause-err g c =
+    let m = g.G.Gadget.meaning in
+    let p = c.take_piece in
+    let borrows = borrows-piece m p.result _ (record { stream = p.new.stream; taker = p.new.taker }) c.args.piece.now p.ensures in
+    piece-err m g.met.G.Gadget.lawful (is_some c.args.self.now.want) p.result _ (record { stream = p.new.stream; taker = p.new.taker }) c.args.piece.now _ (λ i. omega (arith, c.type_inv.piece i)) (search rules) p.ensures

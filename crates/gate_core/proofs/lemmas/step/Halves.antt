@@ -1,8 +1,7 @@
 -- Either side of the gate: how its stream is read, where its items stand among all, and what taking a piece of it does.
-use Rattle.std.specs.Prelude.{◌≡◌, ◌⊎◌, ◌<◌, ◌++◌, ◌∷◌, ℕ, Bool, true, false, List, [], length, Option, Some, Result, Ok, Err}
+use Rattle.std.specs.Prelude.{◌≡◌, ◌⊎◌, ◌<◌, ◌++◌, ◌∷◌, ℕ, Bool, true, false, List, [], length, Some, Result, Ok, Err}
 use Rattle.usb_base.specs.declared.memory.Memory.{Memory}
 use Rattle.usb_base.specs.declared.reason.Reason.{Reason}
-use Rattle.packet_stream.specs.declared.read.ReadError.{ReadError}
 use Rattle.packet_stream.specs.Split.{Reader}
 use Rattle.packet_stream.specs.Streams.{StreamView, passed, Follows, Nexts, Changes, capped}
 use Rattle.packet_stream.specs.Items.{SideStream, added}
@@ -24,7 +23,7 @@ use Rattle.gate_parts.specs.declared.write.outputs.Outputs.{Outputs}
 use Rattle.gate_core.specs.declared.state.kept.Kept.{Kept as Translator}
 use Rattle.gate_core.specs.step.Stands.{Translates, StreamStands, HasAll}
 use Rattle.gate_core.specs.inner.Holds.{items_of, DoesNothing}
-use Rattle.gate_core.specs.inner.Steps.{Sends, item_next}
+use Rattle.gate_core.specs.inner.Steps.{Sends}
 
 -- ---- what a side is
 
@@ -89,11 +88,11 @@ pub record GoesOn {S P : Type 0} (first : ℕ) (h : Half S P) (kept : StreamView
   pub runs : h.stream.over items ≡ false
   pub translates : Translates first (items_of t) items
 
--- what it answers next, wherever it stands, is an item that the translator can take
-abbrev pub FitsNext : {S P : Type 0} → (ℕ → Half S P) → Reader S P Reason → (P → Bool) → (ℕ → P → RawItem) → (ℕ → Reason → RawItem) → Type 0
-FitsNext {S = S} {P = P} half r takes raw_packet raw_wrong =
-    (kept new : StreamView S) (t : Translator) (answer : Result (Option (ℕ × P)) ReadError) (item : RawItem) → (kept.over ≡ false → ∥ ((first : ℕ) × GoesOn first (half first) kept t) ∥₁) →
-    item_next raw_packet raw_wrong answer ≡ Ok (Some item) → Changes answer kept new → Nexts r takes answer kept new → ItemFits t.caps item
+-- a packet that comes next, wherever it stands, is an item that the translator can take
+abbrev pub FitsNext : {S P : Type 0} → (ℕ → Half S P) → Reader S P Reason → (P → Bool) → (ℕ → P → RawItem) → Type 0
+FitsNext {S = S} {P = P} half r takes raw_packet =
+    (kept new : StreamView S) (t : Translator) (i : ℕ × P) → (kept.over ≡ false → ∥ ((first : ℕ) × GoesOn first (half first) kept t) ∥₁) →
+    Changes (Ok (Some i)) kept new → Nexts r takes (Ok (Some i)) kept new → ItemFits t.caps (raw_packet i.0 i.1)
 
 -- ---- a piece of it
 
