@@ -1,5 +1,5 @@
 -- A stream follows the splitting of its bytes: what its first moment, a piece and an answer of `next` make of that.
-use Rattle.std.proofs.Common.{◌≡◌, ℕ, zero, suc, ◌<◌, ◌≤◌, ◌+◌, Bool, true, false, List, [], ◌∷◌, ◌++◌, length, drop, Some, None, refl, sym, ap, subst, ◌∙◌, append_assoc, arith}
+use Rattle.std.proofs.Common.{◌≡◌, ℕ, zero, suc, ◌<◌, ◌≤◌, ◌+◌, Bool, true, false, List, [], ◌∷◌, ◌++◌, length, drop, Option, Some, None, Result, refl, sym, ap, subst, ◌∙◌, append_assoc, arith}
 use Rattle.std.proofs.lemmas.List.{append-nil, length-drop}
 use Rattle.usb_base.specs.Number.{AreBytes}
 use Rattle.packet_stream.specs.Format.{Found, Whole, Short, Wrong}
@@ -7,8 +7,9 @@ use Rattle.packet_stream.specs.Split.{Reader, Position, past, Splitting, split, 
 use Rattle.usb_base.proofs.Numbers.{AreBytes-append, AreBytes-drop}
 use Rattle.packet_stream.proofs.Laws.{IsSteady, split-is, split-more, further-with}
 use Rattle.usb_base.specs.declared.reason.Reason.{Reason}
+use Rattle.packet_stream.specs.declared.read.ReadError.{ReadError}
 use Rattle.packet_stream.specs.Reads.{WantsMemory}
-use Rattle.packet_stream.specs.Streams.{capped, StreamView, passed, Left, FollowsBy, Follows, Drained, Wrongs, Gives, Wants, Holds, after_piece, after_piece_by}
+use Rattle.packet_stream.specs.Streams.{capped, StreamView, passed, Left, FollowsBy, Follows, Drained, Wrongs, Gives, Wants, Holds, Changes, after_piece, after_piece_by}
 
 with_packets-twice : {S P R : Type 0} (front more : List (ℕ × P)) (y : Splitting S P R) → with_packets front (with_packets more y) ≡ with_packets (front ++ more) y
 with_packets-twice {P = P} front more y = ap (λ (l : List (ℕ × P)). record y { packets = l }) (sym (append_assoc front more y.packets))
@@ -192,3 +193,6 @@ drained-follows {S = S} {P = P} {R = R} r steady start kept bytes given fits goi
       fits = subst AreBytes (sym d.rest) (rest_bytes r steady start bytes fits);
     } in
     record { fits = fits; follows = subst (FollowsBy r kept x given) (sym going) left }
+
+pub changed_to : {S P : Type 0} (old new : StreamView S) (result answer : Result (Option (ℕ × P)) ReadError) → Changes result old new → result ≡ answer → Changes answer old new
+changed_to {P = P} old new result answer c is = subst (λ (x : Result (Option (ℕ × P)) ReadError). Changes x old new) is c

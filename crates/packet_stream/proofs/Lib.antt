@@ -5,7 +5,6 @@ pub mod Awaiting
 pub mod Laws
 pub mod Splits
 pub mod Following
-pub mod Loops
 pub mod Takers
 pub mod Pieces
 pub mod Fronts

@@ -5,6 +5,5 @@ pub mod Reads
 pub mod Writes
 pub mod Split
 pub mod Streams
-pub mod Loops
 pub mod Takers
 pub mod Items

@@ -11,7 +11,7 @@ use Rattle.packet_stream.specs.declared.read.ReadError.{ReadError}
 use Rattle.packet_stream.specs.declared.read.ReadError.TheVariants.{Refused, Memory}
 use Rattle.packet_stream.specs.Split.{Reader, Splitting, split}
 use Rattle.packet_stream.specs.Streams.{StreamView, capped, passed, FollowsBy, Follows, Drained, Wrongs, Answered, Nexts, Changes, after_piece, after_piece_by, Puts}
-use Rattle.packet_stream.proofs.Loops.{changed_to}
+use Rattle.packet_stream.proofs.Following.{changed_to}
 use Rattle.gate_history.specs.step.Events.{Event}
 use Rattle.usbgate_tapes.specs.Show.{Shown, packet_lines, wrong_line, split_text, stream_split, was_wrong, is_wrong, stream_text, show_side}
 use Rattle.usbgate_tapes.specs.tape.Tape.{added}

@@ -6,9 +6,8 @@ use Rattle.packet_stream.specs.Format.{Format, IsSound}
 use Rattle.packet_stream.specs.Split.{Position, Spells, reads, split}
 use Rattle.packet_stream.specs.declared.read.ReadError.{ReadError}
 use Rattle.packet_stream.specs.Streams.{StreamView, Left, FollowsBy, Follows, Gives, Answered, Nexts, Changes, capped}
-use Rattle.packet_stream.proofs.Following.{follows-front}
+use Rattle.packet_stream.proofs.Following.{changed_to, follows-front}
 use Rattle.packet_stream.proofs.Splits.{is_splitting}
-use Rattle.packet_stream.proofs.Loops.{changed_to}
 
 -- the bytes of a stream are bytes, and its place is one
 abbrev pub IsReadable : {S : Type 0} → StreamView S → Type 0
