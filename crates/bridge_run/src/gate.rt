@@ -1,11 +1,9 @@
 //! The gate as what is served.
 
-ghost use Rattle.std.specs.Prelude.{◌≡◌, ◌++◌, ◌||◌, false, true, Some, OnOk, OnErr};
+ghost use Rattle.std.specs.Prelude.{◌≡◌, ◌++◌, ◌||◌, false, true, OnOk, OnErr};
 ghost use Rattle.std.specs.List.{flat_map, list_any};
-ghost use Rattle.gate_history.specs.step.Events.{event_of as told_of};
-ghost use Rattle.bridge_run.specs.Events.{SidePiece, SideEnd};
 ghost use Rattle.gate_history.specs.write.Refusals.{refusal_in};
-ghost use Rattle.bridge_run.specs.Gate.{gate_event, is_loss};
+ghost use Rattle.bridge_run.specs.Gate.{is_loss};
 ghost use Rattle.bridge_run.specs.Recorded.{has_any};
 
 use crate::after_loss::AfterLoss;
@@ -46,34 +44,16 @@ impl Served for Gateway {
         // That a client has come, or is quiet, is nothing to a gate.
         let told = match event {
             LinkEvent::ClientComes | LinkEvent::ClientQuiet => return Ok(()),
-            LinkEvent::SidePiece(side, bytes) => piece(side, bytes),
-            LinkEvent::SideEnd(side) => end_of(side),
+            LinkEvent::SidePiece(Side::Client, bytes) => GateEvent::ClientPiece(bytes),
+            LinkEvent::SidePiece(Side::Host, bytes) => GateEvent::HostPiece(bytes),
+            LinkEvent::SideEnd(Side::Client) => GateEvent::ClientEnd,
+            LinkEvent::SideEnd(Side::Host) => GateEvent::HostEnd,
         };
         let notes = self
             .gate
             .take(told, &mut sent.to_client, &mut sent.to_host)?;
         sent.lets_go |= lets_go(self.after_loss, &notes);
         push_refusals(&notes, &mut sent.refusals)
-    }
-}
-
-/// A piece of a side's stream, as the gate takes it.
-fn piece(side: Side, bytes: &[u8]) -> GateEvent<'_>
-    ensures { gate_event (SidePiece side bytes.now) ≡ Some (told_of result) }
-{
-    match side {
-        Side::Client => GateEvent::ClientPiece(bytes),
-        Side::Host => GateEvent::HostPiece(bytes),
-    }
-}
-
-/// The end of a side, as the gate takes it.
-fn end_of(side: Side) -> GateEvent<'static>
-    ensures { gate_event (SideEnd side) ≡ Some (told_of result) }
-{
-    match side {
-        Side::Client => GateEvent::ClientEnd,
-        Side::Host => GateEvent::HostEnd,
     }
 }
 
