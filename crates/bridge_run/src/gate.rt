@@ -17,8 +17,8 @@ use usb_base::{List, Memory, Refusal, Side};
 /// A gate, and what becomes of a client whose device is lost.
 #[derive(Drop)]
 pub struct Gateway {
-    pub gate: Gate,
-    pub after_loss: AfterLoss,
+    pub(crate) gate: Gate,
+    pub(crate) after_loss: AfterLoss,
 }
 
 impl Served for Gateway {

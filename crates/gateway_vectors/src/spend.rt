@@ -20,8 +20,7 @@ pub fn spend<D: Doors, K: Sink>(
     doors: &mut D,
     out: &mut K,
 ) -> Status
-    requires client_down { (D.link doors.old Client).up ≡ false }
-    requires host_down { (D.link doors.old Host).up ≡ false }
+    requires down { ((D.link doors.old Client).up ≡ false) × ((D.link doors.old Host).up ≡ false) }
     requires budget { 1 ≤ budget }
 {
     match words {
