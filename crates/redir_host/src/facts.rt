@@ -7,13 +7,13 @@ ghost use Rattle.redir_wire.specs.declared.packet.TheConstants.Caps.{MAX_PACKET_
 ghost use Rattle.redir_wire.specs.Capability.{has};
 ghost use Rattle.redir_wire.specs.Ranges.{Ranges};
 ghost use Rattle.redir_wire.specs.declared.packet.TheConstants.{MAX_INTERFACES};
-ghost use Rattle.redir_host.specs.device.Facts.{connect_of, ep_info_of, kind_byte};
+ghost use Rattle.redir_host.specs.device.Facts.{connect_of, ep_info_of};
 ghost use Rattle.redir_host.specs.write.Told.{facts_bytes, connect_bytes};
 
 use crate::write::write;
 use redir_data::RedirPacket;
 use redir_wire::{Caps, Connect, EpInfo, InterfaceInfo, RedirControl};
-use usb_base::{Bytes, EpKind, EpRow, EpTable, Memory};
+use usb_base::{Bytes, EpRow, EpTable, Memory};
 
 /// Appends the endpoints and the interfaces. For want of memory what was there still stands at the front.
 pub fn write_facts(
@@ -57,7 +57,7 @@ fn ep_info(table: &EpTable, caps: Caps) -> EpInfo
     };
     for index in 0..32 {
         let row = row_at(table, index);
-        info.kinds[index] = kind_byte(row.kind);
+        info.kinds[index] = row.kind.to_byte();
         info.interval[index] = row.interval;
         info.interface[index] = row.interface;
         info.max_packet[index] = max_packet(row, caps);
@@ -82,18 +82,6 @@ fn row_at(table: &EpTable, index: usize) -> EpRow
     ensures { result ≡ get_or table.now.rows index no_endpoint }
 {
     table.rows[index]
-}
-
-fn kind_byte(kind: EpKind) -> u8
-    ensures { result ≡ kind_byte kind }
-{
-    match kind {
-        EpKind::Control => 0,
-        EpKind::Iso => 1,
-        EpKind::Bulk => 2,
-        EpKind::Interrupt => 3,
-        EpKind::Invalid => 255,
-    }
 }
 
 /// What is told as the device is plugged in.

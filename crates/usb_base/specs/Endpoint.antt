@@ -25,9 +25,16 @@ out_endpoints = 0 ∷ 1 ∷ 2 ∷ 3 ∷ 4 ∷ 5 ∷ 6 ∷ 7 ∷ 8 ∷ 9 ∷ 10 �
 abbrev pub in_endpoints : List ℕ
 in_endpoints = 129 ∷ 130 ∷ 131 ∷ 132 ∷ 133 ∷ 134 ∷ 135 ∷ 136 ∷ 137 ∷ 138 ∷ 139 ∷ 140 ∷ 141 ∷ 142 ∷ 143 ∷ []
 
--- the byte that a usbredir ep_info has
+-- the kind that a byte of a usbredir ep_info tells, and the byte that tells a kind
 abbrev pub kind_of_byte : ℕ → EpKind
 kind_of_byte byte = if byte == 0 then Control else if byte == 1 then Iso else if byte == 2 then Bulk else if byte == 3 then Interrupt else Invalid
+
+abbrev pub byte_of_kind : EpKind → ℕ
+byte_of_kind Control = 0
+byte_of_kind Iso = 1
+byte_of_kind Bulk = 2
+byte_of_kind Interrupt = 3
+byte_of_kind Invalid = 255
 
 abbrev pub no_endpoint : EpRow
 no_endpoint = record { kind = Invalid; interval = 0; interface = 0; max_packet = 0 }

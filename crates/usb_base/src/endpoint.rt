@@ -1,7 +1,7 @@
 //! Endpoints: their addresses, their kinds, and the table of a device's 32 (USB 2.0, 9.6.6).
 
 ghost use Rattle.std.specs.Prelude.{◌≡◌, ◌<◌, ◌↔◌, IsSome, IfSome};
-ghost use Rattle.usb_base.specs.Endpoint.{IsEndpoint, endpoint_index, in_endpoints, is_in_endpoint, kind_of_byte, no_endpoints, out_endpoints, row_of};
+ghost use Rattle.usb_base.specs.Endpoint.{IsEndpoint, byte_of_kind, endpoint_index, in_endpoints, is_in_endpoint, kind_of_byte, no_endpoints, out_endpoints, row_of};
 ghost use Rattle.usb_base.specs.declared.endpoint.TheConstants.{ENDPOINTS};
 
 use std::marker::Model;
@@ -147,6 +147,20 @@ impl EpKind {
             2 => EpKind::Bulk,
             3 => EpKind::Interrupt,
             _ => EpKind::Invalid,
+        }
+    }
+
+    /// The byte that tells it in a usbredir ep_info: 255 where there is no such endpoint.
+    pub fn to_byte(self) -> u8
+        ensures byte { result ≡ byte_of_kind self }
+        ensures again { kind_of_byte result ≡ self }
+    {
+        match self {
+            EpKind::Control => 0,
+            EpKind::Iso => 1,
+            EpKind::Bulk => 2,
+            EpKind::Interrupt => 3,
+            EpKind::Invalid => 255,
         }
     }
 }

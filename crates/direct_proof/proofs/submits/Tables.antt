@@ -5,12 +5,12 @@ use Rattle.usb_base.specs.declared.endpoint.EpTable.{EpTable}
 use Rattle.usb_base.specs.declared.endpoint.EpRow.{EpRow}
 use Rattle.usb_base.specs.declared.endpoint.EpKind.{EpKind}
 use Rattle.usb_base.specs.declared.endpoint.EpKind.TheVariants as kind
-use Rattle.usb_base.specs.Endpoint.{row_of, no_endpoint, kind_of_byte, endpoint_index}
+use Rattle.usb_base.specs.Endpoint.{row_of, no_endpoint, kind_of_byte, byte_of_kind, endpoint_index}
 use Rattle.redir_wire.specs.declared.packet.EpInfo.{EpInfo}
 use Rattle.redir_wire.specs.EpTable.{ep_row, ep_rows, table_of}
 use Rattle.redir_wire.specs.declared.packet.TheConstants.Caps.{MAX_PACKET_SIZE}
 use Rattle.redir_wire.specs.Capability.{has}
-use Rattle.redir_host.specs.device.Facts.{kind_byte, column, ep_info_of}
+use Rattle.redir_host.specs.device.Facts.{column, ep_info_of}
 use Rattle.direct_run.specs.Packets.{both_caps}
 
 get-last : {X : Type 0} (xs : List X) (y : X) (d : X) → get_or (xs ++ y ∷ []) (length xs) d ≡ y
@@ -49,7 +49,7 @@ unfolding ep_rows
 rows-cell e zero k d h = absurd (omega (arith, h))
 rows-cell e (suc n) k d h = get-next (ep_rows e n) (ep_row e n) n k d (ep_row e) (rows-long e n) refl h (rows-cell e n k d)
 
-same-kind : (k : EpKind) → kind_of_byte (kind_byte k) ≡ k
+same-kind : (k : EpKind) → kind_of_byte (byte_of_kind k) ≡ k
 same-kind kind.Control = refl
 same-kind _ = refl
 
@@ -57,7 +57,7 @@ pub row-told : (t : EpTable) (ep : ℕ) → endpoint_index ep < 32 → row_of (t
 row-told t ep h =
     rows-cell (ep_info_of both_caps t) 32 k no_endpoint h
     ∙ (λ i. record {
-      kind = (ap kind_of_byte (column-cell (λ r. kind_byte r.kind) t 32 k 0 h) ∙ same-kind (row_of t ep).kind) i;
+      kind = (ap kind_of_byte (column-cell (λ r. byte_of_kind r.kind) t 32 k 0 h) ∙ same-kind (row_of t ep).kind) i;
       interval = column-cell (λ r. r.interval) t 32 k 0 h i;
       interface = column-cell (λ r. r.interface) t 32 k 0 h i;
       max_packet = column-cell (λ r. if has both_caps MAX_PACKET_SIZE then r.max_packet else 0) t 32 k 0 h i;

@@ -1,8 +1,6 @@
 -- What a host tells of its device ("usb_redir_device_connect", "usb_redir_interface_info", "usb_redir_ep_info").
 use Rattle.std.specs.Prelude.{ℕ, zero, suc, if◌then◌else◌, List, [], ◌∷◌, ◌++◌, get_or}
-use Rattle.usb_base.specs.Endpoint.{no_endpoint}
-use Rattle.usb_base.specs.declared.endpoint.EpKind.{EpKind}
-use Rattle.usb_base.specs.declared.endpoint.EpKind.TheVariants.{Control, Iso, Bulk, Interrupt, Invalid}
+use Rattle.usb_base.specs.Endpoint.{byte_of_kind, no_endpoint}
 use Rattle.usb_base.specs.declared.endpoint.EpRow.{EpRow}
 use Rattle.usb_base.specs.declared.endpoint.EpTable.{EpTable}
 use Rattle.redir_wire.specs.declared.packet.Caps.{Caps}
@@ -15,13 +13,6 @@ use Rattle.redir_data.specs.declared.packet.RedirPacket.{RedirPacket}
 use Rattle.redir_data.specs.declared.packet.RedirPacket.TheVariants.{Plain}
 use Rattle.model_device.specs.Meaning.{Meaning}
 
-abbrev pub kind_byte : EpKind → ℕ
-kind_byte Control = 0
-kind_byte Iso = 1
-kind_byte Bulk = 2
-kind_byte Interrupt = 3
-kind_byte Invalid = 255
-
 -- what each of the first n rows has
 unfoldable pub column : (EpRow → ℕ) → EpTable → ℕ → List ℕ
 column f t zero = []
@@ -30,7 +21,7 @@ column f t (suc n) = column f t n ++ f (get_or t.rows n no_endpoint) ∷ []
 -- `usb_redir_cap_ep_info_max_packet_size`: the largest packets, 0 where they aren't sent
 abbrev pub ep_info_of : Caps → EpTable → EpInfo
 ep_info_of caps t = record {
-  kinds = column (λ r. kind_byte r.kind) t 32;
+  kinds = column (λ r. byte_of_kind r.kind) t 32;
   interval = column (λ r. r.interval) t 32;
   interface = column (λ r. r.interface) t 32;
   max_packet = column (λ r. if has caps MAX_PACKET_SIZE then r.max_packet else 0) t 32;
