@@ -4,46 +4,11 @@ ghost use Rattle.std.specs.Prelude.{◌≡◌};
 ghost use Rattle.chapter9.specs.Requests.{request_of};
 
 use usb_base::Setup;
-
-// bRequest (USB 2.0, table 9-4).
-const GET_STATUS: u8 = 0;
-
-const CLEAR_FEATURE: u8 = 1;
-
-const SET_FEATURE: u8 = 3;
-
-const SET_ADDRESS: u8 = 5;
-
-const GET_DESCRIPTOR: u8 = 6;
-
-const GET_CONFIGURATION: u8 = 8;
-
-const SET_CONFIGURATION: u8 = 9;
-
-const GET_INTERFACE: u8 = 10;
-
-const SET_INTERFACE: u8 = 11;
-
-// bmRequestType: the direction, the type and the recipient (USB 2.0, table 9-2).
-const TO_DEVICE: u8 = 0x00;
-
-const TO_INTERFACE: u8 = 0x01;
-
-const TO_ENDPOINT: u8 = 0x02;
-
-const TO_PORT: u8 = 0x23;
-
-const FROM_DEVICE: u8 = 0x80;
-
-const FROM_INTERFACE: u8 = 0x81;
-
-const FROM_ENDPOINT: u8 = 0x82;
-
-/// The feature selector of an endpoint's halt (USB 2.0, table 9-6).
-const ENDPOINT_HALT: u16 = 0;
-
-/// The feature selector of a port's reset (USB 2.0, table 11-17).
-const PORT_RESET: u16 = 4;
+use usb_base::request::{
+    CLEAR_FEATURE, ENDPOINT_HALT, FROM_DEVICE, FROM_ENDPOINT, FROM_INTERFACE, GET_CONFIGURATION,
+    GET_DESCRIPTOR, GET_INTERFACE, GET_STATUS, PORT_RESET, SET_ADDRESS, SET_CONFIGURATION,
+    SET_FEATURE, SET_INTERFACE, TO_DEVICE, TO_ENDPOINT, TO_INTERFACE, TO_PORT,
+};
 
 /// A request whose data go to the host. It leaves the device's state as it is.
 #[derive(Clone, Copy)]

@@ -4,6 +4,7 @@ use Rattle.std.specs.Prelude.{ℕ, ◌==◌, ◌&&◌, nat_lt, Bool, true, if◌
 use Rattle.std.specs.List.{find}
 use Rattle.std.specs.Option.{option_map_or}
 use Rattle.usb_base.specs.declared.setup.Setup.{Setup}
+use Rattle.usb_base.specs.declared.request.TheConstants.{TO_DEVICE, TO_INTERFACE, TO_PORT, FROM_DEVICE, FROM_INTERFACE, SET_FEATURE, SET_ADDRESS, GET_CONFIGURATION, SET_CONFIGURATION, GET_INTERFACE, SET_INTERFACE, PORT_RESET}
 use Rattle.control_route.specs.declared.route.Route.{Route}
 use Rattle.control_route.specs.declared.route.Route.TheVariants.{Local, SetConfig, GetConfig, SetAlt, GetAlt, Reset, Plain, Bad}
 
@@ -28,18 +29,12 @@ is_byte n = nat_lt n 256
 
 abbrev pub rows : List RouteRow
 rows =
-    -- SET_ADDRESS
-    record { request_type = 0x00; request = 5; only = any; good = has_no_data; route = λ s. Local } ∷
-    -- SET_CONFIGURATION
-    record { request_type = 0x00; request = 9; only = any; good = λ s. has_no_data s && is_byte s.value; route = λ s. SetConfig s.value } ∷
-    -- GET_CONFIGURATION
-    record { request_type = 0x80; request = 8; only = any; good = any; route = λ s. GetConfig } ∷
-    -- SET_INTERFACE
-    record { request_type = 0x01; request = 11; only = any; good = λ s. has_no_data s && is_byte s.index && is_byte s.value; route = λ s. SetAlt s.index s.value } ∷
-    -- GET_INTERFACE
-    record { request_type = 0x81; request = 10; only = any; good = λ s. is_byte s.index; route = λ s. GetAlt s.index } ∷
-    -- SetPortFeature of PORT_RESET
-    record { request_type = 0x23; request = 3; only = λ s. s.value == 4; good = has_no_data; route = λ s. Reset } ∷
+    record { request_type = TO_DEVICE; request = SET_ADDRESS; only = any; good = has_no_data; route = λ s. Local } ∷
+    record { request_type = TO_DEVICE; request = SET_CONFIGURATION; only = any; good = λ s. has_no_data s && is_byte s.value; route = λ s. SetConfig s.value } ∷
+    record { request_type = FROM_DEVICE; request = GET_CONFIGURATION; only = any; good = any; route = λ s. GetConfig } ∷
+    record { request_type = TO_INTERFACE; request = SET_INTERFACE; only = any; good = λ s. has_no_data s && is_byte s.index && is_byte s.value; route = λ s. SetAlt s.index s.value } ∷
+    record { request_type = FROM_INTERFACE; request = GET_INTERFACE; only = any; good = λ s. is_byte s.index; route = λ s. GetAlt s.index } ∷
+    record { request_type = TO_PORT; request = SET_FEATURE; only = λ s. s.value == PORT_RESET; good = has_no_data; route = λ s. Reset } ∷
     []
 
 abbrev pub is_for : Setup → RouteRow → Bool

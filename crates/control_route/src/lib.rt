@@ -3,7 +3,6 @@
 #![tactic(auto)]
 
 mod change;
-mod request;
 mod route;
 
 pub use change::{is_change, touches};

@@ -3,11 +3,11 @@
 ghost use Rattle.std.specs.Prelude.{◌≡◌, ◌==◌, ◌&&◌, if◌then◌else◌};
 ghost use Rattle.control_route.specs.Routes.{route_of, has_no_data, is_byte};
 
-use crate::request::{
+use usb_base::Setup;
+use usb_base::request::{
     FROM_DEVICE, FROM_INTERFACE, GET_CONFIGURATION, GET_INTERFACE, PORT_RESET, SET_ADDRESS,
     SET_CONFIGURATION, SET_FEATURE, SET_INTERFACE, TO_DEVICE, TO_INTERFACE, TO_PORT,
 };
-use usb_base::Setup;
 
 /// What the gateway does with a control transfer. Configurations, interfaces and alternate settings are kept
 /// by the host that has the device, so it is asked to change them by packets of their own (usbredir protocol

@@ -1,5 +1,5 @@
 //! What every crate of the gateway speaks of: lists of bytes, the two sides, refusals with their reasons, and
-//! USB's own words: setups, endpoints, statuses and transfers.
+//! USB's own words: setups and their requests, endpoints, statuses and transfers.
 #![tactic(auto)]
 
 mod endpoint;
@@ -10,6 +10,7 @@ mod packet_bytes;
 mod reason;
 mod receive_buffer;
 mod refusal;
+pub mod request;
 mod setup;
 mod side;
 mod speed;
