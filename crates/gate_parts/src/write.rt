@@ -2,7 +2,6 @@
 
 pub mod answer;
 pub mod ask;
-pub mod field;
 pub mod finish;
 pub mod outputs;
 pub mod refusal;

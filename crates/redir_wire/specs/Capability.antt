@@ -1,6 +1,7 @@
 -- Capabilities: which are there, which are agreed, and which the first word of a hello tells ("Capabilities negotiation").
-use Rattle.std.specs.Prelude.{◌≡◌, ◌==◌, ◌&&◌, Bool, get_or}
+use Rattle.std.specs.Prelude.{ℕ, ◌≡◌, ◌==◌, ◌&&◌, Bool, List, [], ◌∷◌, get_or}
 use Rattle.std.specs.Int.RustNames.{bit_and}
+use Rattle.usb_base.specs.Text.{padded}
 use Rattle.redir_wire.specs.declared.packet.Caps.{Caps}
 use Rattle.redir_wire.specs.declared.packet.Hello.{Hello}
 use Rattle.redir_wire.specs.declared.packet.TheConstants.Caps.{ANNOUNCED}
@@ -22,6 +23,10 @@ no_caps = record { 0 = 0 }
 -- those of the first word; a hello may have none
 abbrev pub caps_of : Hello → Caps
 caps_of h = record { 0 = get_or h.words 0 0 }
+
+-- the hello of a program that is called so and has these capabilities
+abbrev pub hello_of : List ℕ → Caps → Hello
+hello_of name caps = record { version = padded 64 name; words = caps.0 ∷ [] }
 
 -- what the gateway announces: the version of a device_connect, the acknowledgement of a disconnect, max packet sizes, 64-bit ids
 -- and 32-bit bulk lengths

@@ -1,10 +1,12 @@
 //! Capabilities, as the words of a hello have them ("Capabilities negotiation").
 
-ghost use Rattle.std.specs.Prelude.{⊤, ◌≡◌, [], ◌∷◌, codes};
-ghost use Rattle.redir_wire.specs.Capability.{has, agreed, caps_of, no_caps, HasBoth};
+ghost use Rattle.std.specs.Prelude.{⊤, ◌≡◌, ◌≤◌, [], ◌∷◌, codes, length, IfOk};
+ghost use Rattle.redir_wire.specs.Capability.{has, agreed, caps_of, hello_of, no_caps, HasBoth};
 
-use crate::packet::{Caps, Hello};
+use crate::packet::{Caps, Hello, Words};
 use bitflags::{Flag, Flags, bitflag_items};
+use std::alloc::Global;
+use usb_base::{Memory, padded};
 
 bitflag_items! {
     impl Caps: u32 {
@@ -84,6 +86,19 @@ impl Caps {
 }
 
 impl Hello {
+    /// The hello of a program that is called so and has these capabilities, in one word.
+    pub fn of(alloc: Global, name: &[u8], caps: Caps) -> Result<Hello, Memory>
+        requires { length name.now ≤ 64 }
+        ensures { IfOk result (λ hello. hello ≡ hello_of name.now caps) }
+    {
+        let mut words = Words::new(alloc);
+        words.push(caps.0)?;
+        Ok(Hello {
+            version: padded(name),
+            words,
+        })
+    }
+
     /// The capabilities that a hello tells: its first word, or none where it has no word.
     pub fn caps(&self) -> Caps
         ensures { result ≡ caps_of self.now }

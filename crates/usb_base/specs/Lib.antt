@@ -6,3 +6,4 @@ pub mod Speed
 pub mod Setup
 pub mod Endpoint
 pub mod Status
+pub mod Text

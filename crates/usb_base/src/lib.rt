@@ -15,6 +15,7 @@ mod setup;
 mod side;
 mod speed;
 mod status;
+mod text;
 mod transfer;
 
 pub use endpoint::{ENDPOINTS, EpAddr, EpKind, EpRow, EpTable};
@@ -32,4 +33,5 @@ pub use setup::{Setup, setups_spell_again};
 pub use side::Side;
 pub use speed::Speed;
 pub use status::{UsbStatus, status_bytes_again};
+pub use text::padded;
 pub use transfer::{Outcome, StreamPacket, Transfer};

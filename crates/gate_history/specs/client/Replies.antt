@@ -1,7 +1,8 @@
 -- The replies to list and import requests: the one device, as it was told, or none.
-use Rattle.std.specs.Prelude.{ℕ, ◌-◌, ◌==◌, Bool, if◌then◌else◌, List, [], ◌∷◌, ◌++◌, length, take, map, replicate, codes, bytes_eq, Option, Some, None}
+use Rattle.std.specs.Prelude.{ℕ, ◌==◌, Bool, if◌then◌else◌, List, [], ◌∷◌, length, take, map, codes, bytes_eq, Option, Some, None}
 use Rattle.std.specs.Option.{option_map_or, option_to_list}
 use Rattle.usb_base.specs.Speed.{speed_of, usbip_speed}
+use Rattle.usb_base.specs.Text.{padded}
 use Rattle.usbip_op.specs.declared.packet.OpPacket.{OpPacket}
 use Rattle.usbip_op.specs.declared.packet.OpPacket.TheVariants.{RepDevlist, RepImport}
 use Rattle.usbip_op.specs.declared.packet.DeviceRow.{DeviceRow}
@@ -9,10 +10,6 @@ use Rattle.usbip_op.specs.declared.packet.IfaceRow.{IfaceRow}
 use Rattle.redir_wire.specs.declared.packet.Connect.{Connect}
 use Rattle.redir_wire.specs.declared.packet.InterfaceInfo.{InterfaceInfo}
 use Rattle.gate_history.specs.declared.facts.Facts.{Facts}
-
--- a text in a field of n bytes, with zeros after it
-abbrev pub padded : ℕ → List ℕ → List ℕ
-padded n text = text ++ replicate (n - length text) 0
 
 -- rows of class, subclass and protocol
 abbrev pub rows : List ℕ → List ℕ → List ℕ → List IfaceRow

@@ -1,9 +1,9 @@
 -- The bytes of what is sent.
-use Rattle.std.specs.Prelude.{ℕ, List, [], ◌∷◌, ◌++◌, replicate, codes}
+use Rattle.std.specs.Prelude.{ℕ, List, ◌++◌, codes}
 use Rattle.std.specs.List.{flat_map}
 use Rattle.redir_wire.specs.declared.packet.Caps.{Caps}
 use Rattle.redir_wire.specs.declared.packet.RedirControl.TheVariants as plain
-use Rattle.redir_wire.specs.Capability.{no_caps, announced}
+use Rattle.redir_wire.specs.Capability.{no_caps, announced, hello_of}
 use Rattle.redir_wire.specs.Written.{packet_bytes}
 use Rattle.redir_data.specs.declared.packet.RedirPacket.{RedirPacket}
 use Rattle.redir_data.specs.declared.packet.RedirPacket.TheVariants.{Plain, Carrying}
@@ -33,7 +33,7 @@ host_bytes_of st m = flat_map (host_packet_bytes st.agreed) (to_host st m)
 
 -- the gateway's hello: its name, and the capabilities that it announces
 abbrev pub gateway_hello : RedirPacket
-gateway_hello = Plain (plain.Hello (record { version = codes "usbgate 1" ++ replicate 55 0; words = announced.0 ∷ [] }))
+gateway_hello = Plain (plain.Hello (hello_of (codes "usbgate 1") announced))
 
 abbrev pub out_client : ℕ → List Mark → List ℕ
 out_client first ms = all_of client_bytes_of first ms

@@ -5,11 +5,10 @@ ghost use Rattle.redir_wire.specs.declared.packet.TheConstants.{MAX_INTERFACES};
 ghost use Rattle.usbip_op.specs.Ranges.{IsWritable};
 ghost use Rattle.gate_history.specs.client.Replies.{rows as rows_of, interface_rows, device_row, list_reply, import_reply, failed_import, is_exported};
 
-use crate::write::field::field;
 use gate_history::Facts;
 use redir_wire::{Connect, InterfaceInfo, MAX_INTERFACES};
 use std::alloc::Global;
-use usb_base::{Memory, Speed};
+use usb_base::{Memory, Speed, padded};
 use usbip_op::{DeviceRow, IfaceRow, IfaceRows, Listed, ListedRows, OpPacket};
 
 /// The list of the one device, or of none before its device_connect.
@@ -106,8 +105,8 @@ fn device_row(facts: &Facts, connect: &Connect, interfaces: u8) -> DeviceRow
     ensures { result ≡ record (device_row facts.now connect.now) { interfaces = interfaces } }
 {
     DeviceRow {
-        path: field(b"/usbredir/1-1"),
-        busid: field(b"1-1"),
+        path: padded(b"/usbredir/1-1"),
+        busid: padded(b"1-1"),
         busnum: 1,
         devnum: 2,
         speed: Speed::from_redir(connect.speed).usbip(),

@@ -16,11 +16,10 @@ ghost use Rattle.gate_history.specs.step.Marks.{Disconnects};
 ghost use Rattle.gate_history.specs.write.Output.{acknowledgements};
 
 use crate::state::streams::is_iso;
-use crate::write::field::field;
 use control_route::Route;
 use gate_history::Pipe;
 use redir_data::RedirData;
-use redir_wire::{Caps, Hello, RedirControl, Words, write_control};
+use redir_wire::{Caps, Hello, RedirControl, write_control};
 use std::alloc::Global;
 use stream_buffers::Up;
 use unlink_race::{Live, LiveKind};
@@ -183,12 +182,7 @@ pub fn write_hello(alloc: Global, out: &mut Bytes) -> Result<(), Memory>
     ensures ok { OnOk result (out.new ≡ out.old ++ host_packet_bytes no_caps (0, gateway_hello)) }
     ensures err { OnErr result (out.new ≡ out.old) }
 {
-    let mut words = Words::new(alloc);
-    words.push(Caps::ANNOUNCED.0)?;
-    let hello = Hello {
-        version: field(b"usbgate 1"),
-        words,
-    };
+    let hello = Hello::of(alloc, b"usbgate 1", Caps::ANNOUNCED)?;
     write_control(&RedirControl::Hello(hello), 0, Caps::empty(), out)
 }
 

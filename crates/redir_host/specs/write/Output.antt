@@ -1,8 +1,8 @@
 -- What a host has sent and told after a list of acts.
-use Rattle.std.specs.Prelude.{ℕ, List, [], ◌∷◌, ◌++◌, replicate, codes}
+use Rattle.std.specs.Prelude.{ℕ, List, ◌++◌, codes}
 use Rattle.redir_wire.specs.declared.packet.RedirControl.{RedirControl}
 use Rattle.redir_wire.specs.declared.packet.RedirControl.TheVariants as plain
-use Rattle.redir_wire.specs.Capability.{announced, no_caps}
+use Rattle.redir_wire.specs.Capability.{announced, hello_of, no_caps}
 use Rattle.redir_data.specs.declared.packet.RedirPacket.{RedirPacket}
 use Rattle.redir_data.specs.declared.packet.RedirPacket.TheVariants.{Plain}
 use Rattle.model_device.specs.Meaning.{Meaning}
@@ -14,7 +14,7 @@ use Rattle.redir_host.specs.step.Machine.{run, told_bytes, bytes_of, notes_of, a
 
 -- the host's hello: its name, and the capabilities that it announces
 abbrev pub host_hello : RedirControl
-host_hello = plain.Hello (record { version = codes "usbgate host 1" ++ replicate 50 0; words = announced.0 ∷ [] })
+host_hello = plain.Hello (hello_of (codes "usbgate host 1") announced)
 
 -- it is the first packet, and spelled as one
 abbrev pub first_packet : ℕ × RedirPacket
