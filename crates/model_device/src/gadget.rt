@@ -12,6 +12,11 @@ use usb_base::{EpAddr, EpTable, Memory, Outcome, StreamPacket, Transfer};
 /// The most bytes of a packet that a device sends by itself: the length field of its packet has 16 bits.
 pub const MAX_STREAM_PACKET: usize = 65_535;
 
+/// A law: the number that definitions name is this.
+pub fn stream_packet_limit()
+    ensures { MAX_STREAM_PACKET ≡ 65535 }
+{}
+
 /// A USB device, as its bus sees it. Its meaning is plain data over its states, so that a host that has it and
 /// a client that is attached to it directly can be compared.
 pub trait Gadget: Drop {

@@ -15,7 +15,7 @@ mod tone;
 pub use device::Device;
 pub use framework::{Framework, is_done_change};
 pub use function::Function;
-pub use gadget::{Gadget, MAX_STREAM_PACKET};
+pub use gadget::{Gadget, MAX_STREAM_PACKET, stream_packet_limit};
 pub use keyboard::{Keyboard, NextKey};
 pub use loopback::{Held, Loopback};
 pub use product::Product;
