@@ -1,18 +1,16 @@
 //! The gate as what is served.
 
-ghost use Rattle.std.specs.Prelude.{◌≡◌, ◌++◌, ◌||◌, false, true, OnOk, OnErr};
-ghost use Rattle.std.specs.List.{flat_map, list_any};
-ghost use Rattle.gate_history.specs.write.Refusals.{refusal_in};
+ghost use Rattle.std.specs.Prelude.{◌≡◌, false};
+ghost use Rattle.std.specs.List.{list_any};
 ghost use Rattle.bridge_run.specs.Gate.{is_loss};
-ghost use Rattle.bridge_run.specs.Recorded.{has_any};
 
 use crate::after_loss::AfterLoss;
 use crate::event::LinkEvent;
 use crate::sent::Sent;
 use crate::served::Served;
 use gate_core::Gate;
-use gate_history::{Event as GateEvent, Note, Notes};
-use usb_base::{List, Memory, Refusal, Side};
+use gate_history::{Event as GateEvent, Note, Notes, push_refusals};
+use usb_base::{Memory, Side};
 
 /// A gate, and what becomes of a client whose device is lost.
 #[derive(Drop)]
@@ -76,17 +74,4 @@ fn has_loss(notes: &Notes) -> bool
         .as_slice()
         .iter()
         .any(|note| matches!(note, Note::DeviceGone))
-}
-
-/// Appends the refusals among the notes.
-fn push_refusals(notes: &Notes, refusals: &mut List<Refusal>) -> Result<(), Memory>
-    ensures pushed { OnOk result (refusals.new ≡ refusals.old ++ flat_map refusal_in notes.now) }
-    ensures wants { OnErr result (has_any (flat_map refusal_in notes.now) ≡ true) }
-{
-    for note in notes.as_slice() {
-        if let Note::Refused(refusal) = note {
-            refusals.push(*refusal)?;
-        }
-    }
-    Ok(())
 }

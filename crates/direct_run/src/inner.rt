@@ -17,14 +17,13 @@ ghost use Rattle.direct_run.specs.Trace.{untold};
 
 use crate::item::Items;
 use crate::notes::{
-    push_all, push_host_items, push_items, push_offered, push_performed, push_refusals,
-    push_submits,
+    push_all, push_host_items, push_items, push_offered, push_performed, push_submits,
 };
 use crate::step::Step;
 use crate::submitted::Submits;
 use crate::told::Told;
 use gate_core::Gate;
-use gate_history::{Event, Notes};
+use gate_history::{Event, Notes, push_refusals};
 use model_device::Gadget;
 use redir_host::HostCore;
 use std::alloc::Global;

@@ -1,13 +1,11 @@
-//! What notes tell, as items, refusals and submits.
+//! What notes tell, as items and submits.
 
 ghost use Rattle.std.specs.Prelude.{◌≡◌, ◌++◌, OnOk};
 ghost use Rattle.std.specs.List.{flat_map};
-ghost use Rattle.gate_history.specs.write.Refusals.{refusal_in};
 ghost use Rattle.direct_run.specs.Noted.{item_of, item_of_host, named, performed_item, offered_item, queue_byte};
 
 use crate::item::{Item, Items};
 use crate::submitted::{Submits, Submitted, number_in};
-use crate::told::Refusals;
 use gate_history::{Note, Notes};
 use redir_host::{HostNote, HostNotes, Offered, Performed};
 use usb_base::{EpAddr, Memory};
@@ -26,18 +24,6 @@ pub fn push_items(notes: &Notes, items: &mut Items) -> Result<(), Memory>
             Note::DeviceGone => items.push(Item::Gone)?,
             Note::ClientGone => items.push(Item::ClientGone)?,
             Note::Refused(_) => {}
-        }
-    }
-    Ok(())
-}
-
-/// Appends the refusals among the notes.
-pub fn push_refusals(notes: &Notes, refusals: &mut Refusals) -> Result<(), Memory>
-    ensures { OnOk result (refusals.new ≡ refusals.old ++ flat_map refusal_in notes.now) }
-{
-    for note in notes.as_slice() {
-        if let Note::Refused(refusal) = note {
-            refusals.push(*refusal)?;
         }
     }
     Ok(())

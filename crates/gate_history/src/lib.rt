@@ -18,6 +18,6 @@ pub use laws::{
     events_add_items, ids_fly_once, losses_end_all, machine_is_past, refusals_have_causes,
     rests_are_short, sent_can_be_read, states_are_sound, streams_hold_few, submits_end_once,
 };
-pub use note::{Counts, Note, Notes};
+pub use note::{Counts, Note, Notes, push_refusals};
 pub use request::{AnsweredSubmit, Request, is_in_setup};
 pub use verdict::{Pipe, Verdict};

@@ -1,6 +1,10 @@
 //! What the gateway tells of an event, beside the bytes that it sends.
 
-use usb_base::{EpAddr, List, Refusal};
+ghost use Rattle.std.specs.Prelude.{◌≡◌, ◌<◌, ◌++◌, length, OnOk, OnErr};
+ghost use Rattle.std.specs.List.{flat_map};
+ghost use Rattle.gate_history.specs.write.Refusals.{refusal_in};
+
+use usb_base::{EpAddr, List, Memory, Refusal};
 
 /// What an event told.
 #[derive(Clone, Copy)]
@@ -25,6 +29,19 @@ pub enum Note {
 
 /// Notes, in the order in which they were told.
 pub type Notes = List<Note>;
+
+/// Appends the refusals among the notes, in order. Only a refusal wants memory.
+pub fn push_refusals(notes: &Notes, refusals: &mut List<Refusal>) -> Result<(), Memory>
+    ensures pushed { OnOk result (refusals.new ≡ refusals.old ++ flat_map refusal_in notes.now) }
+    ensures wants { OnErr result (0 < length (flat_map refusal_in notes.now)) }
+{
+    for note in notes.as_slice() {
+        if let Note::Refused(refusal) = note {
+            refusals.push(*refusal)?;
+        }
+    }
+    Ok(())
+}
 
 /// What was counted. Each number stands still at `u64::MAX`.
 #[derive(Clone, Copy)]

@@ -1,5 +1,6 @@
 -- Filters, maps and joins that agree on the elements.
-use Rattle.std.proofs.Common.{◌≡◌, ◌≤◌, ◌||◌, Bool, true, false, cond, not, List, [], ◌∷◌, ◌++◌, length, map, refl, ap, ◌∙◌, arith}
+use Rattle.std.proofs.Common.{◌≡◌, ℕ, zero, suc, ◌<◌, ◌≤◌, ◌||◌, get_or, Bool, true, false, cond, not, List, [], ◌∷◌, ◌++◌, length, map, refl, ap, ◌∙◌, arith}
+use Rattle.std.proofs.lemmas.List.{length-append}
 use Rattle.std.proofs.lemmas.List.Filters.{length-filter_both}
 use Rattle.std.specs.Prelude.{filter}
 use Rattle.std.specs.List.{list_any, flat_map, AllByRecursion}
@@ -84,6 +85,14 @@ flat_map-filter {A = A} f p (x ∷ xs) =
 pub flat_map-none : {X A : Type 0} (xs : List X) → flat_map {A = A} (λ x. []) xs ≡ []
 flat_map-none [] = refl
 flat_map-none (x ∷ xs) = flat_map-none xs
+
+-- a list among those of others
+pub some-joined : {X A : Type 0} (f : X → List A) (xs : List X) (n : ℕ) (x : X) → n < length xs → x ≡ get_or xs n x → 0 < length (f x) → 0 < length (flat_map f xs)
+some-joined f [] n x few e h = absurd (omega (arith, few))
+some-joined {X = X} f (y ∷ ys) zero x few e h =
+    let here : length (f x) ≡ length (f y) = ap (λ (z : X). length (f z)) e in
+    omega (arith, h, here, length-append (f y) (flat_map f ys))
+some-joined f (y ∷ ys) (suc n) x few e h = omega (arith, some-joined f ys n x (omega (arith, few)) e h, length-append (f y) (flat_map f ys))
 
 pub list_any-filter : {X : Type 0} (p q : X → Bool) (xs : List X) → list_any p (filter q xs) ≡ list_any (λ x. both (q x) (p x)) xs
 list_any-filter p q [] = refl

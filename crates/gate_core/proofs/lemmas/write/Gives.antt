@@ -1,7 +1,6 @@
 -- What an item gives: where a part of what it sends and tells is there, it gives some.
-use Rattle.std.proofs.Common.{◌≡◌, ℕ, zero, suc, ◌+◌, ◌<◌, ◌&&◌, get_or, Bool, true, false, cond, not, List, [], ◌∷◌, ◌++◌, length, map, Option, Some, None, refl, sym, ap, subst, ◌∙◌, arith}
+use Rattle.std.proofs.Common.{◌≡◌, ℕ, zero, suc, ◌+◌, ◌<◌, ◌&&◌, Bool, true, false, cond, not, List, [], ◌∷◌, ◌++◌, length, map, Option, Some, None, refl, sym, ap, subst, ◌∙◌, arith}
 use Rattle.std.specs.Prelude.{is_none, filter, zip, slice_get}
-use Rattle.std.specs.List.{flat_map}
 use Rattle.std.proofs.lemmas.Option.{none-some, same_Some}
 use Rattle.std.proofs.lemmas.List.{length-append, length-map}
 use Rattle.usbip_op.specs.declared.packet.OpPacket.TheVariants as op
@@ -50,14 +49,6 @@ some-kept {X = X} p (y ∷ ys) (suc n) x e h = longer (p y) (some-kept p ys n x 
     longer : (b : Bool) → 0 < length (filter p ys) → 0 < length (cond b (y ∷ filter p ys) (filter p ys))
     longer true some = omega arith
     longer false some = some
-
--- a list among those of others
-pub some-joined : {X A : Type 0} (f : X → List A) (xs : List X) (n : ℕ) (x : X) → n < length xs → x ≡ get_or xs n x → 0 < length (f x) → 0 < length (flat_map f xs)
-some-joined f [] n x few e h = absurd (omega (arith, few))
-some-joined {X = X} f (y ∷ ys) zero x few e h =
-    let here : length (f x) ≡ length (f y) = ap (λ (z : X). length (f z)) e in
-    omega (arith, h, here, length-append (f y) (flat_map f ys))
-some-joined f (y ∷ ys) (suc n) x few e h = omega (arith, some-joined f ys n x (omega (arith, few)) e h, length-append (f y) (flat_map f ys))
 
 length-zip : {X Y : Type 0} (xs : List X) (ys : List Y) → length xs ≡ length ys → length (zip xs ys) ≡ length ys
 length-zip [] [] e = refl

@@ -3,6 +3,7 @@ use Rattle.gate_history.specs.step.Events.{event_of as told_of}
 use Rattle.bridge_run.specs.Events.{event_of}
 use Rattle.bridge_run.specs.Gate.{gate_events}
 use Rattle.bridge_run.proofs.lemmas.events.Acts.{on-ok}
+use Rattle.bridge_run.proofs.lemmas.events.Any.{any-at}
 use Rattle.bridge_run.proofs.lemmas.events.Gate.{gate-sends}
 use Rattle.bridge_run.proofs.lemmas.events.GateStops.{gate-stops, gate-untold}
 use Rattle.bridge_run.proofs.lemmas.events.Halts.{on-err, err-all}
@@ -27,5 +28,5 @@ returns-clause-stops c =
     (λ some first past at.
     gate-untold first.0 first.1 past (event_of c.args.event) (told_of c.match-event.told) c.take.new.self c.args.sent.now
     (record c.args.sent.now { to_client = c.take.new.to_client; to_host = c.take.new.to_host; refusals = c.push_refusals.new.refusals; lets_go = _ })
-    c.in_ok-notes.notes (elim c.match-event.branch [ in-SidePiece-Client-default w ↦ search (rules, w.told-is, w.in-SidePiece-Client-default.is, w.in-SidePiece-Client-default.field-0-is) | in-SidePiece-Host-default w ↦ search (rules, w.told-is, w.in-SidePiece-Host-default.is, w.in-SidePiece-Host-default.field-0-is) | in-SideEnd-Client w ↦ search (rules, w.told-is, w.in-SideEnd-Client.is, w.in-SideEnd-Client.field-0-is) | in-SideEnd-Host w ↦ search (rules, w.told-is, w.in-SideEnd-Host.is, w.in-SideEnd-Host.field-0-is) ]) (c.in_ok-notes.ensures.takes first.1 (gate_events past) at.1) some)
+    c.in_ok-notes.notes (elim c.match-event.branch [ in-SidePiece-Client-default w ↦ search (rules, w.told-is, w.in-SidePiece-Client-default.is, w.in-SidePiece-Client-default.field-0-is) | in-SidePiece-Host-default w ↦ search (rules, w.told-is, w.in-SidePiece-Host-default.is, w.in-SidePiece-Host-default.field-0-is) | in-SideEnd-Client w ↦ search (rules, w.told-is, w.in-SideEnd-Client.is, w.in-SideEnd-Client.field-0-is) | in-SideEnd-Host w ↦ search (rules, w.told-is, w.in-SideEnd-Host.is, w.in-SideEnd-Host.field-0-is) ]) (c.in_ok-notes.ensures.takes first.1 (gate_events past) at.1) (any-at _ 0 some))
     c.push_refusals.ensures.wants

@@ -1,7 +1,7 @@
 use Rattle.std.proofs.Common.{◌≡◌, ◌++◌, drop}
 use Rattle.std.specs.List.{flat_map}
 use Rattle.gate_history.specs.write.Refusals.{refusal_in}
-use Rattle.direct_run.proofs.notes.push_refusals.Given as goal
+use Rattle.gate_history.proofs.note.push_refusals.Given as goal
 
 abbrev pub invariant-loop-note : goal.invariant-loop-note
 invariant-loop-note l = l.refusals ++ flat_map refusal_in (drop l.note-index l.notes) ≡ l.initial.refusals ++ flat_map refusal_in l.notes
