@@ -8,42 +8,40 @@ ghost use Rattle.made_tape.specs.Lines.{line_of, words_of};
 
 use itoa::Buffer;
 use packet_show::TapeLine;
-use std::alloc::Global;
-use usb_base::{Bytes, Memory};
+use usb_base::{Bytes, Memory, push_hex};
 
 /// Appends what a line says, and LF. For want of memory a front of it may be there.
-pub fn push_line(alloc: Global, line: &TapeLine, text: &mut Bytes) -> Result<(), Memory>
+pub fn push_line(line: &TapeLine, text: &mut Bytes) -> Result<(), Memory>
     ensures { OnOk result (text.new ≡ text.old ++ line_of line.now) }
 {
-    push_words(alloc, line, text)?;
+    push_words(line, text)?;
     text.push(b'\n')
 }
 
-fn push_words(alloc: Global, line: &TapeLine, text: &mut Bytes) -> Result<(), Memory>
+fn push_words(line: &TapeLine, text: &mut Bytes) -> Result<(), Memory>
     ensures { OnOk result (text.new ≡ text.old ++ words_of line.now) }
 {
     match line {
         TapeLine::Skip => Ok(()),
-        TapeLine::Client(piece) => push_bytes(alloc, b'c', piece.as_slice(), text),
+        TapeLine::Client(piece) => push_bytes(b'c', piece.as_slice(), text),
         TapeLine::ClientEnd => text.append(b"c."),
-        TapeLine::Host(piece) => push_bytes(alloc, b'h', piece.as_slice(), text),
+        TapeLine::Host(piece) => push_bytes(b'h', piece.as_slice(), text),
         TapeLine::HostEnd => text.append(b"h."),
         TapeLine::ToHost(count) => push_number(b'g', *count, text),
         TapeLine::ToGate(count) => push_number(b'h', *count, text),
-        TapeLine::Perform(ep) => push_bytes(alloc, b'p', &[ep.byte()], text),
-        TapeLine::Offer(ep) => push_bytes(alloc, b'o', &[ep.byte()], text),
+        TapeLine::Perform(ep) => push_bytes(b'p', &[ep.byte()], text),
+        TapeLine::Offer(ep) => push_bytes(b'o', &[ep.byte()], text),
         TapeLine::Unplug => text.push(b'x'),
     }
 }
 
 /// Appends a letter, a space, and bytes in lower-case hexadecimal.
-fn push_bytes(alloc: Global, letter: u8, bytes: &[u8], text: &mut Bytes) -> Result<(), Memory>
+fn push_bytes(letter: u8, bytes: &[u8], text: &mut Bytes) -> Result<(), Memory>
     ensures { OnOk result (text.new ≡ text.old ++ letter ∷ SPACE ∷ encode_lower bytes.now) }
 {
-    let digits = hex::encode(alloc, bytes)?;
     text.push(letter)?;
     text.push(b' ')?;
-    text.append(digits.as_bytes())
+    push_hex(bytes, text)
 }
 
 /// Appends a letter, a space, and a number in decimal.

@@ -56,7 +56,7 @@ pub fn made_text(alloc: Global, count: u16) -> Result<Bytes, Memory>
     let mut tape = MadeTape::new(count);
     let mut text = Bytes::new(alloc);
     'lines: while let Some(line) = tape.next_line(alloc)? {
-        push_line(alloc, &line, &mut text)?;
+        push_line(&line, &mut text)?;
     }
     Ok(text)
 }

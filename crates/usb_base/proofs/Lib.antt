@@ -2,3 +2,4 @@ pub mod Firsts
 pub mod Numbers
 pub mod Fronts
 pub mod Setups
+mod Cuts

@@ -2,6 +2,7 @@
 //! USB's own words: setups and their requests, endpoints, statuses and transfers.
 #![tactic(auto)]
 
+mod digits;
 mod endpoint;
 mod list;
 mod memory;
@@ -18,6 +19,7 @@ mod status;
 mod text;
 mod transfer;
 
+pub use digits::push_hex;
 pub use endpoint::{ENDPOINTS, EpAddr, EpKind, EpRow, EpTable};
 pub use list::{Bytes, List};
 pub use memory::Memory;

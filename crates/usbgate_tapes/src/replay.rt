@@ -35,7 +35,7 @@ impl Replay {
     {
         let mut to_host = Bytes::new(alloc);
         let gate = Gate::make(alloc, u64::from(first_id), &mut to_host)?;
-        push_bytes(alloc, b'H', to_host.as_slice(), text)?;
+        push_bytes(b'H', to_host.as_slice(), text)?;
         to_host.clear();
         Ok(Replay {
             gate,
@@ -63,8 +63,8 @@ impl Replay {
     fn print(&self, alloc: Global, notes: &Notes, text: &mut Bytes) -> Result<(), Memory>
         ensures { OnOk result (text.new ≡ text.old ++ sent_text self.now.to_client self.now.to_host notes.now) }
     {
-        push_bytes(alloc, b'C', self.to_client.as_slice(), text)?;
-        push_bytes(alloc, b'H', self.to_host.as_slice(), text)?;
+        push_bytes(b'C', self.to_client.as_slice(), text)?;
+        push_bytes(b'H', self.to_host.as_slice(), text)?;
         push_notes(alloc, notes, text)
     }
 }

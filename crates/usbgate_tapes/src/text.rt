@@ -4,7 +4,6 @@ ghost use Rattle.std.specs.Prelude.{◌≡◌, ◌++◌, ◌∷◌, [], IfOk, On
 ghost use Rattle.std.specs.List.{flat_map};
 ghost use Rattle.usb_base.specs.Refusal.{refusal_line};
 ghost use Rattle.direct_run.specs.Lines.{item_line};
-ghost use Rattle.hex.specs.Hex.{encode_lower};
 ghost use Rattle.usbgate_tapes.specs.Text.{bytes_line, note_line, told_text, counts_line, bad_line as line_of_bad};
 
 pub mod printed;
@@ -14,14 +13,14 @@ use direct_run::{Items, Refusals, Told};
 use gate_history::{Counts, Note, Notes};
 use itoa::Buffer;
 use std::alloc::Global;
-use usb_base::{Bytes, Memory};
+use usb_base::{Bytes, Memory, push_hex};
 
 /// What a call prints whose words are no command.
 pub const USAGE: &[u8] = b"usage: usbgate COMMAND [options]\n";
 
 /// Appends a side's letter, a space, the bytes that are sent to it in lower-case hexadecimal, and LF. Where
 /// there are no bytes it appends nothing. For want of memory a front of the line may be there.
-pub fn push_bytes(alloc: Global, letter: u8, bytes: &[u8], text: &mut Bytes) -> Result<(), Memory>
+pub fn push_bytes(letter: u8, bytes: &[u8], text: &mut Bytes) -> Result<(), Memory>
     ensures { OnOk result (text.new ≡ text.old ++ bytes_line (letter ∷ []) bytes.now) }
 {
     if bytes.is_empty() {
@@ -29,27 +28,8 @@ pub fn push_bytes(alloc: Global, letter: u8, bytes: &[u8], text: &mut Bytes) -> 
     }
     text.push(letter)?;
     text.push(b' ')?;
-    push_digits(alloc, bytes, text)?;
+    push_hex(bytes, text)?;
     text.push(b'\n')
-}
-
-/// How many bytes are turned into digits on the stack at most.
-const SHORT: usize = 128;
-
-/// Appends the digits of bytes. For want of memory a front of them may be there.
-fn push_digits(alloc: Global, bytes: &[u8], text: &mut Bytes) -> Result<(), Memory>
-    ensures { OnOk result (text.new ≡ text.old ++ encode_lower bytes.now) }
-{
-    if bytes.len() > SHORT {
-        let digits = hex::encode(alloc, bytes)?;
-        return text.append(digits.as_bytes());
-    }
-    let mut room = [0; 2 * SHORT];
-    let digits = &mut room[..2 * bytes.len()];
-    match hex::encode_to_slice(bytes, digits) {
-        Ok(()) => text.append(digits),
-        Err(_) => unreachable!(),
-    }
 }
 
 /// Appends the line of each refusal among the notes. For want of memory a front of the lines may be there.
@@ -70,9 +50,9 @@ pub fn push_told(alloc: Global, told: &Told, text: &mut Bytes) -> Result<(), Mem
     ensures { OnOk result (text.new ≡ text.old ++ told_text told.now) }
 {
     push_items(alloc, &told.items, text)?;
-    push_bytes(alloc, b'C', told.to_client.as_slice(), text)?;
-    push_bytes(alloc, b'H', told.to_host.as_slice(), text)?;
-    push_bytes(alloc, b'D', told.from_host.as_slice(), text)?;
+    push_bytes(b'C', told.to_client.as_slice(), text)?;
+    push_bytes(b'H', told.to_host.as_slice(), text)?;
+    push_bytes(b'D', told.from_host.as_slice(), text)?;
     push_refusals(alloc, &told.refusals, text)
 }
 

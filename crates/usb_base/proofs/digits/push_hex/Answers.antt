@@ -2,8 +2,8 @@ use Rattle.std.proofs.Common.{◌≡◌, ℕ, List, ◌++◌, sym, ap, ◌∙◌
 use Rattle.std.proofs.lemmas.List.{nil_from_length}
 use Rattle.std.specs.Slice.Iter.{chunks_rest}
 use Rattle.hex.specs.Hex.{encode_lower, lower_digits}
-use Rattle.session_tape.proofs.Digits.{encode-append, encode-nil}
-use Rattle.session_tape.proofs.lines.push_digits.Goals as goal
+use Rattle.usb_base.proofs.Cuts.{encode-append, encode-nil}
+use Rattle.usb_base.proofs.digits.push_hex.Goals as goal
 
 -- the digits of the front are behind the text, and those of the rest are to come
 moved : (text front rest all : List ℕ) → all ≡ front ++ rest → (text ++ encode_lower front) ++ encode_lower rest ≡ text ++ encode_lower all

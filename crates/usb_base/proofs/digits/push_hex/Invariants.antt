@@ -1,8 +1,8 @@
 use Rattle.std.proofs.Common.{◌≡◌, ◌*◌, ◌++◌, length}
 use Rattle.std.specs.Slice.Iter.{chunks_rest, chunks_size}
 use Rattle.hex.specs.Hex.{encode_lower}
-use Rattle.session_tape.specs.declared.lines.TheConstants.{AT_ONCE}
-use Rattle.session_tape.proofs.lines.push_digits.Given as goal
+use Rattle.usb_base.specs.declared.digits.TheConstants.{AT_ONCE}
+use Rattle.usb_base.proofs.digits.push_hex.Given as goal
 
 abbrev pub invariant-loop-front : goal.invariant-loop-front
 invariant-loop-front l =
