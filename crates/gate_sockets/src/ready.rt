@@ -16,6 +16,14 @@ const QUIET_LOOKS: u32 = 2;
 /// How long a look waits at most for something to come.
 const READ_WAIT_MILLIS: u64 = 10;
 
+/// How often one looks without sleeping before one waits, behind something that came or went.
+const EAGER_LOOKS: u32 = 64;
+
+/// How often in a row that may be in vain before it is tried at each so many waits alone.
+const VAIN: u32 = 4;
+
+const SELDOM: u32 = 16;
+
 /// How long a blocked write waits at most before it is tried again.
 const WRITE_WAIT_MILLIS: u64 = 1;
 
@@ -60,6 +68,10 @@ pub struct Ready {
     host: Told,
     // How many looks in a row have found nothing.
     quiet: u32,
+    // Bytes came or went since the last wait.
+    stirred: bool,
+    // How many waits behind that, in a row, weren't saved by looking without sleep.
+    vain: u32,
     // How long a look waits that finds nothing, where that is asked.
     pace: Option<Pace>,
 }
@@ -73,6 +85,8 @@ impl Ready {
             client: Told::NOTHING,
             host: Told::NOTHING,
             quiet: 0,
+            stirred: false,
+            vain: 0,
             pace: None,
         })
     }
@@ -98,6 +112,7 @@ impl Ready {
     /// Bytes came or went.
     pub(crate) fn moved(&mut self) {
         self.quiet = 0;
+        self.stirred = true;
     }
 
     /// The side is read now, so that what was told of it is done with.
@@ -135,7 +150,7 @@ impl Ready {
             None if self.quiet < QUIET_LOOKS => return false,
             None => Duration::from_millis(READ_WAIT_MILLIS),
         };
-        if self.reading.poll(&mut self.events, Some(most)).is_err() {
+        if self.wait(most).is_err() {
             self.client.tell(false);
             self.host.tell(false);
         }
@@ -149,6 +164,35 @@ impl Ready {
             }
         }
         true
+    }
+
+    /// Waits for something to read, for so long at most. A peer on this machine answers sooner than a sleeper wakes, so
+    /// behind something that came or went one looks for its answer first. Where that is in vain it is seldom tried.
+    fn wait(&mut self, most: Duration) -> io::Result<()> {
+        if self.stirred && self.pace.is_none() {
+            self.stirred = false;
+            if self.is_worth_looking() && self.has_looked()? {
+                self.vain = 0;
+                return Ok(());
+            }
+            self.vain = self.vain.wrapping_add(1);
+        }
+        self.reading.poll(&mut self.events, Some(most))
+    }
+
+    fn is_worth_looking(&self) -> bool {
+        self.vain < VAIN || self.vain % SELDOM == 0
+    }
+
+    /// Looks without sleeping, and says whether there is something.
+    fn has_looked(&mut self) -> io::Result<bool> {
+        for _ in 0..EAGER_LOOKS {
+            self.reading.poll(&mut self.events, Some(Duration::ZERO))?;
+            if !self.events.is_empty() {
+                return Ok(true);
+            }
+        }
+        Ok(false)
     }
 
     /// A write was blocked. Waits until something may be written, for a moment at most, and says whether it may.
