@@ -7,7 +7,7 @@ ghost use Rattle.gate_history.specs.step.Meaning.{mark_of};
 ghost use Rattle.gate_history.specs.step.Past.{is_left_out};
 ghost use Rattle.gate_history.specs.state.Sound.{IsSound};
 ghost use Rattle.gate_history.specs.step.Wants.{GivesSome};
-ghost use Rattle.gate_core.specs.inner.Holds.{Holds, IsFirst, IsKept, Does, DoesNothing, StopsShort};
+ghost use Rattle.gate_core.specs.inner.Holds.{Holds, IsFirst, IsKept, Does, DoesNothing};
 ghost use Rattle.gate_history.specs.step.Fits.{IsItem, ItemFits};
 
 use crate::state::kept::Kept;
@@ -53,8 +53,8 @@ impl Translator {
         &self.kept
     }
 
-    /// Takes the next item of a side that isn't over: it appends what that sends to each side, and what it tells. For
-    /// want of memory nothing has changed.
+    /// Takes the next item of a side that isn't over: the function that knows its kind appends what that sends to each
+    /// side, and what it tells. For want of memory nothing has changed: what was appended goes back.
     pub fn take(&mut self, item: Item, out: &mut Outputs) -> Result<(), Memory>
         requires { ItemFits self.old.caps item }
         ensures ok { OnOk result ((st : State) (x : PastItem) → IsItem item x → Holds self.old st → IsSound st → is_left_out st x ≡ false
@@ -63,49 +63,39 @@ impl Translator {
         ensures wants { OnErr result ((st : State) (x : PastItem) → IsItem item x → Holds self.old st → IsSound st → GivesSome st (mark_of st x)) }
     {
         let before = out.lengths();
-        match self.kept.take(item, out) {
+        let taken = match item {
+            Item::Asked { place, packet } => match packet {
+                ClientPacket::Op(packet) => self.kept.answer_op(place, &packet, out),
+                ClientPacket::Urb(UrbPacket::Submit(submit)) => {
+                    self.kept.submit(place, submit, out)
+                }
+                ClientPacket::Urb(UrbPacket::Unlink(unlink)) => {
+                    self.kept.unlink(place, &unlink, out)
+                }
+                // No client sends these.
+                ClientPacket::Urb(UrbPacket::RetSubmit(_reply)) => Ok(()),
+                ClientPacket::Urb(UrbPacket::RetUnlink(_reply)) => Ok(()),
+            },
+            Item::ClientWrong { place, reason } => {
+                self.kept.refuse_client(client_refusal(place, reason), out)
+            }
+            Item::ClientLeft => self.kept.client_left(out),
+            Item::Told {
+                place,
+                header,
+                packet,
+            } => self.kept.told(place, header, packet, out),
+            Item::HostWrong { place, reason } => {
+                self.kept.refuse_host(host_refusal(place, reason), out)
+            }
+            Item::HostLeft => self.kept.host_left(out),
+        };
+        match taken {
             Ok(()) => Ok(()),
             Err(memory) => {
                 out.back_to(before);
                 Err(memory)
             }
-        }
-    }
-}
-
-impl Kept {
-    /// Takes the next item of a side that isn't over.
-    pub fn take(&mut self, item: Item, out: &mut Outputs) -> Result<(), Memory>
-        requires kept { IsKept self.old }
-        requires fits { ItemFits self.old.caps item }
-        ensures kept { IsKept self.new }
-        ensures ok { (st : State) (x : PastItem) → IsItem item x → Holds self.old st → IsSound st → is_left_out st x ≡ false
-            → OnOk result (Does st (mark_of st x) self.old self.new out.old out.new) }
-        ensures err { OnErr result (StopsShort self.old self.new out.old out.new) }
-        ensures wants { (st : State) (x : PastItem) → IsItem item x → Holds self.old st → IsSound st → OnErr result (GivesSome st (mark_of st x)) }
-    {
-        match item {
-            Item::Asked { place, packet } => match packet {
-                ClientPacket::Op(packet) => self.answer_op(place, &packet, out),
-                ClientPacket::Urb(UrbPacket::Submit(submit)) => self.submit(place, submit, out),
-                ClientPacket::Urb(UrbPacket::Unlink(unlink)) => self.unlink(place, &unlink, out),
-                // No client sends these.
-                ClientPacket::Urb(UrbPacket::RetSubmit(_)) => Ok(()),
-                ClientPacket::Urb(UrbPacket::RetUnlink(_)) => Ok(()),
-            },
-            Item::ClientWrong { place, reason } => {
-                self.refuse_client(client_refusal(place, reason), out)
-            }
-            Item::ClientLeft => self.client_left(out),
-            Item::Told {
-                place,
-                header,
-                packet,
-            } => self.told(place, header, packet, out),
-            Item::HostWrong { place, reason } => {
-                self.refuse_host(host_refusal(place, reason), out)
-            }
-            Item::HostLeft => self.host_left(out),
         }
     }
 }
