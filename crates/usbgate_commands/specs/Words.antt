@@ -35,12 +35,9 @@ admits Must given = given
 admits May given = true
 admits MustNot given = not given
 
--- what a row says of the number, and of each option in the order of `options`
-abbrev pub needs_of : CommandRow → List Need
-needs_of row = row.number ∷ row.device ∷ row.side ∷ row.host ∷ row.listen ∷ row.idle ∷ row.first_id ∷ row.after_loss ∷ row.recording ∷ []
-
+-- whether the row admits what is given: of the number, and of each option in the order of `options`
 abbrev pub is_met : CommandRow → (Text → Option Text) → Bool
-is_met row given = list_all (λ (word : Need × Text). admits word.0 (is_some (given word.1))) (zip (needs_of row) (codes "number" ∷ options))
+is_met row given = list_all (λ (word : Need × Text). admits word.0 (is_some (given word.1))) (zip (row.number ∷ row.device ∷ row.side ∷ row.host ∷ row.listen ∷ row.idle ∷ row.first_id ∷ row.after_loss ∷ row.recording ∷ []) (codes "number" ∷ options))
 
 abbrev pub name_of : Verb → Text
 name_of verb.Replay = codes "replay"
