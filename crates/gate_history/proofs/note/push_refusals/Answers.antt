@@ -1,4 +1,4 @@
-use Rattle.std.proofs.Common.{ℕ, ◌<◌, List, length, ap, subst, arith}
+use Rattle.std.proofs.Common.{◌<◌, List, length, ap, subst, arith}
 use Rattle.std.specs.List.{flat_map}
 use Rattle.stream_buffers.proofs.Joining.{on-err}
 use Rattle.gate_history.specs.declared.note.Note.{Note}
