@@ -75,7 +75,12 @@ impl Gate {
         let mut out = Outputs::new(self.inner.alloc);
         swap(to_client, &mut out.to_client);
         swap(to_host, &mut out.to_host);
-        let taken = self.inner.take(event, &mut out);
+        let taken = match event {
+            Event::ClientPiece(piece) => self.inner.take_client(piece, &mut out),
+            Event::ClientEnd => self.inner.change_client(&mut out),
+            Event::HostPiece(piece) => self.inner.take_host(piece, &mut out),
+            Event::HostEnd => self.inner.end_host(&mut out),
+        };
         swap(to_client, &mut out.to_client);
         swap(to_host, &mut out.to_host);
         match taken {

@@ -1,13 +1,13 @@
 //! What the gate keeps, and how an event changes it.
 
 ghost use Rattle.std.specs.Prelude.{◌≡◌, ◌≤◌, ℕ, List, [], IfOk};
-ghost use Rattle.gate_history.specs.step.Events.{ClientPiece, ClientEnd, HostPiece, HostEnd, event_of};
+ghost use Rattle.gate_history.specs.step.Events.{ClientPiece, ClientEnd, HostPiece, HostEnd};
 ghost use Rattle.gate_core.specs.step.Stands.{HasPast, Stands};
 ghost use Rattle.gate_core.specs.inner.Steps.{TakesEvent, kept_of};
 
 use crate::step::taker::ItemTaker;
 use crate::step::translator::Translator;
-use gate_history::{Event, Item};
+use gate_history::Item;
 use gate_parts::Outputs;
 use packet_stream::{Stream, take_piece};
 use redir_data::{FromHost, RedirState};
@@ -53,21 +53,8 @@ impl Inner {
         self.host.keep_memory(to_client);
     }
 
-    /// Takes the next event.
-    pub fn take(&mut self, event: Event, out: &mut Outputs) -> Result<(), Memory>
-        requires { HasPast (kept_of self.old) }
-        ensures { TakesEvent result self.old self.new (event_of event.entry) out.old out.new }
-    {
-        match event {
-            Event::ClientPiece(piece) => self.take_client(piece, out),
-            Event::ClientEnd => self.change_client(out),
-            Event::HostPiece(piece) => self.take_host(piece, out),
-            Event::HostEnd => self.end_host(out),
-        }
-    }
-
     /// Takes a piece of the client's stream.
-    fn take_client(&mut self, piece: &[u8], out: &mut Outputs) -> Result<(), Memory>
+    pub fn take_client(&mut self, piece: &[u8], out: &mut Outputs) -> Result<(), Memory>
         requires { HasPast (kept_of self.old) }
         ensures { TakesEvent result self.old self.new (ClientPiece piece.now) out.old out.new }
     {
@@ -79,7 +66,7 @@ impl Inner {
     }
 
     /// Takes the client's end. The next client may come.
-    fn change_client(&mut self, out: &mut Outputs) -> Result<(), Memory>
+    pub fn change_client(&mut self, out: &mut Outputs) -> Result<(), Memory>
         requires { HasPast (kept_of self.old) }
         ensures { TakesEvent result self.old self.new ClientEnd out.old out.new }
     {
@@ -89,7 +76,7 @@ impl Inner {
     }
 
     /// Takes a piece of the host's stream.
-    fn take_host(&mut self, piece: &[u8], out: &mut Outputs) -> Result<(), Memory>
+    pub fn take_host(&mut self, piece: &[u8], out: &mut Outputs) -> Result<(), Memory>
         requires { HasPast (kept_of self.old) }
         ensures { TakesEvent result self.old self.new (HostPiece piece.now) out.old out.new }
     {
@@ -101,7 +88,7 @@ impl Inner {
     }
 
     /// Takes the host's end.
-    fn end_host(&mut self, out: &mut Outputs) -> Result<(), Memory>
+    pub fn end_host(&mut self, out: &mut Outputs) -> Result<(), Memory>
         requires { HasPast (kept_of self.old) }
         ensures { TakesEvent result self.old self.new HostEnd out.old out.new }
     {

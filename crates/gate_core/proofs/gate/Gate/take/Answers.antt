@@ -1,15 +1,65 @@
-use Rattle.std.proofs.Common.{◌∷◌, is_some, ap, subst, sym}
+use Rattle.std.proofs.Common.{◌≡◌, ◌∙◌, ℕ, List, [], ◌∷◌, ◌++◌, is_some, ap, subst, sym, rules}
 use Rattle.std.proofs.Math.Logic.{∥∥₁_map}
+use Rattle.gate_history.specs.declared.note.Note.{Note}
 use Rattle.gate_history.specs.step.Events.{event_of}
-use Rattle.gate_core.specs.inner.Steps.{kept_of}
+use Rattle.gate_history.specs.Headline.{notes}
+use Rattle.gate_parts.specs.declared.write.outputs.Outputs.{Outputs}
+use Rattle.gate_core.specs.state.Kept.{GateKept}
+use Rattle.gate_core.specs.inner.Steps.{kept_of, TakesEvent}
 use Rattle.gate_core.specs.step.Stands.{HasPast, Stands}
+use Rattle.gate_core.proofs.gate.Gate.take.Goals.{After-swap-2, Joined-event, in-ClientPiece, in-ClientEnd, in-HostPiece, in-HostEnd}
 use Rattle.gate_core.proofs.gate.Gate.take.Goals as goal
+
+abbrev lists : List ℕ → List ℕ → List Note → Outputs
+lists to_client to_host told = record { to_client = to_client; to_host = to_host; notes = told }
+
+-- it works: the memory that streams keep is not seen
+works : (c : After-swap-2) → HasPast (kept_of c.keep_memory.new.self)
+works c = subst (λ inner. HasPast (kept_of inner)) (sym c.keep_memory.ensures.stands) (c.self.invariant (ap is_some c.in_default.is))
+
+pub take_client-taken-requires : goal.take_client-taken-requires
+take_client-taken-requires c = works (goal.at.take_client-taken-requires c).After-swap-2
+
+pub change_client-taken-requires : goal.change_client-taken-requires
+change_client-taken-requires c = works (goal.at.change_client-taken-requires c).After-swap-2
+
+pub take_host-taken-requires : goal.take_host-taken-requires
+take_host-taken-requires c = works (goal.at.take_host-taken-requires c).After-swap-2
+
+pub end_host-taken-requires : goal.end_host-taken-requires
+end_host-taken-requires c = works (goal.at.end_host-taken-requires c).After-swap-2
+
+-- the event was taken, or memory ran out, whichever it is
+took : (c : Joined-event) → TakesEvent c.match-event.taken c.self.inside.inner c.match-event.self-inside.inner (event_of c.args.event) (lists c.args.to_client.now c.args.to_host.now []) c.match-event.out
+took c =
+    let lent : TakesEvent c.match-event.taken c.keep_memory.new.self c.match-event.self-inside.inner (event_of c.args.event) (lists c.swap.new.y c.swap-2.new.y c.new-out.result.notes) c.match-event.out = elim c.match-event.branch [
+      | in-ClientPiece w ↦ rw (w.taken-is, w.out-is, w.self-inside-is, w.in-ClientPiece.is) w.take_client-taken.ensures
+      | in-ClientEnd w ↦ rw (w.taken-is, w.out-is, w.self-inside-is, w.in-ClientEnd.is) w.change_client-taken.ensures
+      | in-HostPiece w ↦ rw (w.taken-is, w.out-is, w.self-inside-is, w.in-HostPiece.is) w.take_host-taken.ensures
+      | in-HostEnd w ↦ rw (w.taken-is, w.out-is, w.self-inside-is, w.in-HostEnd.is) w.end_host-taken.ensures
+    ] in
+    let k = c.keep_memory.ensures in
+    rw (k.stands, c.swap.ensures.y_after, k.client, c.swap-2.ensures.y_after, k.host, c.new-out.ensures) at lent
 
 -- it stands for one event more
 pub invariant_of-self : goal.invariant_of-self
 invariant_of-self c works =
-    ∥∥₁_map (c.self.invariant (ap is_some c.in_default.is)) (λ w. (w.0, (event_of c.args.event ∷ w.1.0, (c.in-Ok.ensures w.0 w.1.0 (subst (λ inner. Stands w.0 (kept_of inner) w.1.0) (sym c.keep_memory.ensures.stands) w.1.1)).stands)))
+    let on = rw c.in-Ok.is at (took (goal.at.invariant_of-self c).Joined-event) in
+    ∥∥₁_map (c.self.invariant (ap is_some c.in_default.is)) (λ w. (w.0, (event_of c.args.event ∷ w.1.0, (on w.0 w.1.0 w.1.1).stands)))
 
--- the memory that streams keep is not seen
-pub take-taken-requires : goal.take-taken-requires
-take-taken-requires c = subst (λ inner. HasPast (kept_of inner)) (sym c.keep_memory.ensures.stands) (c.self.invariant (ap is_some c.in_default.is))
+pub returns-in-Ok-clause-takes : goal.returns-in-Ok-clause-takes
+returns-in-Ok-clause-takes c first past stands =
+    let on = rw c.in-Ok.is at (took (goal.at.returns-in-Ok-clause-takes c).Joined-event) in
+    let t = on first past (subst (λ (k : GateKept). Stands first k past) (sym c.self.view_is) stands) in
+    record {
+      stands = t.stands;
+      client = rw c.swap-3.ensures.x_after t.sends.client;
+      host = rw c.swap-4.ensures.x_after t.sends.host;
+      told = t.sends.told.after-is ∙ ap (λ (l : List Note). notes first past ++ l) (sym t.sends.told.new-is);
+    }
+
+pub returns-in-Err-clause-stops : goal.returns-in-Err-clause-stops
+returns-in-Err-clause-stops c first past stands =
+    let on = rw c.in-Err.is at (took (goal.at.returns-in-Err-clause-stops c).Joined-event) in
+    let t = on first past (subst (λ (k : GateKept). Stands first k past) (sym c.self.view_is) stands) in
+    search (rules, t)

@@ -1,4 +1,4 @@
-use Rattle.std.proofs.Common.{◌≡◌, ◌∙◌, ℕ, false, None, Result, OnOk, OnErr, sym, ap, subst}
+use Rattle.std.proofs.Common.{◌≡◌, ◌∙◌, ℕ, false, None, Result, OnOk, OnErr, sym, ap, subst, rules}
 use Rattle.usb_base.specs.declared.memory.Memory.{Memory}
 use Rattle.usb_base.specs.declared.refusal.Refusal.{Refusal}
 use Rattle.usb_base.specs.declared.side.Side.TheVariants.{Client, Host}
@@ -21,7 +21,7 @@ use Rattle.gate_core.specs.declared.state.kept.Kept.{Kept}
 use Rattle.gate_core.specs.inner.Holds.{Holds, Does}
 use Rattle.gate_core.proofs.lemmas.write.Gives.{asked-gives, refusal-gives}
 use Rattle.gate_core.proofs.lemmas.write.InTurn.{on-err}
-use Rattle.gate_core.proofs.step.translator.Translator.take.Goals.{in-Asked+in-Op, in-Asked+in-Urb-Submit, in-Asked+in-Urb-Unlink, in-Asked+in-Urb-RetSubmit, in-Asked+in-Urb-RetUnlink, in-ClientWrong, in-ClientLeft, in-Told, in-HostWrong, in-HostLeft, in-RepDevlist-1, in-ReqDevlist-1, Joined-item}
+use Rattle.gate_core.proofs.step.translator.Translator.take.Goals.{in-Asked+in-Op, in-Asked+in-Urb-Submit, in-Asked+in-Urb-Unlink, in-Asked+in-Urb-RetSubmit, in-Asked+in-Urb-RetUnlink, in-ClientWrong, in-ClientLeft, in-Told, in-HostWrong, in-HostLeft, Joined-item}
 use Rattle.gate_core.proofs.step.translator.Translator.take.Goals as goal
 
 -- what the function that knows its kind does with an item
@@ -66,7 +66,7 @@ took c =
     subst (λ (k : Kept). Took item k out c.match-item.taken c.match-item.self c.match-item.out) c.self.view_is (elim c.match-item.branch [
       | in-Asked+in-Op w ↦
           -- the packet is dropped behind the call
-          let self-is : c.match-item.self ≡ w.answer_op.new.self = w.self-is ∙ elim w.match-packet-2.branch [ in-RepDevlist-1 d ↦ d.self-is | in-ReqDevlist-1 d ↦ d.self-is ] in
+          let self-is : c.match-item.self ≡ w.answer_op.new.self = search rules in
           rw (w.taken-is, self-is, w.out-is)
           (took-asked item old out w.answer_op.result w.answer_op.new.self w.answer_op.new.out w.in-Asked.place (Op w.in-Op.packet)
           (w.in-Asked.is ∙ ap (raw.Asked w.in-Asked.place) w.in-Op.is) fits (λ st n e h sound over. w.answer_op.ensures.ok st n e h over))
