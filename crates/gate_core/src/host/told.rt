@@ -31,35 +31,14 @@ use gate_parts::{
     Outputs, Response, data_of, has_won, head_size, lifted, mismatch, status_of, stream_in,
     stream_packet, write_completed,
 };
-use redir_data::{RedirData, RedirPacket};
+use redir_data::RedirData;
 use redir_wire::{Caps, Header, Hello, RedirControl};
 use usb_base::{Memory, Refusal, UsbStatus};
 
 impl Kept {
-    /// Takes a packet of the host, which begins at `place` of its stream.
-    pub fn told(
-        &mut self,
-        place: u64,
-        header: Header,
-        packet: RedirPacket,
-        out: &mut Outputs,
-    ) -> Result<(), Memory>
-        requires kept { IsKept self.old }
-        requires fits { ToldFits self.old.caps header packet }
-        ensures kept { IsKept self.new }
-        ensures ok { (st : State) (at : ℕ) → place ≡ capped at → Holds self.old st → IsSound st → st.host_over ≡ false
-            → OnOk result (Does st (mark_as st (told_meaning st at header packet) (fact_of packet)) self.old self.new out.old out.new) }
-        ensures err { OnErr result (StopsShort self.old self.new out.old out.new) }
-        ensures wants { (st : State) (at : ℕ) → place ≡ capped at → Holds self.old st → IsSound st → OnErr result (GivesSome st (mark_as st (told_meaning st at header packet) (fact_of packet))) }
-    {
-        match packet {
-            RedirPacket::Plain(packet) => { self.told_control(place, &header, &packet, out) }
-            RedirPacket::Carrying(packet) => { self.told_data(place, &header, packet, out) }
-        }
-    }
-
-    /// Takes a packet that moves data. Those of the streams of IN endpoints go by no id.
-    fn told_data(
+    /// Takes a packet of the host that moves data, which begins at `place` of its stream. Those of the streams of IN
+    /// endpoints go by no id.
+    pub fn told_data(
         &mut self,
         place: u64,
         header: &Header,
@@ -80,8 +59,8 @@ impl Kept {
         self.arrive(stream, stream_packet(packet), out)
     }
 
-    /// Takes a packet that moves no data.
-    fn told_control(
+    /// Takes a packet of the host that moves no data, which begins at `place` of its stream.
+    pub fn told_control(
         &mut self,
         place: u64,
         header: &Header,

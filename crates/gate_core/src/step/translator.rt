@@ -13,6 +13,7 @@ ghost use Rattle.gate_history.specs.step.Fits.{IsItem, ItemFits};
 use crate::state::kept::Kept;
 use gate_history::Item;
 use gate_parts::{Outputs, client_refusal, host_refusal};
+use redir_data::RedirPacket;
 use std::alloc::Global;
 use std::marker::Model;
 use usb_base::Memory;
@@ -84,7 +85,14 @@ impl Translator {
                 place,
                 header,
                 packet,
-            } => self.kept.told(place, header, packet, out),
+            } => match packet {
+                RedirPacket::Plain(packet) => {
+                    self.kept.told_control(place, &header, &packet, out)
+                }
+                RedirPacket::Carrying(packet) => {
+                    self.kept.told_data(place, &header, packet, out)
+                }
+            },
             Item::HostWrong { place, reason } => {
                 self.kept.refuse_host(host_refusal(place, reason), out)
             }

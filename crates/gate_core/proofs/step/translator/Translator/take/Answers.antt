@@ -6,6 +6,7 @@ use Rattle.usb_base.specs.Number.{capped}
 use Rattle.usbip_urb.specs.declared.client.ClientPacket.{ClientPacket}
 use Rattle.usbip_urb.specs.declared.client.ClientPacket.TheVariants.{Op, Urb}
 use Rattle.usbip_urb.specs.declared.packet.UrbPacket.TheVariants as urb
+use Rattle.redir_data.specs.declared.packet.RedirPacket.TheVariants.{Plain, Carrying}
 use Rattle.gate_history.specs.declared.item.Item.{Item as RawItem, Item}
 use Rattle.gate_history.specs.declared.item.Item.TheVariants as raw
 use Rattle.gate_history.specs.state.State.{State}
@@ -21,7 +22,7 @@ use Rattle.gate_core.specs.declared.state.kept.Kept.{Kept}
 use Rattle.gate_core.specs.inner.Holds.{Holds, Does}
 use Rattle.gate_core.proofs.lemmas.write.Gives.{asked-gives, refusal-gives}
 use Rattle.gate_core.proofs.lemmas.write.InTurn.{on-err}
-use Rattle.gate_core.proofs.step.translator.Translator.take.Goals.{in-Asked+in-Op, in-Asked+in-Urb-Submit, in-Asked+in-Urb-Unlink, in-Asked+in-Urb-RetSubmit, in-Asked+in-Urb-RetUnlink, in-ClientWrong, in-ClientLeft, in-Told, in-HostWrong, in-HostLeft, Joined-item}
+use Rattle.gate_core.proofs.step.translator.Translator.take.Goals.{in-Asked+in-Op, in-Asked+in-Urb-Submit, in-Asked+in-Urb-Unlink, in-Asked+in-Urb-RetSubmit, in-Asked+in-Urb-RetUnlink, in-ClientWrong, in-ClientLeft, in-Told+in-Plain, in-Told+in-Carrying, in-HostWrong, in-HostLeft, Joined-item}
 use Rattle.gate_core.proofs.step.translator.Translator.take.Goals as goal
 
 -- what the function that knows its kind does with an item
@@ -89,11 +90,16 @@ took c =
           let call = w.client_left-taken in
           rw (w.taken-is, w.self-is, w.out-is)
           (took-end item old out call.result call.new.self call.new.out raw.ClientLeft (λ x i. subst (λ (r : RawItem). IsItem r x) w.in-ClientLeft.is i) call.ensures.ok call.ensures.wants)
-      | in-Told w ↦
-          let call = w.told-taken in
+      | in-Told+in-Plain w ↦
+          let self-is : c.match-item.self ≡ w.told_control.new.self = search rules in
+          rw (w.taken-is, self-is, w.out-is)
+          (took-at item old out w.told_control.result w.told_control.new.self w.told_control.new.out w.in-Told.place (λ n. raw.Told n w.in-Told.header (Plain w.in-Plain.packet))
+          (λ x i. subst (λ (r : RawItem). IsItem r x) (w.in-Told.is ∙ ap (raw.Told w.in-Told.place w.in-Told.header) w.in-Plain.is) i) w.told_control.ensures.ok w.told_control.ensures.wants)
+      | in-Told+in-Carrying w ↦
           rw (w.taken-is, w.self-is, w.out-is)
-          (took-at item old out call.result call.new.self call.new.out w.in-Told.place (λ n. raw.Told n w.in-Told.header w.in-Told.packet) (λ x i. subst (λ (r : RawItem). IsItem r x) w.in-Told.is i)
-          call.ensures.ok call.ensures.wants)
+          (took-at item old out w.told_data.result w.told_data.new.self w.told_data.new.out w.in-Told.place (λ n. raw.Told n w.in-Told.header (Carrying w.in-Carrying.packet))
+          (λ x i. subst (λ (r : RawItem). IsItem r x) (w.in-Told.is ∙ ap (raw.Told w.in-Told.place w.in-Told.header) w.in-Carrying.is) i)
+          (λ st n e h sound over. w.told_data.ensures.ok st n e h sound) w.told_data.ensures.wants)
       | in-HostWrong w ↦
           let reason = w.in-HostWrong.reason in
           let call = w.refuse_host-taken in
