@@ -1,4 +1,5 @@
 -- How what the code keeps is seen.
 pub mod Views
 pub mod Takers
+pub mod Requests
 pub mod Waiting

@@ -4,15 +4,14 @@ ghost use Rattle.std.specs.Prelude.{◌≡◌, [], ◌∷◌, ◌++◌, filter, 
 ghost use Rattle.std.specs.List.{find};
 ghost use Rattle.redir_host.specs.device.Changes.{stays};
 ghost use Rattle.usb_base.specs.Firsts.{without_first};
-ghost use Rattle.redir_host.specs.state.Queues.{is_at, is_cancelled_by, is_data, queue_of};
+ghost use Rattle.redir_host.specs.state.Queues.{is_at, is_cancelled_by, is_data};
 ghost use Rattle.redir_host.specs.guest.Cancels.{Cancels};
 
-use crate::change::is_control;
 use crate::request::{Form, Request};
+use crate::requests::Requests;
 use crate::waiting::Waiting;
 use control_route::Route;
 use std::alloc::Global;
-use std::collections::btree_map::Values;
 use std::marker::Model;
 use usb_base::{EpAddr, EpTable, Memory};
 
@@ -27,11 +26,11 @@ impl Model for Queue {
     ghost use Rattle.std.specs.Prelude.{List};
     ghost use Rattle.std.specs.Map.{values_of};
     ghost use Rattle.redir_host.specs.declared.request.Request.{Request};
-    ghost use Rattle.redir_host.specs.inner.Waiting.{IsIndexed};
+    ghost use Rattle.redir_host.specs.inner.Waiting.{IsIndexed, numbered};
 
     ghost Value = { List Request };
 
-    ghost view = { λ queue. values_of queue.waiting.requests.entries };
+    ghost view = { λ queue. values_of (numbered queue.waiting) };
 
     ghost invariant = { λ queue. IsIndexed queue.waiting };
 }
@@ -56,10 +55,10 @@ impl Queue {
     }
 
     /// The requests, in order of arrival.
-    pub fn iter(&self) -> Values<'_, u64, Request>
+    pub fn iter(&self) -> Requests<'_>
         ensures { result ≡ self.now }
     {
-        self.waiting.requests.values()
+        self.waiting.iter()
     }
 
     /// Puts a request behind those that are there.
@@ -73,8 +72,7 @@ impl Queue {
     pub fn first(&self, ep: EpAddr) -> Option<&Request>
         ensures { option_copied result ≡ find (is_at ep) self.now }
     {
-        let number = self.waiting.first_from(queue_of(ep), 0)?;
-        self.waiting.requests.get(&number)
+        self.waiting.first(ep)
     }
 
     /// Takes it out.
@@ -83,16 +81,15 @@ impl Queue {
         ensures request { find (is_at ep) self.old ≡ Some result }
         ensures rest { self.new ≡ without_first (is_at ep) self.old }
     {
-        let number = self.waiting.first_from(queue_of(ep), 0).unwrap();
-        self.waiting.remove(number)
+        self.waiting.remove_first(ep)
     }
 
     /// Takes out the first that a cancel with this id is for. Its mark goes to the request behind it in its queue.
     pub fn cancel(&mut self, id: u64) -> Option<Cancelled>
         ensures { Cancels result id self.old self.new }
     {
-        let number = self.waiting.first_cancelled(id)?;
-        let request = self.waiting.remove(number);
+        let (number, key) = self.waiting.first_cancelled(id)?;
+        let request = self.waiting.remove(number, key);
         let leaves_mark = request.reset && !self.waiting.mark_from(number);
         Some(Cancelled {
             request,
@@ -111,7 +108,7 @@ impl Queue {
     pub fn clear(&mut self)
         ensures { self.new ≡ [] }
     {
-        self.waiting.clear();
+        self.waiting = Waiting::new(self.alloc);
     }
 }
 
@@ -122,13 +119,6 @@ impl Request {
     {
         is_data(self.form) && self.id == id
     }
-}
-
-/// The queue of an endpoint, by its address. Endpoint 0 has one for both directions.
-pub fn queue_of(ep: EpAddr) -> u8
-    ensures { result ≡ queue_of ep }
-{
-    if is_control(ep) { 0 } else { ep.byte() }
 }
 
 fn is_data(form: Form) -> bool

@@ -1,30 +1,38 @@
-//! The requests that wait, each under a number, and beside them which of them wait in which queue.
+//! The requests that wait: in a slab, and beside it their keys in order of arrival, of all and of each queue.
 
-ghost use Rattle.std.specs.Prelude.{◌≡◌, ◌++◌, ◌∷◌, ◌+◌, ◌<◌, ◌^◌, [], filter, IsSome, Some, OnOk, OnErr};
-ghost use Rattle.std.specs.BTreeMap.{get, is_at};
-ghost use Rattle.std.specs.List.{list_any};
+ghost use Rattle.std.specs.Prelude.{◌≡◌, ◌++◌, ◌∷◌, ◌+◌, ◌<◌, ◌^◌, ℕ, [], filter, length, slice_index_or, is_some, IsSome, Some, OnOk, OnErr, option_copied};
+ghost use Rattle.std.specs.BTreeMap.{get, is_at as is_key};
+ghost use Rattle.std.specs.List.{find, list_any};
 ghost use Rattle.std.specs.Map.{remove_entry, values_of};
 ghost use Rattle.std.specs.Ordering.{nat_cmp};
+ghost use Rattle.usb_base.specs.Endpoint.{IsEndpoint};
+ghost use Rattle.usb_base.specs.Firsts.{without_first};
+ghost use Rattle.usb_base.specs.declared.endpoint.TheConstants.{ENDPOINTS};
+ghost use Rattle.slab.specs.Slab.{get as at_key};
 ghost use Rattle.redir_host.specs.device.Changes.{stays};
-ghost use Rattle.redir_host.specs.state.Queues.{queue_of};
-ghost use Rattle.redir_host.specs.inner.Waiting.{IsIndexed, first_number, is_from, marked_from, is_cancelled_in};
+ghost use Rattle.redir_host.specs.state.Queues.{is_at, is_cancelled_by};
+ghost use Rattle.redir_host.specs.inner.Waiting.{IsIndexed, numbered, is_from, is_key_of, marked_from, place_of};
 
 use crate::change::is_touched;
-use crate::queue::queue_of;
+use crate::keys::Keys;
 use crate::request::Request;
+use crate::requests::Requests;
 use control_route::Route;
+use slab::Slab;
 use std::alloc::Global;
-use std::collections::{BTreeMap, BTreeSet};
+use std::array::from_fn;
+use std::collections::BTreeMap;
 use std::mem;
-use usb_base::{EpTable, Memory};
+use usb_base::{ENDPOINTS, EpAddr, EpTable, Memory};
 
 /// Requests in order of arrival, and where each queue's are.
 #[derive(Drop)]
 pub struct Waiting {
-    /// Each under a number; the numbers rise in order of arrival.
-    pub requests: BTreeMap<u64, Request>,
-    /// Each request's queue with its number, so that one queue's are found beside all others.
-    pub queues: BTreeSet<(u8, u64)>,
+    pub requests: Slab<Request>,
+    /// Their keys, under numbers that rise in order of arrival.
+    pub order: BTreeMap<u64, usize>,
+    /// Those of each queue, by the place of its endpoint in a table, so that one queue's are found beside all others.
+    pub queues: [Keys; ENDPOINTS],
     /// Above all numbers.
     pub next: u64,
 }
@@ -32,33 +40,44 @@ pub struct Waiting {
 impl Waiting {
     /// No request.
     pub fn new(alloc: Global) -> Self
-        ensures requests { result.requests.entries ≡ [] }
+        ensures requests { numbered result ≡ [] }
+        ensures none { result.order.entries ≡ [] }
+        ensures next { result.next ≡ 0 }
         ensures indexed { IsIndexed result }
     {
         Waiting {
-            requests: BTreeMap::new(alloc),
-            queues: BTreeSet::new(alloc),
+            requests: Slab::new(alloc),
+            order: BTreeMap::new(alloc),
+            queues: from_fn(|_| Keys::new(alloc)),
             next: 0,
         }
     }
 
-    /// The number of the first request of a queue, from a number on.
-    pub fn first_from(&self, queue: u8, number: u64) -> Option<u64>
+    /// The requests, in order of arrival.
+    pub fn iter(&self) -> Requests<'_>
         requires { IsIndexed self.now }
-        ensures { result ≡ first_number (is_from queue number) self.now.requests.entries }
+        ensures { result ≡ values_of (numbered self.now) }
     {
-        let mut numbers = self.queues.range((queue, number)..=(queue, u64::MAX));
-        let first = numbers.next()?;
-        Some(first.1)
+        Requests::new(&self.requests, &self.order)
     }
 
-    /// The number of the first request that a cancel with this id is for.
-    pub fn first_cancelled(&self, id: u64) -> Option<u64>
-        ensures { result ≡ first_number (is_cancelled_in id) self.now.requests.entries }
+    /// An endpoint's first request.
+    pub fn first(&self, ep: EpAddr) -> Option<&Request>
+        requires { IsIndexed self.now }
+        ensures { option_copied result ≡ find (is_at ep) (values_of (numbered self.now)) }
     {
-        for (number, request) in &self.requests {
-            if request.is_cancelled_by(id) {
-                return Some(*number);
+        let (_, key) = self.queues[place_of(ep)].first()?;
+        self.requests.get(key)
+    }
+
+    /// The number and the key of the first request that a cancel with this id is for.
+    pub fn first_cancelled(&self, id: u64) -> Option<(u64, usize)>
+        requires { IsIndexed self.now }
+        ensures { result ≡ find (is_key_of (is_cancelled_by id) self.now.requests) self.now.order.entries }
+    {
+        for (number, key) in &self.order {
+            if self.requests[*key].is_cancelled_by(id) {
+                return Some((*number, *key));
             }
         }
         None
@@ -67,7 +86,7 @@ impl Waiting {
     /// Puts a request behind those that are there. For want of memory none is put in, and some may be lost.
     pub fn push(&mut self, alloc: Global, request: Request) -> Result<(), Memory>
         requires { IsIndexed self.old }
-        ensures ok { OnOk result (values_of self.new.requests.entries ≡ values_of self.old.requests.entries ++ request ∷ []) }
+        ensures ok { OnOk result (values_of (numbered self.new) ≡ values_of (numbered self.old) ++ request ∷ []) }
         ensures indexed { IsIndexed self.new }
     {
         if self.next == u64::MAX {
@@ -78,15 +97,15 @@ impl Waiting {
 
     /// Numbers the requests anew from 0, in their order.
     fn number_anew(&mut self, alloc: Global) -> Result<(), Memory>
-        ensures ok { OnOk result (values_of self.new.requests.entries ≡ values_of self.old.requests.entries) }
+        requires { IsIndexed self.old }
+        ensures ok { OnOk result (values_of (numbered self.new) ≡ values_of (numbered self.old)) }
         ensures room { OnOk result (self.new.next + 1 < 2 ^ 64) }
         ensures indexed { IsIndexed self.new }
     {
-        let requests = mem::replace(&mut self.requests, BTreeMap::new(alloc));
-        self.queues.clear();
-        self.next = 0;
-        for request in requests.into_values() {
-            self.put(request)?;
+        let old = mem::replace(self, Waiting::new(alloc));
+        let mut requests = old.requests;
+        for (_, key) in old.order {
+            self.put(requests.remove(key))?;
         }
         Ok(())
     }
@@ -95,49 +114,61 @@ impl Waiting {
     fn put(&mut self, request: Request) -> Result<(), Memory>
         requires indexed { IsIndexed self.old }
         requires room { self.old.next + 1 < 2 ^ 64 }
-        ensures ok { OnOk result (self.new.requests.entries ≡ self.old.requests.entries ++ (self.old.next, request) ∷ []) }
+        ensures ok { OnOk result (numbered self.new ≡ numbered self.old ++ (self.old.next, request) ∷ []) }
         ensures next { OnOk result (self.new.next ≡ self.old.next + 1) }
-        ensures err { OnErr result (self.new.requests.entries ≡ self.old.requests.entries) }
+        ensures err { OnErr result (numbered self.new ≡ numbered self.old) }
         ensures indexed { IsIndexed self.new }
     {
-        let key = request.key(self.next);
-        self.queues.insert(key)?;
-        match self.requests.insert(self.next, request) {
-            Ok(_) => {
-                self.next += 1;
-                Ok(())
-            }
-            Err(error) => {
-                self.queues.remove(&key);
-                Err(error.into())
-            }
+        self.requests.reserve(1)?;
+        let (number, key) = (self.next, self.requests.vacant_key());
+        self.order.insert(number, key)?;
+        let place = request.place();
+        if let Err(error) = self.queues[place].push(number, key) {
+            self.order.remove(&number);
+            return Err(error);
         }
+        self.requests.insert_reserved(request);
+        self.next += 1;
+        Ok(())
     }
 
-    /// Takes out the request of a number.
-    pub fn remove(&mut self, number: u64) -> Request
+    /// Takes out an endpoint's first request.
+    pub fn remove_first(&mut self, ep: EpAddr) -> Request
         requires indexed { IsIndexed self.old }
-        requires there { IsSome (get nat_cmp self.old.requests number) }
-        ensures request { get nat_cmp self.old.requests number ≡ Some result }
-        ensures rest { self.new.requests.entries ≡ remove_entry (is_at (nat_cmp number)) self.old.requests.entries }
+        requires there { IsSome (find (is_at ep) (values_of (numbered self.old))) }
+        ensures request { find (is_at ep) (values_of (numbered self.old)) ≡ Some result }
+        ensures rest { values_of (numbered self.new) ≡ without_first (is_at ep) (values_of (numbered self.old)) }
         ensures indexed { IsIndexed self.new }
     {
-        let request = self.requests.remove(&number).unwrap();
-        let key = request.key(number);
-        self.queues.remove(&key);
-        request
+        let (number, key) = self.queues[place_of(ep)].pop().unwrap();
+        self.order.remove(&number);
+        self.requests.remove(key)
+    }
+
+    /// Takes out the request of a number and its key.
+    pub fn remove(&mut self, number: u64, key: usize) -> Request
+        requires indexed { IsIndexed self.old }
+        requires there { get nat_cmp self.old.order number ≡ Some key }
+        ensures request { at_key self.old.requests key ≡ Some result }
+        ensures rest { numbered self.new ≡ remove_entry (is_key (nat_cmp number)) (numbered self.old) }
+        ensures indexed { IsIndexed self.new }
+    {
+        let place = self.requests[key].place();
+        self.queues[place].remove(number);
+        self.order.remove(&number);
+        self.requests.remove(key)
     }
 
     /// Marks the first of endpoint 0 from a number on, if there is one.
     pub fn mark_from(&mut self, number: u64) -> bool
         requires { IsIndexed self.old }
-        ensures found { result ≡ list_any (is_from 0 number) self.old.requests.entries }
-        ensures marked { self.new.requests.entries ≡ marked_from number self.old.requests.entries }
+        ensures found { result ≡ list_any (is_from 0 number) (numbered self.old) }
+        ensures marked { numbered self.new ≡ marked_from number (numbered self.old) }
         ensures indexed { IsIndexed self.new }
     {
-        match self.first_from(0, number) {
-            Some(behind) => {
-                self.requests.get_mut(&behind).unwrap().reset = true;
+        match self.queues[0].first_from(number) {
+            Some((_, key)) => {
+                self.requests[key].reset = true;
                 true
             }
             None => false,
@@ -147,31 +178,45 @@ impl Waiting {
     /// Drops those that a change touches, by the table before it.
     pub fn flush(&mut self, route: &Route, table: &EpTable)
         requires { IsIndexed self.old }
-        ensures rest { self.new.requests.entries ≡ filter (λ e. stays route.now table.now e.1) self.old.requests.entries }
+        ensures rest { numbered self.new ≡ filter (λ e. stays route.now table.now e.1) (numbered self.old) }
         ensures indexed { IsIndexed self.new }
     {
         self.requests.retain(|_, request| !is_touched(route, table, request.transfer.ep));
         let requests = &self.requests;
-        self.queues
-            .retain(|(_, number)| requests.contains_key(number));
+        self.order.retain(|_, key| requests.contains(*key));
+        retain_keys(&mut self.queues, requests);
     }
+}
 
-    /// Drops all.
-    pub fn clear(&mut self)
-        requires { IsIndexed self.old }
-        ensures requests { self.new.requests.entries ≡ [] }
-        ensures indexed { IsIndexed self.new }
-    {
-        self.requests.clear();
-        self.queues.clear();
+/// Takes out of each queue the keys under which nothing is any more.
+fn retain_keys(queues: &mut [Keys; ENDPOINTS], requests: &Slab<Request>)
+    ensures count { length queues.new ≡ ENDPOINTS }
+    ensures each { (place : ℕ) → slice_index_or queues.new place [] ≡ filter (λ e. is_some (at_key requests.now e.1)) (slice_index_or queues.old place []) }
+{
+    for place in 0..ENDPOINTS {
+        queues[place].retain(requests);
+    }
+}
+
+/// The place of an endpoint's queue. Endpoint 0 has one for both directions.
+fn place_of(ep: EpAddr) -> usize
+    ensures value { result ≡ place_of ep }
+    ensures in_range { result < ENDPOINTS }
+    ensures endpoint { IsEndpoint ep }
+{
+    match ep.byte() {
+        0x00 | 0x80 => 0,
+        _ => ep.index(),
     }
 }
 
 impl Request {
-    /// Its queue, with its number.
-    fn key(&self, number: u64) -> (u8, u64)
-        ensures { result ≡ (queue_of self.now.transfer.ep, number) }
+    /// The place of its queue.
+    fn place(&self) -> usize
+        ensures value { result ≡ place_of self.now.transfer.ep }
+        ensures in_range { result < ENDPOINTS }
+        ensures endpoint { IsEndpoint self.now.transfer.ep }
     {
-        (queue_of(self.transfer.ep), number)
+        place_of(self.transfer.ep)
     }
 }

@@ -1,41 +1,61 @@
--- How a host keeps its requests: each under a number that rises in order of arrival, and beside them the queues that they
--- wait in, with their numbers.
-use Rattle.std.specs.Prelude.{◌≡◌, ◌==◌, ◌&&◌, ◌<◌, ◌^◌, ℕ, Bool, false, nat_le, if◌then◌else◌, List, [], ◌∷◌, Option, Some, None}
-use Rattle.std.specs.BTreeMap.{get, IsOrdered}
-use Rattle.std.specs.BTreeSet.{contains}
-use Rattle.std.specs.List.{find, AllByRecursion}
-use Rattle.std.specs.Option.{option_map}
-use Rattle.std.specs.Ordering.{nat_cmp, ordering_then}
-use Rattle.std.specs.declared.cmp.Ordering.{Ordering}
+-- How a host keeps its requests: in a slab, their keys under numbers that rise in order of arrival, and beside them the
+-- keys of each queue.
+use Rattle.std.specs.Prelude.{◌≡◌, ◌==◌, ◌&&◌, ◌<◌, ◌^◌, ℕ, Bool, true, false, nat_le, if◌then◌else◌, List, [], ◌∷◌, Option, Some, None, filter, length, slice_index_or}
+use Rattle.std.specs.BTreeMap.{IsOrdered}
+use Rattle.std.specs.List.{AllByRecursion, list_any}
+use Rattle.std.specs.Ordering.{nat_cmp}
+use Rattle.slab.specs.Slab.{Slab, get, ContainsKey}
+use Rattle.usb_base.specs.Endpoint.{IsEndpoint, endpoint_index}
+use Rattle.usb_base.specs.declared.endpoint.TheConstants.{ENDPOINTS}
 use Rattle.redir_host.specs.declared.request.Request.{Request}
 use Rattle.redir_host.specs.declared.waiting.Waiting.{Waiting}
-use Rattle.redir_host.specs.state.Queues.{queue_of, is_cancelled_by, marked}
+use Rattle.redir_host.specs.inner.Requests.{requests_of}
+use Rattle.redir_host.specs.state.Queues.{queue_of, is_at, marked}
 
--- by the queue, and then by the number
-abbrev pub key_cmp : ℕ × ℕ → ℕ × ℕ → Ordering
-key_cmp x y = ordering_then (nat_cmp x.0 y.0) (nat_cmp x.1 y.1)
+abbrev pub numbered : Waiting → List (ℕ × Request)
+numbered w = requests_of w.requests w.order.entries
 
-abbrev pub waits_in : ℕ → Option Request → Bool
-waits_in queue None = false
-waits_in queue (Some q) = queue_of q.transfer.ep == queue
+-- ---- keys, by their requests
+
+abbrev pub if_there : (Request → Bool) → Option Request → Bool
+if_there test None = false
+if_there test (Some q) = test q
+
+abbrev pub is_key_of : (Request → Bool) → Slab Request → ℕ × ℕ → Bool
+is_key_of test slab e = if_there test (get slab e.1)
+
+abbrev pub keys_at : ℕ → Slab Request → List (ℕ × ℕ) → List (ℕ × ℕ)
+keys_at ep slab es = filter (is_key_of (is_at ep) slab) es
+
+-- the place of an endpoint's queue
+abbrev pub place_of : ℕ → ℕ
+place_of ep = endpoint_index (queue_of ep)
+
+-- no key comes twice
+abbrev pub Differ : List (ℕ × ℕ) → Type 0
+Differ [] = Unit {0}
+Differ (e ∷ es) = AllByRecursion (λ (x : ℕ × ℕ). x.1 ≡ e.1 → ⊥) es × Differ es
+
+abbrev pub is_listed : ℕ → List (ℕ × ℕ) → Bool
+is_listed key es = list_any (λ e. e.1 == key) es
 
 pub record IsIndexed (w : Waiting) : Type 0 where
-  pub ordered : IsOrdered nat_cmp w.requests
-  pub below : AllByRecursion (λ (e : ℕ × Request). e.0 < w.next) w.requests.entries
+  pub ordered : IsOrdered nat_cmp w.order
+  pub below : AllByRecursion (λ (e : ℕ × ℕ). e.0 < w.next) w.order.entries
   pub room : w.next < 2 ^ 64
-  -- just the requests' own queues and numbers are there
-  pub queues : (k : ℕ × ℕ) → contains key_cmp w.queues k ≡ waits_in k.0 (get nat_cmp w.requests k.1)
+  pub differ : Differ w.order.entries
+  -- each key has a request
+  pub held : AllByRecursion (λ (e : ℕ × ℕ). ContainsKey w.requests e.1) w.order.entries
+  -- and there is no other request
+  pub only : (key : ℕ) → ContainsKey w.requests key → is_listed key w.order.entries ≡ true
+  pub places : length w.queues ≡ ENDPOINTS
+  -- each queue has just the keys of its own requests, in their order
+  pub queues : (ep : ℕ) → IsEndpoint ep → slice_index_or w.queues (place_of ep) [] ≡ keys_at ep w.requests w.order.entries
 
--- ---- searches
+-- ---- requests under their numbers
 
 abbrev pub is_from : ℕ → ℕ → ℕ × Request → Bool
 is_from queue number e = nat_le number e.0 && (queue_of e.1.transfer.ep == queue)
-
-abbrev pub is_cancelled_in : ℕ → ℕ × Request → Bool
-is_cancelled_in id e = is_cancelled_by id e.1
-
-abbrev pub first_number : (ℕ × Request → Bool) → List (ℕ × Request) → Option ℕ
-first_number test es = option_map (λ (e : ℕ × Request). e.0) (find test es)
 
 -- the first of endpoint 0's queue from a number on is marked
 abbrev pub marked_from : ℕ → List (ℕ × Request) → List (ℕ × Request)

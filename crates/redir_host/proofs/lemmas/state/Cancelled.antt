@@ -8,7 +8,7 @@ use Rattle.std.proofs.lemmas.Bool.{cases_Bool, eqb-true, le-leb, leb-true}
 use Rattle.model_device.specs.Transfer.{is_control}
 use Rattle.redir_host.specs.declared.request.Request.{Request}
 use Rattle.redir_host.specs.guest.Cancels.{CancelsOne}
-use Rattle.redir_host.specs.inner.Waiting.{is_cancelled_in, is_from, marked_from}
+use Rattle.redir_host.specs.inner.Waiting.{is_from, marked_from}
 use Rattle.redir_host.specs.state.Queues.{after_cancel, is_cancelled_by, is_first_queue, leaves_mark, marked, queue_of, with_first_marked}
 use Rattle.redir_host.proofs.lemmas.state.Numbered.{Above, Sorted, at, find_value, found_above, head_above, removed_behind, removed_here, tail_sorted}
 
@@ -63,12 +63,12 @@ rest_behind x e es less =
     ])
     ∙ ap (λ ys. values_of (cond e.1.reset (marked_from e.0 ys) ys)) (sym (removed_behind x es e.0 less))
 
-rest_is : (id : ℕ) (es : List (ℕ × Request)) (e : ℕ × Request) → Sorted es → find (is_cancelled_in id) es ≡ Some e → after_cancel id (values_of es) ≡ values_of (left_of e es)
+rest_is : (id : ℕ) (es : List (ℕ × Request)) (e : ℕ × Request) → Sorted es → find (λ (y : ℕ × Request). is_cancelled_by id y.1) es ≡ Some e → after_cancel id (values_of es) ≡ values_of (left_of e es)
 rest_is id [] e s is = absurd cc
 rest_is id (x ∷ es) e s is =
-    elim (is_cancelled_in id x) as (λ (b : Bool). cond b (Some x) (find (is_cancelled_in id) es) ≡ Some e → cond b (cond x.1.reset (with_first_marked (values_of es)) (values_of es)) (x.1 ∷ after_cancel id (values_of es)) ≡ values_of (left_of e (x ∷ es))) [
+    elim (is_cancelled_by id x.1) as (λ (b : Bool). cond b (Some x) (find (λ (y : ℕ × Request). is_cancelled_by id y.1) es) ≡ Some e → cond b (cond x.1.reset (with_first_marked (values_of es)) (values_of es)) (x.1 ∷ after_cancel id (values_of es)) ≡ values_of (left_of e (x ∷ es))) [
       | true ↦ λ h. let same : x ≡ e = cc in subst (λ (y : ℕ × Request). cond x.1.reset (with_first_marked (values_of es)) (values_of es) ≡ values_of (left_of y (x ∷ es))) same (rest_here x es (head_above x es s))
-      | false ↦ λ h. ap (λ qs. x.1 ∷ qs) (rest_is id es e (tail_sorted x es s) h) ∙ rest_behind x e es (found_above x.0 (is_cancelled_in id) es e (head_above x es s) h)
+      | false ↦ λ h. ap (λ qs. x.1 ∷ qs) (rest_is id es e (tail_sorted x es s) h) ∙ rest_behind x e es (found_above x.0 (λ (y : ℕ × Request). is_cancelled_by id y.1) es e (head_above x es s) h)
     ] is
 
 leaves_here : (x : ℕ × Request) (es : List (ℕ × Request)) → Above x.0 es → (x.1.reset && not (list_any is_first_queue (values_of es))) ≡ leaves_of x (x ∷ es)
@@ -78,16 +78,16 @@ leaves_behind : (x e : ℕ × Request) (es : List (ℕ × Request)) → x.0 < e.
 leaves_behind x e es less =
     ap (λ (b : Bool). e.1.reset && not (b || list_any (is_from 0 e.0) (remove_entry (at e.0) es))) (sym (before_it e.0 x less)) ∙ ap (λ ys. e.1.reset && not (list_any (is_from 0 e.0) ys)) (sym (removed_behind x es e.0 less))
 
-leaves_is : (id : ℕ) (es : List (ℕ × Request)) (e : ℕ × Request) → Sorted es → find (is_cancelled_in id) es ≡ Some e → leaves_mark id (values_of es) ≡ leaves_of e es
+leaves_is : (id : ℕ) (es : List (ℕ × Request)) (e : ℕ × Request) → Sorted es → find (λ (y : ℕ × Request). is_cancelled_by id y.1) es ≡ Some e → leaves_mark id (values_of es) ≡ leaves_of e es
 leaves_is id [] e s is = absurd cc
 leaves_is id (x ∷ es) e s is =
-    elim (is_cancelled_in id x) as (λ (b : Bool). cond b (Some x) (find (is_cancelled_in id) es) ≡ Some e → cond b (x.1.reset && not (list_any is_first_queue (values_of es))) (leaves_mark id (values_of es)) ≡ leaves_of e (x ∷ es)) [
+    elim (is_cancelled_by id x.1) as (λ (b : Bool). cond b (Some x) (find (λ (y : ℕ × Request). is_cancelled_by id y.1) es) ≡ Some e → cond b (x.1.reset && not (list_any is_first_queue (values_of es))) (leaves_mark id (values_of es)) ≡ leaves_of e (x ∷ es)) [
       | true ↦ λ h. let same : x ≡ e = cc in subst (λ (y : ℕ × Request). (x.1.reset && not (list_any is_first_queue (values_of es))) ≡ leaves_of y (x ∷ es)) same (leaves_here x es (head_above x es s))
-      | false ↦ λ h. leaves_is id es e (tail_sorted x es s) h ∙ leaves_behind x e es (found_above x.0 (is_cancelled_in id) es e (head_above x es s) h)
+      | false ↦ λ h. leaves_is id es e (tail_sorted x es s) h ∙ leaves_behind x e es (found_above x.0 (λ (y : ℕ × Request). is_cancelled_by id y.1) es e (head_above x es s) h)
     ] is
 
 -- what was taken out is what the cancel is for, and its mark went on
-pub took_cancelled : (id : ℕ) (es : List (ℕ × Request)) (e : ℕ × Request) (ys : List (ℕ × Request)) (left : Bool) → Sorted es → find (is_cancelled_in id) es ≡ Some e → ys ≡ left_of e es → left ≡ leaves_of e es →
+pub took_cancelled : (id : ℕ) (es : List (ℕ × Request)) (e : ℕ × Request) (ys : List (ℕ × Request)) (left : Bool) → Sorted es → find (λ (y : ℕ × Request). is_cancelled_by id y.1) es ≡ Some e → ys ≡ left_of e es → left ≡ leaves_of e es →
     CancelsOne (record { request = e.1; leaves_mark = left }) id (values_of es) (values_of ys)
 took_cancelled id es e ys left s is rest leaves = record {
   request = find_value (is_cancelled_by id) es ∙ ap (option_map (λ (x : ℕ × Request). x.1)) is;

@@ -1,222 +1,115 @@
--- The keys of the requests by their queues, as the list of the requests changes.
-use Rattle.std.proofs.Common.{◌≡◌, ◌<◌, ◌≤◌, ◌+◌, ◌^◌, ◌==◌, ◌&&◌, ◌||◌, ℕ, Bool, true, false, cond, is_some, filter, List, [], ◌∷◌, Some, None, refl, sym, ap, subst, ◌∙◌, arith, inl, inr}
-use Rattle.std.specs.Prelude.{Option, nat_le}
-use Rattle.std.specs.BTreeMap.{is_at as is_key}
-use Rattle.std.specs.List.{find, list_any}
-use Rattle.std.specs.Map.{keys_of, lookup, remove_entry, set_value}
-use Rattle.std.specs.Option.{option_map}
-use Rattle.std.specs.Ordering.{nat_cmp, is_gt, ordering_then}
-use Rattle.std.specs.BTreeMap.Range.{IsInRange, IsLeBy}
-use Rattle.std.specs.BTreeSet.{contains}
-use Rattle.std.specs.Cmp.{tied_then}
-use Rattle.std.specs.declared.ops.Bound.TheVariants.{Included}
-use Rattle.std.proofs.Math.Bool.{and-true, and-false}
-use Rattle.std.proofs.lemmas.Bool.{and_parts, cases_Bool, cases_eq, eqb-true, le-leb, leb-true}
-use Rattle.std.proofs.lemmas.Cmp.{ranked, by_ranked, tied_itself, nat_cmp_total, eq_by_cmp_equiv}
-use Rattle.std.proofs.lemmas.Map.Entries.{lookup-filter-values, option_filter}
-use Rattle.std.proofs.lemmas.Map.Lookups.{exact_pairs, exact_unsigned}
-use Rattle.std.proofs.lemmas.Map.Views.{tells_apart}
-use Rattle.std.proofs.lemmas.Map.Keys.{le_from_not_gt, IsDistinct-from_sorted}
+-- The keys of a queue, as the requests change.
+use Rattle.std.proofs.Common.{◌≡◌, ◌<◌, ◌-◌, ◌==◌, ◌&&◌, ℕ, Bool, true, false, cond, not, filter, List, [], ◌∷◌, Some, None, refl, sym, ap, subst, ◌∙◌, arith, inl, inr}
+use Rattle.std.specs.Prelude.{Option, nat_le, nat_lt}
+use Rattle.std.specs.List.{find, slice_get}
+use Rattle.std.specs.Map.{lookup, remove_entry}
+use Rattle.std.proofs.lemmas.Bool.{cases_Bool, cases_eq, eq-eqb, ltb-false, ltb-true, ne_eqb}
+use Rattle.slab.specs.Slab.{Slab, get}
+use Rattle.usb_base.specs.Endpoint.{IsEndpoint, endpoint_index}
+use Rattle.model_device.specs.Transfer.{is_control}
 use Rattle.redir_host.specs.declared.request.Request.{Request}
-use Rattle.redir_host.specs.declared.waiting.Waiting.{Waiting}
-use Rattle.redir_host.specs.inner.Waiting.{IsIndexed, first_number, is_from, key_cmp, marked_from, waits_in}
-use Rattle.redir_host.specs.state.Queues.{marked, queue_of}
-use Rattle.redir_host.proofs.lemmas.state.Numbered.{Below, Sorted, apart, at, at_itself, first_found, found_above, head_above, looked_below, none_found, tail_sorted}
+use Rattle.redir_host.specs.inner.Waiting.{if_there, is_from, is_key_of, place_of}
+use Rattle.redir_host.specs.state.Queues.{is_at, queue_of}
+use Rattle.redir_host.proofs.lemmas.state.Each.{each_filtered}
+use Rattle.redir_host.proofs.lemmas.state.Keyed.{is_entry_of}
+use Rattle.redir_host.proofs.lemmas.state.Numbered.{Above, Sorted, apart, at, head_above, looked_here, removed_behind, removed_here, tail_sorted}
 
--- ---- by their queues
+-- ---- places tell queues apart
 
-key_le : (queue n m : ℕ) → n ≤ m → IsLeBy key_cmp (queue, n) (queue, m)
-key_le queue n m less =
-    ap (λ o. is_gt (ordering_then o (nat_cmp n m))) (tied_itself nat_cmp_total queue)
-    ∙ by_ranked (n < m) (n ≡ m) (m < n) (nat_cmp n m) (ranked n m (nat_cmp n m) refl) (λ e is. ap is_gt e) (λ e is. ap is_gt e) (λ e is. absurd (omega (arith, less, is)))
+queue_endpoint : (a : ℕ) → IsEndpoint a → IsEndpoint (queue_of a)
+queue_endpoint a is = elim (is_control a) as (λ (b : Bool). IsEndpoint (cond b 0 a)) [ true ↦ omega arith | false ↦ is ]
 
-le_parts : (a b : ℕ × ℕ) → IsLeBy key_cmp a b → (a.0 ≤ b.0) × (a.0 ≡ b.0 → a.1 ≤ b.1)
-le_parts a b le =
-    by_ranked (a.0 < b.0) (a.0 ≡ b.0) (b.0 < a.0) (nat_cmp a.0 b.0) (ranked a.0 b.0 (nat_cmp a.0 b.0) refl)
-    (λ e less. (omega (arith, less), λ same. absurd (omega (arith, less, same))))
-    (λ e same. (omega (arith, same), λ is. le_from_not_gt a.1 b.1 (sym (ap (λ o. is_gt (ordering_then o (nat_cmp a.1 b.1))) e) ∙ le)))
-    (λ e more. absurd (let no : true ≡ false = sym (ap (λ o. is_gt (ordering_then o (nat_cmp a.1 b.1))) e) ∙ le in cc))
-
-abbrev InQueue : ℕ → ℕ → ℕ → ℕ × ℕ → Type 0
-InQueue queue number top k = IsInRange key_cmp (Included (queue, number)) (Included (queue, top)) k
-
--- what stands between is of the queue, from the number on
-between : (queue number top : ℕ) (k : ℕ × ℕ) → InQueue queue number top k → (queue ≡ k.0) × (number ≤ k.1)
-between queue number top k is =
-    let up = le_parts (queue, number) k is.0 in
-    let down = le_parts k (queue, top) is.1 in
-    let same : queue ≡ k.0 = omega (arith, up.0, down.0) in
-    (same, up.1 same)
-
-within : (w : Waiting) (queue number top m : ℕ) (r : Request) → IsIndexed w → 2 ^ 64 ≤ top + 1 → number ≤ m → lookup (at m) w.requests.entries ≡ Some r → InQueue queue number top (queue, m)
-within w queue number top m r indexed room from there =
-    let less = looked_below w.next m w.requests.entries r indexed.below there in
-    (key_le queue number m from, key_le queue m top (let fits = indexed.room in omega (arith, room, less, fits)))
-
-waits : (w : Waiting) (queue m : ℕ) (r : Request) → IsIndexed w → lookup (at m) w.requests.entries ≡ Some r → contains key_cmp w.queues (queue, m) ≡ (queue_of r.transfer.ep == queue)
-waits w queue m r indexed there = indexed.queues (queue, m) ∙ ap (waits_in queue) there
-
-pub none_from : (w : Waiting) (queue number top : ℕ) → IsIndexed w → 2 ^ 64 ≤ top + 1 → ((k : ℕ × ℕ) → InQueue queue number top k → contains key_cmp w.queues k ≡ false) → find (is_from queue number) w.requests.entries ≡ None
-none_from w queue number top indexed room none =
-    none_found (is_from queue number) w.requests.entries indexed.ordered (λ m r there. by m r there (nat_le number m) refl)
+index_tells : (a b : ℕ) → IsEndpoint a → IsEndpoint b → endpoint_index a ≡ endpoint_index b → a ≡ b
+index_tells a b here there same = by (nat_lt a 128) refl (nat_lt b 128) refl
   where
-    by : (m : ℕ) (r : Request) → lookup (at m) w.requests.entries ≡ Some r → (b : Bool) → nat_le number m ≡ b → is_from queue number (m, r) ≡ false
-    by m r there false e = ap (λ (b : Bool). b && (queue_of r.transfer.ep == queue)) e
-    by m r there true e =
-        ap (λ (b : Bool). b && (queue_of r.transfer.ep == queue)) e
-        ∙ sym (waits w queue m r indexed there) ∙ none (queue, m) (within w queue number top m r indexed room (leb-true number m e) there)
+    by : (x : Bool) → nat_lt a 128 ≡ x → (y : Bool) → nat_lt b 128 ≡ y → a ≡ b
+    by x e y f =
+        let is : cond x a (a - 112) ≡ cond y b (b - 112) = sym (ap (λ (t : Bool). cond t a (a - 112)) e) ∙ same ∙ ap (λ (t : Bool). cond t b (b - 112)) f in
+        cases x e y f is
+      where
+        cases : (x : Bool) → nat_lt a 128 ≡ x → (y : Bool) → nat_lt b 128 ≡ y → cond x a (a - 112) ≡ cond y b (b - 112) → a ≡ b
+        cases true e true f is = is
+        cases true e false f is = let low = ltb-true a 128 e in let high = ltb-false b 128 f in absurd (omega (arith, low, high, is, here, there))
+        cases false e true f is = let high = ltb-false a 128 e in let low = ltb-true b 128 f in absurd (omega (arith, low, high, is, here, there))
+        cases false e false f is = let one = ltb-false a 128 e in let two = ltb-false b 128 f in omega (arith, one, two, is)
 
-waiting_there : (queue : ℕ) (o : Option Request) → waits_in queue o ≡ true → (q : Request) × ((o ≡ Some q) × ((queue_of q.transfer.ep == queue) ≡ true))
-waiting_there queue None is = absurd cc
-waiting_there queue (Some q) is = (q, (refl, is))
+pub place_tells : (a b : ℕ) → IsEndpoint a → IsEndpoint b → place_of a ≡ place_of b → queue_of a ≡ queue_of b
+place_tells a b here there same = index_tells (queue_of a) (queue_of b) (queue_endpoint a here) (queue_endpoint b there) same
 
-pub some_from : (w : Waiting) (queue number top : ℕ) (k : ℕ × ℕ) → IsIndexed w → 2 ^ 64 ≤ top + 1 → InQueue queue number top k → contains key_cmp w.queues k ≡ true
-    → ((o : ℕ × ℕ) → InQueue queue number top o → contains key_cmp w.queues o ≡ true → IsLeBy key_cmp k o) → first_number (is_from queue number) w.requests.entries ≡ Some k.1
-some_from w queue number top k indexed room is there least =
-    let own = between queue number top k is in
-    let waiting = waiting_there k.0 (lookup (at k.1) w.requests.entries) (sym (indexed.queues k) ∙ there) in
-    let q = waiting.0 in
-    let passes : is_from queue number (k.1, q) ≡ true = (λ i. le-leb number k.1 own.1 i && (queue_of q.transfer.ep == own.0 i)) ∙ waiting.1.1 in
-    ap (option_map (λ (e : ℕ × Request). e.0)) (first_found (is_from queue number) w.requests.entries k.1 q indexed.ordered waiting.1.0 passes (λ m r at_m passed. by own.0 m r at_m passed))
+-- ---- searches
+
+pub first_kept : {X : Type 0} (p : X → Bool) (xs : List X) → slice_get (filter p xs) 0 ≡ find p xs
+first_kept p [] = refl
+first_kept p (x ∷ xs) = elim (p x) as (λ (b : Bool). slice_get (cond b (x ∷ filter p xs) (filter p xs)) 0 ≡ cond b (Some x) (find p xs)) [ true ↦ refl | false ↦ first_kept p xs ]
+
+-- of endpoint 0's queue from a number on
+pub found_from : (number : ℕ) (s : Slab Request) (es : List (ℕ × ℕ)) → find (λ (e : ℕ × ℕ). nat_le number e.0) (filter (is_key_of (is_at 0) s) es) ≡ find (is_entry_of (is_from 0 number) s) es
+found_from number s [] = refl
+found_from number s (e ∷ es) = by (get s e.1) (filter (is_key_of (is_at 0) s) es) (find (is_entry_of (is_from 0 number) s) es) (found_from number s es)
   where
-    by : queue ≡ k.0 → (m : ℕ) (r : Request) → lookup (at m) w.requests.entries ≡ Some r → is_from queue number (m, r) ≡ true → k.1 ≤ m
-    by same m r at_m passed =
-        let both = and_parts (nat_le number m) (queue_of r.transfer.ep == queue) passed in
-        let from = leb-true number m both.0 in
-        (le_parts k (queue, m) (least (queue, m) (within w queue number top m r indexed room from at_m) (waits w queue m r indexed at_m ∙ both.1))).1 (sym same)
+    by : (o : Option Request) (keys : List (ℕ × ℕ)) (found : Option (ℕ × ℕ)) → find (λ (x : ℕ × ℕ). nat_le number x.0) keys ≡ found →
+        find (λ (x : ℕ × ℕ). nat_le number x.0) (cond (if_there (is_at 0) o) (e ∷ keys) keys) ≡ cond (if_there (λ q. is_from 0 number (e.0, q)) o) (Some e) found
+    by None keys found is = is
+    by (Some q) keys found is =
+        elim (queue_of q.transfer.ep == 0) as (λ (b : Bool). find (λ (x : ℕ × ℕ). nat_le number x.0) (cond b (e ∷ keys) keys) ≡ cond (nat_le number e.0 && b) (Some e) found) [
+          | true ↦ elim (nat_le number e.0) as (λ (c : Bool). cond c (Some e) (find (λ (x : ℕ × ℕ). nat_le number x.0) keys) ≡ cond (c && true) (Some e) found) [ true ↦ refl | false ↦ is ]
+          | false ↦ elim (nat_le number e.0) as (λ (c : Bool). find (λ (x : ℕ × ℕ). nat_le number x.0) keys ≡ cond (c && false) (Some e) found) [ true ↦ is | false ↦ is ]
+        ]
 
--- what a search of the set between two keys says, where these are of one queue
-pub none_between : (w : Waiting) (queue number top : ℕ) (start end : ℕ × ℕ) → IsIndexed w → 2 ^ 64 ≤ top + 1 → start ≡ (queue, number) → end ≡ (queue, top)
-    → ((k : ℕ × ℕ) → IsInRange key_cmp (Included start) (Included end) k → contains key_cmp w.queues k ≡ false) → find (is_from queue number) w.requests.entries ≡ None
-none_between w queue number top start end indexed room from to none =
-    none_from w queue number top indexed room (λ k is. none k (subst (λ s. IsLeBy key_cmp s k) (sym from) is.0, subst (λ e. IsLeBy key_cmp k e) (sym to) is.1))
+-- ---- one less
 
-pub some_between : (w : Waiting) (queue number top : ℕ) (start end : ℕ × ℕ) (k : ℕ × ℕ) → IsIndexed w → 2 ^ 64 ≤ top + 1 → start ≡ (queue, number) → end ≡ (queue, top)
-    → IsInRange key_cmp (Included start) (Included end) k × (contains key_cmp w.queues k ≡ true)
-    → ((o : ℕ × ℕ) → IsInRange key_cmp (Included start) (Included end) o → contains key_cmp w.queues o ≡ true → IsLeBy key_cmp k o) → first_number (is_from queue number) w.requests.entries ≡ Some k.1
-some_between w queue number top start end k indexed room from to is least =
-    some_from w queue number top k indexed room (subst (λ s. IsLeBy key_cmp s k) from is.0.0, subst (λ e. IsLeBy key_cmp k e) to is.0.1) is.1
-    (λ o place there. least o (subst (λ s. IsLeBy key_cmp s o) (sym from) place.0, subst (λ e. IsLeBy key_cmp o e) (sym to) place.1) there)
+-- the first of a queue
+pub popped : (p : ℕ × ℕ → Bool) (es : List (ℕ × ℕ)) (x : ℕ × ℕ) (rest : List (ℕ × ℕ)) → Sorted es → filter p es ≡ x ∷ rest → filter p (remove_entry (at x.0) es) ≡ rest
+popped p [] x rest s is = absurd cc
+popped p (e ∷ es) x rest s is = elim (cases_Bool (p e)) [
+  | inl passes ↦
+      let kept : e ∷ filter p es ≡ x ∷ rest = sym (ap (λ (b : Bool). cond b (e ∷ filter p es) (filter p es)) passes) ∙ is in
+      let own : e ≡ x = cc in
+      let behind : filter p es ≡ rest = cc in
+      ap (λ (y : ℕ × ℕ). filter p (remove_entry (at y.0) (e ∷ es))) (sym own) ∙ ap (filter p) (removed_here e es) ∙ behind
+  | inr fails ↦
+      let kept : filter p es ≡ x ∷ rest = sym (ap (λ (b : Bool). cond b (e ∷ filter p es) (filter p es)) fails) ∙ is in
+      let above : e.0 < x.0 = (subst (Above e.0) kept (each_filtered (λ (y : ℕ × ℕ). e.0 < y.0) p es (head_above e es s))).0 in
+      ap (filter p) (removed_behind e es x.0 above) ∙ ap (λ (b : Bool). cond b (e ∷ filter p (remove_entry (at x.0) es)) (filter p (remove_entry (at x.0) es))) fails ∙ popped p es x rest (tail_sorted e es s) kept
+]
 
--- ---- one request more or less
-
-key_at : (a b : ℕ × ℕ) → is_key (key_cmp a) b ≡ (at a.0 b.0 && at a.1 b.1)
-key_at a b = sym (tied_then (nat_cmp a.0 b.0) (nat_cmp a.1 b.1))
-
-same_at : (a b : ℕ) → a ≡ b → at a b ≡ true
-same_at a b same = ap (at a) (sym same) ∙ at_itself a
-
--- it waits in no other queue
-abbrev pub Only : ℕ → Option Request → Type 0
-Only queue o = (other : ℕ) → (queue ≡ other → ⊥) → waits_in other o ≡ false
-
-pub only_own : (q : Request) → Only (queue_of q.transfer.ep) (Some q)
-only_own q other differ = elim (cases_Bool (queue_of q.transfer.ep == other)) [ inl same ↦ absurd (differ (eqb-true (queue_of q.transfer.ep) other same)) | inr apart ↦ apart ]
-
-pub moved : (old_get new_get : ℕ → Option Request) (old_has new_has : ℕ × ℕ → Bool) (queue n : ℕ) (o w : Option Request) (b : Bool) →
-    ((k : ℕ × ℕ) → old_has k ≡ waits_in k.0 (old_get k.1)) → ((q : ℕ) → new_get q ≡ cond (at n q) w (old_get q)) → ((k : ℕ × ℕ) → new_has k ≡ cond (is_key (key_cmp (queue, n)) k) b (old_has k)) →
-    old_get n ≡ o → Only queue o → Only queue w → b ≡ waits_in queue w → (k : ℕ × ℕ) → new_has k ≡ waits_in k.0 (new_get k.1)
-moved old_get new_get old_has new_has queue n o w b was gets has held before after is k = elim (cases_eq n k.1) [
+-- one that is of no such queue
+pub kept_other : (p : ℕ × ℕ → Bool) (n k : ℕ) (es : List (ℕ × ℕ)) → lookup (at n) es ≡ Some k → p (n, k) ≡ false → filter p (remove_entry (at n) es) ≡ filter p es
+kept_other p n k [] is fails = absurd cc
+kept_other p n k (e ∷ es) is fails = elim (cases_eq n e.0) [
   | inl same ↦
-      let got : new_get k.1 ≡ w = gets k.1 ∙ ap (λ (t : Bool). cond t w (old_get k.1)) (same_at n k.1 same) in
-      let at_k : is_key (key_cmp (queue, n)) k ≡ at queue k.0 = key_at (queue, n) k ∙ ap (λ (t : Bool). at queue k.0 && t) (same_at n k.1 same) ∙ and-true (at queue k.0) in
-      let reads : old_has k ≡ waits_in k.0 o = was k ∙ ap (λ m. waits_in k.0 (old_get m)) (sym same) ∙ ap (waits_in k.0) held in
-      elim (cases_eq queue k.0) [
-        | inl own ↦ has k ∙ ap (λ (t : Bool). cond t b (old_has k)) (at_k ∙ same_at queue k.0 own) ∙ is ∙ ap (λ l. waits_in l w) own ∙ ap (waits_in k.0) (sym got)
-        | inr differ ↦ has k ∙ ap (λ (t : Bool). cond t b (old_has k)) (at_k ∙ apart queue k.0 differ) ∙ reads ∙ before k.0 differ ∙ sym (after k.0 differ) ∙ ap (waits_in k.0) (sym got)
-      ]
+      let value : Some e.1 ≡ Some k = sym (ap (λ (m : ℕ). lookup (at m) (e ∷ es)) same ∙ looked_here e es) ∙ is in
+      let own : k ≡ e.1 = cc in
+      let here : (n, k) ≡ e = λ i. (same i, own i) in
+      let fails_here : p e ≡ false = sym (ap p here) ∙ fails in
+      ap (λ (m : ℕ). filter p (remove_entry (at m) (e ∷ es))) same ∙ ap (filter p) (removed_here e es) ∙ sym (ap (λ (b : Bool). cond b (e ∷ filter p es) (filter p es)) fails_here)
   | inr differ ↦
-      let got : new_get k.1 ≡ old_get k.1 = gets k.1 ∙ ap (λ (t : Bool). cond t w (old_get k.1)) (apart n k.1 differ) in
-      let at_k : is_key (key_cmp (queue, n)) k ≡ false = key_at (queue, n) k ∙ ap (λ (t : Bool). at queue k.0 && t) (apart n k.1 differ) ∙ and-false (at queue k.0) in
-      has k ∙ ap (λ (t : Bool). cond t b (old_has k)) at_k ∙ was k ∙ ap (waits_in k.0) (sym got)
+      let other = apart n e.0 differ in
+      let behind : lookup (at n) es ≡ Some k = sym (ap (λ (b : Bool). cond b (Some e.1) (lookup (at n) es)) other) ∙ is in
+      ap (λ (b : Bool). filter p (cond b es (e ∷ remove_entry (at n) es))) other ∙ ap (λ ys. cond (p e) (e ∷ ys) ys) (kept_other p n k es behind fails)
 ]
 
--- a key was put in and taken out again
-pub undone : (old mid new : ℕ × ℕ → Bool) (key : ℕ × ℕ) → ((k : ℕ × ℕ) → mid k ≡ cond (is_key (key_cmp key) k) true (old k)) → ((k : ℕ × ℕ) → new k ≡ cond (is_key (key_cmp key) k) false (mid k)) →
-    ((k : ℕ × ℕ) → key.1 ≡ k.1 → old k ≡ false) → (k : ℕ × ℕ) → new k ≡ old k
-undone old mid new key put out none k = elim (cases_Bool (is_key (key_cmp key) k)) [
-  | inl here ↦ out k ∙ ap (λ (t : Bool). cond t false (mid k)) here ∙ sym (none k (second_same (at key.0 k.0) (at key.1 k.1) key.1 k.1 refl (sym (key_at key k) ∙ here)))
-  | inr apart ↦ out k ∙ ap (λ (t : Bool). cond t false (mid k)) apart ∙ put k ∙ ap (λ (t : Bool). cond t true (old k)) apart
+abbrev pub not_at : ℕ → ℕ × ℕ → Bool
+not_at n e = not (e.0 == n)
+
+above_stays : (n : ℕ) (es : List (ℕ × ℕ)) → Above n es → filter (not_at n) es ≡ es
+above_stays n [] above = refl
+above_stays n (e ∷ es) above =
+    ap (λ (b : Bool). cond (not b) (e ∷ filter (not_at n) es) (filter (not_at n) es)) (ne_eqb e.0 n (λ same. omega (arith, above.0, same))) ∙ ap (λ ys. e ∷ ys) (above_stays n es above.1)
+
+-- wherever it stands in its queue
+pub kept_apart : (p : ℕ × ℕ → Bool) (n : ℕ) (es : List (ℕ × ℕ)) → Sorted es → filter (not_at n) (filter p es) ≡ filter p (remove_entry (at n) es)
+kept_apart p n [] s = refl
+kept_apart p n (e ∷ es) s = elim (cases_eq e.0 n) [
+  | inl same ↦
+      let gone : not_at n e ≡ false = ap not (eq-eqb e.0 n same) in
+      (elim (p e) as (λ (b : Bool). filter (not_at n) (cond b (e ∷ filter p es) (filter p es)) ≡ filter (not_at n) (filter p es)) [ true ↦ ap (λ (b : Bool). cond b (e ∷ filter (not_at n) (filter p es)) (filter (not_at n) (filter p es))) gone | false ↦ refl ])
+      ∙ above_stays n (filter p es) (each_filtered (λ (y : ℕ × ℕ). n < y.0) p es (subst (λ m. Above m es) same (head_above e es s)))
+      ∙ ap (filter p) (sym (removed_here e es) ∙ ap (λ m. remove_entry (at m) (e ∷ es)) same)
+  | inr differ ↦
+      let stays : not_at n e ≡ true = ap not (ne_eqb e.0 n differ) in
+      let other = apart n e.0 (λ same. differ (sym same)) in
+      (elim (p e) as (λ (b : Bool). filter (not_at n) (cond b (e ∷ filter p es) (filter p es)) ≡ cond b (e ∷ filter (not_at n) (filter p es)) (filter (not_at n) (filter p es))) [ true ↦ ap (λ (b : Bool). cond b (e ∷ filter (not_at n) (filter p es)) (filter (not_at n) (filter p es))) stays | false ↦ refl ])
+      ∙ ap (λ ys. cond (p e) (e ∷ ys) ys) (kept_apart p n es (tail_sorted e es s))
+      ∙ ap (λ (b : Bool). filter p (cond b es (e ∷ remove_entry (at n) es))) (sym other)
 ]
-  where
-    second_same : (a b : Bool) (m n : ℕ) → at m n ≡ b → (a && b) ≡ true → m ≡ n
-    second_same a b m n e both = elim (cases_eq m n) [ inl same ↦ same | inr differ ↦ absurd (let no : true ≡ false = sym (and_parts a b both).1 ∙ sym e ∙ apart m n differ in cc) ]
-
-pub below_removed : (t : ℕ → Bool) (n : ℕ) (es : List (ℕ × Request)) → Below n es → Below n (remove_entry t es)
-below_removed t n [] below = tt
-below_removed t n (x ∷ es) below = elim (t x.0) as (λ (b : Bool). Below n (cond b es (x ∷ remove_entry t es))) [ true ↦ below.1 | false ↦ (below.0, below_removed t n es below.1) ]
-
--- ---- marks
-
-pub any_found : (t : ℕ × Request → Bool) (es : List (ℕ × Request)) → is_some (find t es) ≡ list_any t es
-any_found t [] = refl
-any_found t (x ∷ es) = elim (t x) as (λ (b : Bool). is_some (cond b (Some x) (find t es)) ≡ (b || list_any t es)) [ true ↦ refl | false ↦ any_found t es ]
-
-pub mark_set : (number : ℕ) (es : List (ℕ × Request)) (n : ℕ) (q : Request) → Sorted es → find (is_from 0 number) es ≡ Some (n, q) → set_value (at n) es (marked q) ≡ marked_from number es
-mark_set number [] n q s is = absurd cc
-mark_set number (x ∷ es) n q s is =
-    elim (is_from 0 number x) as (λ (b : Bool). cond b (Some x) (find (is_from 0 number) es) ≡ Some (n, q) → set_value (at n) (x ∷ es) (marked q) ≡ cond b ((x.0, marked x.1) ∷ es) (x ∷ marked_from number es)) [
-      | true ↦ λ h. let same : x ≡ (n, q) = cc in subst (λ (y : ℕ × Request). set_value (at y.0) (x ∷ es) (marked y.1) ≡ (x.0, marked x.1) ∷ es) same (ap (λ (b : Bool). cond b ((x.0, marked x.1) ∷ es) (x ∷ set_value (at x.0) es (marked x.1))) (at_itself x.0))
-      | false ↦ λ h.
-          let above = found_above x.0 (is_from 0 number) es (n, q) (head_above x es s) h in
-          ap (λ (b : Bool). cond b ((x.0, marked q) ∷ es) (x ∷ set_value (at n) es (marked q))) (apart n x.0 (λ same. omega (arith, above, same)))
-          ∙ ap (λ ys. x ∷ ys) (mark_set number es n q (tail_sorted x es s) h)
-    ] is
-
-pub mark_unset : (number : ℕ) (es : List (ℕ × Request)) → find (is_from 0 number) es ≡ None → es ≡ marked_from number es
-mark_unset number [] is = refl
-mark_unset number (x ∷ es) is =
-    elim (is_from 0 number x) as (λ (b : Bool). cond b (Some x) (find (is_from 0 number) es) ≡ None → x ∷ es ≡ cond b ((x.0, marked x.1) ∷ es) (x ∷ marked_from number es)) [
-      | true ↦ λ h. absurd cc
-      | false ↦ λ h. ap (λ ys. x ∷ ys) (mark_unset number es h)
-    ] is
-
-pub below_set : (t : ℕ → Bool) (n : ℕ) (es : List (ℕ × Request)) (v : Request) → Below n es → Below n (set_value t es v)
-below_set t n [] v below = tt
-below_set t n (x ∷ es) v below = elim (t x.0) as (λ (b : Bool). Below n (cond b ((x.0, v) ∷ es) (x ∷ set_value t es v))) [ true ↦ below | false ↦ (below.0, below_set t n es v below.1) ]
-
--- it waits where it waited
-pub still_waits : (old_get new_get : ℕ → Option Request) (n : ℕ) (q : Request) → old_get n ≡ Some q → ((m : ℕ) → new_get m ≡ cond (at n m) (Some (marked q)) (old_get m)) → (queue m : ℕ) → waits_in queue (old_get m) ≡ waits_in queue (new_get m)
-still_waits old_get new_get n q held gets queue m = elim (cases_eq n m) [
-  | inl same ↦ ap (λ k. waits_in queue (old_get k)) (sym same) ∙ ap (waits_in queue) held ∙ sym (ap (waits_in queue) (gets m ∙ ap (λ (t : Bool). cond t (Some (marked q)) (old_get m)) (same_at n m same)))
-  | inr differ ↦ sym (ap (waits_in queue) (gets m ∙ ap (λ (t : Bool). cond t (Some (marked q)) (old_get m)) (apart n m differ)))
-]
-
--- ---- those that stay
-
-pub below_filtered : (t : ℕ × Request → Bool) (n : ℕ) (es : List (ℕ × Request)) → Below n es → Below n (filter t es)
-below_filtered t n [] below = tt
-below_filtered t n (x ∷ es) below = elim (t x) as (λ (b : Bool). Below n (cond b (x ∷ filter t es) (filter t es))) [ true ↦ (below.0, below_filtered t n es below.1) | false ↦ below_filtered t n es below.1 ]
-
-any_by : (p : ℕ × ℕ → Bool) (k x : ℕ × ℕ) (any some : Bool) → some ≡ (any && p k) → (b c : Bool) → p x ≡ b → is_key (key_cmp k) x ≡ c →
-    (cond b (c || some) some) ≡ ((c || any) && p k)
-any_by p k x any some later true true e f = sym (ap p (tells_apart (exact_pairs nat_cmp nat_cmp exact_unsigned exact_unsigned) k x f) ∙ e)
-any_by p k x any some later true false e f = later
-any_by p k x any some later false true e f = let fails : p k ≡ false = ap p (tells_apart (exact_pairs nat_cmp nat_cmp exact_unsigned exact_unsigned) k x f) ∙ e in later ∙ ap (λ (t : Bool). any && t) fails ∙ none any ∙ sym fails
-  where
-    none : (b : Bool) → (b && false) ≡ false
-    none true = refl
-    none false = refl
-any_by p k x any some later false false e f = later
-
-any_split : (k x : ℕ × ℕ) (ks : List (ℕ × ℕ)) (b : Bool) → list_any (is_key (key_cmp k)) (cond b (x ∷ ks) ks) ≡ cond b (is_key (key_cmp k) x || list_any (is_key (key_cmp k)) ks) (list_any (is_key (key_cmp k)) ks)
-any_split k x ks true = refl
-any_split k x ks false = refl
-
-pub any_filtered : (p : ℕ × ℕ → Bool) (k : ℕ × ℕ) (ks : List (ℕ × ℕ)) → list_any (is_key (key_cmp k)) (filter p ks) ≡ (list_any (is_key (key_cmp k)) ks && p k)
-any_filtered p k [] = refl
-any_filtered p k (x ∷ ks) =
-    any_split k x (filter p ks) (p x) ∙ any_by p k x (list_any (is_key (key_cmp k)) ks) (list_any (is_key (key_cmp k)) (filter p ks)) (any_filtered p k ks) (p x) (is_key (key_cmp k) x) refl refl
-
-waits_still : (queue : ℕ) (s : Request → Bool) (o : Option Request) → (waits_in queue o && is_some (option_filter s o)) ≡ waits_in queue (option_filter s o)
-waits_still queue s None = refl
-waits_still queue s (Some q) = elim (s q) as (λ (b : Bool). ((queue_of q.transfer.ep == queue) && is_some (cond b (Some q) None)) ≡ waits_in queue (cond b (Some q) None)) [ true ↦ and-true (queue_of q.transfer.ep == queue) | false ↦ and-false (queue_of q.transfer.ep == queue) ]
-
--- the keys of those that stay are those that wait then
-pub waits_filtered : (w : Waiting) (s : Request → Bool) (es : List (ℕ × Request)) (ks : List (ℕ × ℕ)) → IsIndexed w → es ≡ filter (λ (e : ℕ × Request). s e.1) w.requests.entries →
-    ks ≡ filter (λ (k : ℕ × ℕ). is_some (lookup (at k.1) es)) w.queues.keys → (k : ℕ × ℕ) → list_any (is_key (key_cmp k)) ks ≡ waits_in k.0 (lookup (at k.1) es)
-waits_filtered w s es ks indexed stays are k =
-    let left : lookup (at k.1) es ≡ option_filter s (lookup (at k.1) w.requests.entries) =
-    ap (lookup (at k.1)) stays ∙ lookup-filter-values (eq_by_cmp_equiv nat_cmp_total) s k.1 w.requests.entries (IsDistinct-from_sorted nat_cmp (keys_of w.requests.entries) indexed.ordered) in
-    ap (list_any (is_key (key_cmp k))) are ∙ any_filtered (λ (o : ℕ × ℕ). is_some (lookup (at o.1) es)) k w.queues.keys
-    ∙ (λ i. indexed.queues k i && is_some (left i)) ∙ waits_still k.0 s (lookup (at k.1) w.requests.entries) ∙ ap (waits_in k.0) (sym left)

@@ -1,35 +1,27 @@
-use Rattle.std.proofs.Common.{◌≡◌, ℕ, is_some, refl, ◌∙◌, ap, sym, subst, rules}
-use Rattle.std.specs.BTreeMap.{get}
-use Rattle.std.specs.Ordering.{nat_cmp}
-use Rattle.std.proofs.lemmas.Fn.{filter_same}
+use Rattle.std.proofs.Common.{◌≡◌, ◌∙◌, ap, filter, refl, rules}
 use Rattle.std.proofs.lemmas.Map.Entries.{filter_from_retain_pairs}
-use Rattle.redir_host.specs.declared.request.Request.{Request}
 use Rattle.redir_host.specs.device.Changes.{stays}
-use Rattle.redir_host.proofs.lemmas.state.Numbered.{Below}
-use Rattle.redir_host.proofs.lemmas.state.Queued.{below_filtered, waits_filtered}
+use Rattle.redir_host.proofs.lemmas.state.Flushed.{Passed, indexed_filtered, is_there, numbered_filtered, retained}
 use Rattle.redir_host.proofs.waiting.Waiting.flush.Goals as goal
 
+passed : (c : goal.After-retain_keys) → Passed (stays c.args.route.now c.args.table.now) c.args.self.now.requests c.retain.new.self
+passed c = retained _ (λ f. (f.0.now ≡ c.args.route.now) × (f.1.now ≡ c.args.table.now)) (stays c.args.route.now c.args.table.now)
+    (λ g k a keep b next i called.
+    let met = called.met in
+    (search rules, search rules, (ap (λ x. x.now) met.1.0 ∙ i.0, ap (λ x. x.now) met.1.1 ∙ i.1))) _ 0 c.args.self.now.requests.slots c.retain.new.self.slots (refl, refl) c.retain.ensures.retained
+
+left : (c : goal.After-retain_keys) → c.retain-2.new.self.entries ≡ filter (is_there c.retain.new.self) c.args.self.now.order.entries
+left c = filter_from_retain_pairs _ (λ f. f.0.now ≡ c.retain.new.self) (is_there c.retain.new.self)
+    (λ g k v b x next i test.
+    let called = test.called in
+    let met = called.met in
+    let still = test.leaves in
+    let shows = test.shows in
+    (search rules, search rules, ap (λ y. y.now) met.1 ∙ i)) _ c.args.self.now.order.entries c.retain-2.new.self.entries refl c.retain-2.ensures.filtered
+
 pub returns-clause-rest : goal.returns-clause-rest
-returns-clause-rest c =
-    let route = c.args.route.now in
-    let table = c.args.table.now in
-    filter_from_retain_pairs _ (λ f. (f.0.now ≡ route) × (f.1.now ≡ table)) (λ (e : ℕ × Request). stays route table e.1)
-    (λ g k v b w g' i t.
-    let called = t.called in
-    let next = t.called.met.1 in
-    let left = t.leaves in
-    let shows = t.shows in
-    (search rules, search rules, (ap (λ x. x.now) next.0 ∙ i.0, ap (λ x. x.now) next.1 ∙ i.1))) _ _ _ (refl, refl) c.retain.ensures.filtered
+returns-clause-rest c = numbered_filtered c.args.self.now (stays c.args.route.now c.args.table.now) c.retain.new.self c.retain-2.new.self.entries (passed c) (left c)
 
 pub returns-clause-indexed : goal.returns-clause-indexed
 returns-clause-indexed c =
-    let w = c.args.self.now in
-    let s : Request → _ = stays c.args.route.now c.args.table.now in
-    let rest = returns-clause-rest c in
-    let keys = filter_same _ (λ (k : ℕ × ℕ). is_some (get nat_cmp c.retain.new.self k.1)) _ (λ x b f' k. search rules) _ _ c.retain-2.ensures.filtered in
-    record {
-      ordered = c.retain.ensures.ordered;
-      below = subst (Below w.next) (sym rest) (below_filtered (λ (e : ℕ × Request). s e.1) w.next w.requests.entries c.requires.below);
-      room = c.requires.room;
-      queues = waits_filtered w s c.retain.new.self.entries c.retain-2.new.self.keys c.requires rest keys;
-    }
+    indexed_filtered c.args.self.now (stays c.args.route.now c.args.table.now) c.retain.new.self c.retain-2.new.self c.retain_keys.new.queues c.requires (passed c) c.retain-2.ensures.ordered (left c) c.retain_keys.ensures.count c.retain_keys.ensures.each

@@ -1,47 +1,41 @@
-use Rattle.std.proofs.Common.{◌+◌, Some, None, true, false, cond, refl, sym, ap, subst, ◌∙◌}
-use Rattle.std.specs.BTreeMap.{get, is_at}
-use Rattle.std.specs.BTreeSet.{contains}
-use Rattle.std.specs.Map.{lookup}
-use Rattle.std.specs.Ordering.{nat_cmp}
-use Rattle.std.proofs.lemmas.Bool.{eq-eqb}
-use Rattle.redir_host.specs.inner.Waiting.{key_cmp, waits_in}
-use Rattle.redir_host.specs.state.Queues.{queue_of}
-use Rattle.redir_host.proofs.lemmas.state.Numbered.{Below, inserted, all_below, none_at}
-use Rattle.redir_host.proofs.lemmas.state.Queued.{moved, only_own, undone}
+use Rattle.std.proofs.Common.{◌≡◌, ◌∙◌, ◌++◌, ◌∷◌, [], Some, ap, subst, sym, arith, ℕ}
+use Rattle.std.proofs.lemmas.List.{get_or_default}
+use Rattle.slab.specs.Slab.{Updates, get}
+use Rattle.redir_host.proofs.lemmas.state.Indexed.{indexed_back, indexed_put, numbered_back, numbered_put}
 use Rattle.redir_host.proofs.waiting.Waiting.put.Goals as goal
 
-pub returns-in-Ok-clause-ok : goal.returns-in-Ok-clause-ok
-returns-in-Ok-clause-ok c =
-    let w = c.args.self.now in
-    c.in-Ok.ensures.entries ∙ inserted w.requests.entries w.next c.args.request c.requires.indexed.below
+pub returns-in-Err-clause-err : goal.returns-in-Err-clause-err
+returns-in-Err-clause-err c =
+    let kept = λ (k : ℕ). ap (λ s. get s k) c.reserve.ensures.rest_kept in
+    numbered_back c.args.self.now c.reserve.new.self c.insert.new.self c.remove.new.self c.vacant_key-key.result c.requires.indexed kept c.in_ok-insert.ensures.entries c.remove.ensures.entries
 
-pub returns-in-Ok-clause-indexed : goal.returns-in-Ok-clause-indexed
-returns-in-Ok-clause-indexed c =
+pub returns-in-Err-clause-indexed : goal.returns-in-Err-clause-indexed
+returns-in-Err-clause-indexed c =
     let w = c.args.self.now in
-    let q = c.args.request in
     let i = c.requires.indexed in
-    record {
-      ordered = c.in-Ok.ensures.ordered;
-      below = subst (Below (w.next + 1)) (sym (c.in-Ok.ensures.entries ∙ inserted w.requests.entries w.next q i.below)) (all_below w.requests.entries w.next q i.below);
-      room = c.requires.room;
-      queues = moved (get nat_cmp w.requests) (get nat_cmp c.insert-2.new.self) (contains key_cmp w.queues) (contains key_cmp c.insert.new.self) (queue_of q.transfer.ep) w.next None (Some q) true
-          i.queues c.in-Ok.ensures.updates.0 (λ k. c.in_ok-insert.ensures.updates.0 k ∙ ap (λ key. cond (is_at (key_cmp key) k) true (contains key_cmp w.queues k)) c.key-key.ensures) (none_at w.next w.requests.entries i.below) (λ other differ. refl) (only_own q) (sym (eq-eqb (queue_of q.transfer.ep) (queue_of q.transfer.ep) refl));
-    }
+    let place = c.place-place in
+    let kept = λ (k : ℕ). ap (λ s. get s k) c.reserve.ensures.rest_kept in
+    indexed_back w c.reserve.new.self c.insert.new.self c.remove.new.self c.vacant_key-key.result place.result _ i kept c.in_ok-insert.ensures.entries c.remove.ensures.ordered c.remove.ensures.entries
+    (c.in-Err.ensures.err ∙ get_or_default w.queues place.result c.index-self-place.result [] (omega (arith, place.ensures.in_range, i.places)))
+
+pub returns-clause-ok : goal.returns-clause-ok
+returns-clause-ok c =
+    let w = c.args.self.now in
+    let key = c.vacant_key-key in
+    let kept = λ (k : ℕ). ap (λ s. get s k) c.reserve.ensures.rest_kept in
+    let own : c.insert_reserved.result ≡ key.result = c.insert_reserved.ensures.key ∙ sym key.ensures.value in
+    let updates : Updates c.reserve.new.self c.insert_reserved.new.self key.result (Some c.args.request) = subst (λ k. Updates c.reserve.new.self c.insert_reserved.new.self k (Some c.args.request)) own c.insert_reserved.ensures.updates in
+    numbered_put w c.reserve.new.self c.insert_reserved.new.self c.insert.new.self.entries key.result c.args.request c.requires.indexed kept key.ensures.vacant updates c.in_ok-insert.ensures.entries
 
 pub returns-clause-indexed : goal.returns-clause-indexed
 returns-clause-indexed c =
     let w = c.args.self.now in
-    let q = c.args.request in
     let i = c.requires.indexed in
-    let same = c.in-Err.ensures.err in
-    record {
-      ordered = c.in-Err.ensures.ordered;
-      below = subst (Below w.next) (sym same) i.below;
-      room = i.room;
-      queues = λ k.
-          undone (contains key_cmp w.queues) (contains key_cmp c.insert.new.self) (contains key_cmp c.remove.new.self) (queue_of q.transfer.ep, w.next)
-          (λ k. c.in_ok-insert.ensures.updates.0 k ∙ ap (λ key. cond (is_at (key_cmp key) k) true (contains key_cmp w.queues k)) c.key-key.ensures)
-          (λ o. c.remove.ensures.updates.0 o ∙ ap (λ key. cond (is_at (key_cmp key) o) false (contains key_cmp c.insert.new.self o)) c.key-key.ensures)
-          (λ o here. i.queues o ∙ ap (λ n. waits_in o.0 (get nat_cmp w.requests n)) (sym here) ∙ ap (waits_in o.0) (none_at w.next w.requests.entries i.below)) k
-          ∙ i.queues k ∙ ap (λ es. waits_in k.0 (lookup (is_at (nat_cmp k.1)) es)) (sym same);
-    }
+    let place = c.place-place in
+    let key = c.vacant_key-key in
+    let kept = λ (k : ℕ). ap (λ s. get s k) c.reserve.ensures.rest_kept in
+    let own : c.insert_reserved.result ≡ key.result = c.insert_reserved.ensures.key ∙ sym key.ensures.value in
+    let updates : Updates c.reserve.new.self c.insert_reserved.new.self key.result (Some c.args.request) = subst (λ k. Updates c.reserve.new.self c.insert_reserved.new.self k (Some c.args.request)) own c.insert_reserved.ensures.updates in
+    indexed_put w c.reserve.new.self c.insert_reserved.new.self c.insert.new.self key.result place.result c.args.request _ i kept key.ensures.vacant updates
+    c.in_ok-insert.ensures.ordered c.in_ok-insert.ensures.entries place.ensures.endpoint place.ensures.value place.ensures.in_range c.requires.room
+    (c.in_default.ensures.ok ∙ ap (λ l. l ++ (w.next, key.result) ∷ []) (get_or_default w.queues place.result c.index-self-place.result [] (omega (arith, place.ensures.in_range, i.places))))
