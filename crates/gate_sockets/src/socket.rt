@@ -24,8 +24,8 @@ const CHUNK: usize = 16_384;
 /// How often in a row.
 const CHUNKS: u32 = 256;
 
-/// How many polls pass over a link of which a read has taken all that was there, or had to wait, where the system tells
-/// of nothing before.
+/// At which poll a link is read again of which a read has taken all that was there, or had to wait, where the system
+/// tells of nothing before.
 const RESTS: u32 = 8;
 
 /// A connection while there is one, and its counts.

@@ -18,7 +18,7 @@ use std::io::ErrorKind;
 use std::marker::Model;
 use std::time::Duration;
 
-/// How often a write that is blocked is tried.
+/// How often a write that is blocked is tried before its last try.
 const TRIES: u32 = 1_000_000;
 
 /// How often a blocked write waits for its turn before anything is read ahead.

@@ -7,41 +7,66 @@ ghost use Rattle.model_device.specs.Submit.{control_transfer};
 ghost use Rattle.redir_host.specs.guest.Asking.{routed};
 
 use std::alloc::Global;
+use usb_base::request::{
+    FROM_DEVICE, FROM_INTERFACE, GET_CONFIGURATION, GET_INTERFACE, PORT_RESET, SET_CONFIGURATION,
+    SET_FEATURE, SET_INTERFACE, TO_DEVICE, TO_INTERFACE, TO_PORT,
+};
 use usb_base::{Bytes, EpAddr, Setup, Transfer};
 
 /// SET_CONFIGURATION.
 pub fn set_configuration(alloc: Global, configuration: u8) -> Transfer
     ensures { result ≡ routed (route.SetConfig configuration) }
 {
-    transfer_of(alloc, 0x00, 9, u16::from(configuration), 0, 0)
+    transfer_of(
+        alloc,
+        TO_DEVICE,
+        SET_CONFIGURATION,
+        u16::from(configuration),
+        0,
+        0,
+    )
 }
 
 /// GET_CONFIGURATION.
 pub fn get_configuration(alloc: Global) -> Transfer
     ensures { result ≡ routed route.GetConfig }
 {
-    transfer_of(alloc, 0x80, 8, 0, 0, 1)
+    transfer_of(alloc, FROM_DEVICE, GET_CONFIGURATION, 0, 0, 1)
 }
 
 /// SET_INTERFACE.
 pub fn set_alt(alloc: Global, interface: u8, alt: u8) -> Transfer
     ensures { result ≡ routed (route.SetAlt interface alt) }
 {
-    transfer_of(alloc, 0x01, 11, u16::from(alt), u16::from(interface), 0)
+    transfer_of(
+        alloc,
+        TO_INTERFACE,
+        SET_INTERFACE,
+        u16::from(alt),
+        u16::from(interface),
+        0,
+    )
 }
 
 /// GET_INTERFACE.
 pub fn get_alt(alloc: Global, interface: u8) -> Transfer
     ensures { result ≡ routed (route.GetAlt interface) }
 {
-    transfer_of(alloc, 0x81, 10, 0, u16::from(interface), 1)
+    transfer_of(
+        alloc,
+        FROM_INTERFACE,
+        GET_INTERFACE,
+        0,
+        u16::from(interface),
+        1,
+    )
 }
 
 /// SetPortFeature of PORT_RESET, the reset of the device.
 pub fn reset(alloc: Global) -> Transfer
     ensures { result ≡ routed route.Reset }
 {
-    transfer_of(alloc, 0x23, 3, 4, 0, 0)
+    transfer_of(alloc, TO_PORT, SET_FEATURE, PORT_RESET, 0, 0)
 }
 
 /// The transfer of a setup of these fields, in their order (USB 2.0, table 9-2), that sends no data to the device.

@@ -8,6 +8,7 @@ use chapter9::{WalkError, walk};
 use model_device::Gadget;
 use std::alloc::Global;
 use std::time::Duration;
+use usb_base::request::{FROM_DEVICE, GET_DESCRIPTOR};
 use usb_base::{Bytes, EpAddr, Memory, Setup, Speed, Transfer};
 use usbgate_tapes::DeviceUser;
 
@@ -66,8 +67,8 @@ fn configuration_asked(alloc: Global) -> Transfer
     Transfer {
         ep,
         setup: Some(Setup {
-            kind: 0x80,
-            request: 6,
+            kind: FROM_DEVICE,
+            request: GET_DESCRIPTOR,
             value: 0x0200,
             index: 0,
             length: 0xFFFF,
