@@ -37,7 +37,7 @@ impl<'a> Model for Requests<'a> {
 
 impl<'a> Requests<'a> {
     /// Those of these keys.
-    pub fn new(requests: &'a Slab<Request>, order: &'a BTreeMap<u64, usize>) -> Self
+    pub(crate) fn new(requests: &'a Slab<Request>, order: &'a BTreeMap<u64, usize>) -> Self
         requires { AllByRecursion (λ e. ContainsKey requests.now e.1) order.now.entries }
         ensures { result ≡ values_of (requests_of requests.now order.now.entries) }
     {

@@ -8,35 +8,43 @@ ghost use Rattle.redir_wire.specs.Ranges.{IsWritable};
 use crate::field::FieldWriter;
 use crate::kind::PlainKind;
 use crate::packet::{Caps, Connect, EpInfo, InterfaceInfo, RedirControl};
+use crate::types::plain_types;
 use usb_base::{Bytes, Memory};
+
+/// The type of a packet.
+macro_rules! kind_of {
+    (($packet:expr) $($kind:ident $fields:tt = $name:literal, $row:expr;)*) => {
+        match $packet {
+            $(RedirControl::$kind { .. } => PlainKind::$kind,)*
+        }
+    };
+}
+
+/// Writes a packet: by its arm of those that are given, or its bytes in the order of its row.
+macro_rules! write_by {
+    (
+        ($packet:expr, $writer:ident, $out:ident, { $($arms:tt)* })
+        $($kind:ident $((_))? $({ $($field:ident: $place:literal),* })? = $name:literal, $row:expr;)*
+    ) => {
+        match $packet {
+            $($arms)*
+            $($(RedirControl::$kind { $($field),* } => write_bytes!($writer, $out, $($field),*),)?)*
+        }
+    };
+}
+
+/// Writes these bytes, or no field where there are none.
+macro_rules! write_bytes {
+    ($writer:ident, $out:ident,) => { Ok(()) };
+    ($writer:ident, $out:ident, $($byte:ident),+) => { $writer.bytes(&[$(*$byte),+], $out) };
+}
 
 impl RedirControl {
     /// Its type.
     pub fn kind(&self) -> PlainKind
         ensures { result ≡ kind_of self.now }
     {
-        match self {
-            RedirControl::Hello(_) => PlainKind::Hello,
-            RedirControl::Connect(_) => PlainKind::Connect,
-            RedirControl::Disconnect => PlainKind::Disconnect,
-            RedirControl::Reset => PlainKind::Reset,
-            RedirControl::InterfaceInfo(_) => PlainKind::InterfaceInfo,
-            RedirControl::EpInfo(_) => PlainKind::EpInfo,
-            RedirControl::SetConfiguration { .. } => PlainKind::SetConfiguration,
-            RedirControl::GetConfiguration => PlainKind::GetConfiguration,
-            RedirControl::ConfigurationStatus { .. } => PlainKind::ConfigurationStatus,
-            RedirControl::SetAlt { .. } => PlainKind::SetAlt,
-            RedirControl::GetAlt { .. } => PlainKind::GetAlt,
-            RedirControl::AltStatus { .. } => PlainKind::AltStatus,
-            RedirControl::StartIso { .. } => PlainKind::StartIso,
-            RedirControl::StopIso { .. } => PlainKind::StopIso,
-            RedirControl::IsoStatus { .. } => PlainKind::IsoStatus,
-            RedirControl::StartInterrupt { .. } => PlainKind::StartInterrupt,
-            RedirControl::StopInterrupt { .. } => PlainKind::StopInterrupt,
-            RedirControl::InterruptStatus { .. } => PlainKind::InterruptStatus,
-            RedirControl::Cancel => PlainKind::Cancel,
-            RedirControl::DisconnectAck => PlainKind::DisconnectAck,
-        }
+        plain_types!(kind_of!(self))
     }
 
     /// How many bytes follow its header.
@@ -68,7 +76,7 @@ impl RedirControl {
     ) -> Result<(), Memory>
         ensures { AppendsSome result out.old out.new (flat_map W.text (fields_of more self.now)) }
     {
-        match self {
+        plain_types!(write_by!(self, writer, out, {
             RedirControl::Hello(hello) => {
                 writer.byte_table(&hello.version, out)?;
                 writer.longs(hello.words.as_slice(), out)
@@ -76,40 +84,7 @@ impl RedirControl {
             RedirControl::Connect(connect) => write_connect(connect, more, writer, out),
             RedirControl::InterfaceInfo(info) => write_interface_info(info, writer, out),
             RedirControl::EpInfo(info) => write_ep_info(info, more, writer, out),
-            RedirControl::SetConfiguration { configuration } => {
-                writer.bytes(&[*configuration], out)
-            }
-            RedirControl::ConfigurationStatus {
-                status,
-                configuration,
-            } => writer.bytes(&[*status, *configuration], out),
-            RedirControl::SetAlt { interface, alt } => writer.bytes(&[*interface, *alt], out),
-            RedirControl::GetAlt { interface } => writer.bytes(&[*interface], out),
-            RedirControl::AltStatus {
-                status,
-                interface,
-                alt,
-            } => writer.bytes(&[*status, *interface, *alt], out),
-            RedirControl::StartIso {
-                endpoint,
-                pkts_per_urb,
-                no_urbs,
-            } => writer.bytes(&[*endpoint, *pkts_per_urb, *no_urbs], out),
-            RedirControl::StopIso { endpoint } => writer.bytes(&[*endpoint], out),
-            RedirControl::IsoStatus { status, endpoint } => {
-                writer.bytes(&[*status, *endpoint], out)
-            }
-            RedirControl::StartInterrupt { endpoint } => writer.bytes(&[*endpoint], out),
-            RedirControl::StopInterrupt { endpoint } => writer.bytes(&[*endpoint], out),
-            RedirControl::InterruptStatus { status, endpoint } => {
-                writer.bytes(&[*status, *endpoint], out)
-            }
-            RedirControl::Disconnect
-            | RedirControl::Reset
-            | RedirControl::GetConfiguration
-            | RedirControl::Cancel
-            | RedirControl::DisconnectAck => Ok(()),
-        }
+        }))
     }
 }
 

@@ -5,6 +5,7 @@ ghost use Rattle.redir_wire.specs.Table.{of_type, with, plain_row, data_row, row
 ghost use Rattle.redir_wire.specs.Small.{IsSmall};
 
 use crate::packet::{Caps, Way};
+use crate::types::plain_types;
 
 /// The number of `usb_redir_hello`.
 pub(crate) const HELLO: u32 = 0;
@@ -83,36 +84,35 @@ pub struct TypeRow {
     pub tail: Tail,
 }
 
+/// The type of a number, if there is one.
+macro_rules! kind_numbered {
+    (
+        ($number:expr)
+        $($kind:ident $fields:tt = $name:literal, $way:ident($value:literal, $($length:tt)*) $(.$more:ident $of:tt)?;)*
+    ) => {
+        match $number {
+            $($value => Some(PlainKind::$kind),)*
+            _ => None,
+        }
+    };
+}
+
+/// The name and the row of a type.
+macro_rules! entry_of {
+    (($type:expr) $($kind:ident $fields:tt = $name:literal, $row:expr;)*) => {
+        match $type {
+            $(PlainKind::$kind => ($name, $row),)*
+        }
+    };
+}
+
 impl PlainKind {
     /// The type of this number.
     #[tactic(auto, unfolding(crate::specs::Table::plain_numbered))]
     pub fn numbered(number: u32) -> Option<PlainKind>
         ensures { result ≡ plain_numbered number }
     {
-        let kind = match number {
-            0 => PlainKind::Hello,
-            1 => PlainKind::Connect,
-            2 => PlainKind::Disconnect,
-            3 => PlainKind::Reset,
-            4 => PlainKind::InterfaceInfo,
-            5 => PlainKind::EpInfo,
-            6 => PlainKind::SetConfiguration,
-            7 => PlainKind::GetConfiguration,
-            8 => PlainKind::ConfigurationStatus,
-            9 => PlainKind::SetAlt,
-            10 => PlainKind::GetAlt,
-            11 => PlainKind::AltStatus,
-            12 => PlainKind::StartIso,
-            13 => PlainKind::StopIso,
-            14 => PlainKind::IsoStatus,
-            15 => PlainKind::StartInterrupt,
-            16 => PlainKind::StopInterrupt,
-            17 => PlainKind::InterruptStatus,
-            21 => PlainKind::Cancel,
-            24 => PlainKind::DisconnectAck,
-            _ => return None,
-        };
-        Some(kind)
+        plain_types!(kind_numbered!(number))
     }
 
     /// What the protocol says of it.
@@ -134,34 +134,7 @@ impl PlainKind {
         ensures name { result.0.now ≡ plain_name self }
         ensures row { result.1 ≡ plain_row self }
     {
-        match self {
-            PlainKind::Hello => ("HELLO", both_ways(0, 64, Tail::Words)),
-            PlainKind::Connect => (
-                "DEVICE_CONNECT",
-                to_guest(1, 8).with(Caps::CONNECT_VERSION, 2),
-            ),
-            PlainKind::Disconnect => ("DEVICE_DISCONNECT", to_guest(2, 0)),
-            PlainKind::Reset => ("RESET", to_host(3, 0)),
-            PlainKind::InterfaceInfo => ("INTERFACE_INFO", to_guest(4, 132)),
-            PlainKind::EpInfo => ("EP_INFO", to_guest(5, 96).with(Caps::MAX_PACKET_SIZE, 64)),
-            PlainKind::SetConfiguration => ("SET_CONFIGURATION", to_host(6, 1)),
-            PlainKind::GetConfiguration => ("GET_CONFIGURATION", to_host(7, 0)),
-            PlainKind::ConfigurationStatus => ("CONFIGURATION_STATUS", to_guest(8, 2)),
-            PlainKind::SetAlt => ("SET_ALT_SETTING", to_host(9, 2)),
-            PlainKind::GetAlt => ("GET_ALT_SETTING", to_host(10, 1)),
-            PlainKind::AltStatus => ("ALT_SETTING_STATUS", to_guest(11, 3)),
-            PlainKind::StartIso => ("START_ISO_STREAM", to_host(12, 3)),
-            PlainKind::StopIso => ("STOP_ISO_STREAM", to_host(13, 1)),
-            PlainKind::IsoStatus => ("ISO_STREAM_STATUS", to_guest(14, 2)),
-            PlainKind::StartInterrupt => ("START_INTERRUPT_RECEIVING", to_host(15, 1)),
-            PlainKind::StopInterrupt => ("STOP_INTERRUPT_RECEIVING", to_host(16, 1)),
-            PlainKind::InterruptStatus => ("INTERRUPT_RECEIVING_STATUS", to_guest(17, 2)),
-            PlainKind::Cancel => ("CANCEL_DATA_PACKET", to_host(21, 0)),
-            PlainKind::DisconnectAck => (
-                "DEVICE_DISCONNECT_ACK",
-                to_host(24, 0).wanting(Caps::DISCONNECT_ACK),
-            ),
-        }
+        plain_types!(entry_of!(self))
     }
 }
 

@@ -11,6 +11,7 @@ mod laws;
 mod next;
 mod packet;
 mod read;
+mod types;
 mod write;
 
 pub use field::{FieldWriter, Wire};

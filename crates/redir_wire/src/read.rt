@@ -18,6 +18,7 @@ use crate::packet::{
     Caps, Connect, EpInfo, Header, Hello, InterfaceInfo, MAX_INTERFACES, RedirControl, WireError,
     Words,
 };
+use crate::types::plain_types;
 use packet_stream::ReadError;
 use std::alloc::Global;
 use usb_base::{Memory, Reason, array_at, le_u16_at, le_u32_at};
@@ -56,6 +57,19 @@ fn has_too_many(head: &Header, bytes: &[u8]) -> bool
     head.kind == INTERFACE_INFO && bytes.len() >= 4 && le_u32_at(bytes, 0) > MAX_INTERFACES
 }
 
+/// The packet of a type: by its arm of those that are given, or of the bytes at the places in its row.
+macro_rules! read_by {
+    (
+        ($type:expr, $bytes:ident, { $($arms:tt)* })
+        $($kind:ident $((_))? $({ $($field:ident: $place:literal),* })? = $name:literal, $row:expr;)*
+    ) => {
+        match $type {
+            $($arms)*
+            $($(PlainKind::$kind => RedirControl::$kind { $($field: $bytes[$place]),* },)?)*
+        }
+    };
+}
+
 #[tactic(auto, unfolding(crate::specs::Words::numbers_of))]
 fn control_at(
     alloc: Global,
@@ -69,58 +83,12 @@ fn control_at(
     ensures ok { IfOk result (λ control. control ≡ fields_at caps size kind bytes.now) }
     ensures err { OnErr result (takes_memory (fields_at caps size kind bytes.now) ≡ true) }
 {
-    Ok(match kind {
+    Ok(plain_types!(read_by!(kind, bytes, {
         PlainKind::Hello => RedirControl::Hello(hello_at(alloc, bytes, (size as usize - 64) / 4)?),
-        PlainKind::Connect => RedirControl::Connect(connect_at(
-            caps.contains(Caps::CONNECT_VERSION),
-            bytes,
-        )),
-        PlainKind::Disconnect => RedirControl::Disconnect,
-        PlainKind::Reset => RedirControl::Reset,
+        PlainKind::Connect => RedirControl::Connect(connect_at(caps.contains(Caps::CONNECT_VERSION), bytes)),
         PlainKind::InterfaceInfo => RedirControl::InterfaceInfo(interface_info_at(bytes)),
-        PlainKind::EpInfo => RedirControl::EpInfo(ep_info_at(
-            caps.contains(Caps::MAX_PACKET_SIZE),
-            bytes,
-        )),
-        PlainKind::SetConfiguration => RedirControl::SetConfiguration {
-            configuration: bytes[0],
-        },
-        PlainKind::GetConfiguration => RedirControl::GetConfiguration,
-        PlainKind::ConfigurationStatus => RedirControl::ConfigurationStatus {
-            status: bytes[0],
-            configuration: bytes[1],
-        },
-        PlainKind::SetAlt => RedirControl::SetAlt {
-            interface: bytes[0],
-            alt: bytes[1],
-        },
-        PlainKind::GetAlt => RedirControl::GetAlt {
-            interface: bytes[0],
-        },
-        PlainKind::AltStatus => RedirControl::AltStatus {
-            status: bytes[0],
-            interface: bytes[1],
-            alt: bytes[2],
-        },
-        PlainKind::StartIso => RedirControl::StartIso {
-            endpoint: bytes[0],
-            pkts_per_urb: bytes[1],
-            no_urbs: bytes[2],
-        },
-        PlainKind::StopIso => RedirControl::StopIso { endpoint: bytes[0] },
-        PlainKind::IsoStatus => RedirControl::IsoStatus {
-            status: bytes[0],
-            endpoint: bytes[1],
-        },
-        PlainKind::StartInterrupt => RedirControl::StartInterrupt { endpoint: bytes[0] },
-        PlainKind::StopInterrupt => RedirControl::StopInterrupt { endpoint: bytes[0] },
-        PlainKind::InterruptStatus => RedirControl::InterruptStatus {
-            status: bytes[0],
-            endpoint: bytes[1],
-        },
-        PlainKind::Cancel => RedirControl::Cancel,
-        PlainKind::DisconnectAck => RedirControl::DisconnectAck,
-    })
+        PlainKind::EpInfo => RedirControl::EpInfo(ep_info_at(caps.contains(Caps::MAX_PACKET_SIZE), bytes)),
+    })))
 }
 
 fn hello_at(alloc: Global, bytes: &[u8], count: usize) -> Result<Hello, Memory>
