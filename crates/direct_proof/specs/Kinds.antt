@@ -24,9 +24,9 @@ pub record UpsFit (ups : List (Option Up)) : Type 0 where
   pub each : (i : ℕ) → UpFits i (get_or ups i None)
 
 -- a start and a stop are of an IN endpoint's address
-abbrev pub CallIsIn : Option ℕ → Type 0
-CallIsIn None = Unit {0}
-CallIsIn (Some ep) = IsIn ep
+abbrev pub StreamIsIn : Option ℕ → Type 0
+StreamIsIn None = Unit {0}
+StreamIsIn (Some ep) = IsIn ep
 
 -- a stream that is up is of its row's kind everywhere
 abbrev pub OfKind : Option Up → StreamKind → Type 0

@@ -8,7 +8,7 @@ pub mod Cancels
 pub mod Stale
 pub mod Running
 pub mod Kinds
-pub mod Calls
+pub mod StreamIds
 pub mod Session
 pub mod Meets
 pub mod Related

@@ -8,14 +8,14 @@ use Rattle.redir_host.specs.declared.running.Running.{Running}
 use Rattle.gate_history.specs.state.State.{State, submits}
 use Rattle.gate_history.specs.state.Ups.{no_streams, stream_of}
 use Rattle.direct_run.specs.Moves.{World}
-use Rattle.direct_proof.specs.Calls.{Controls, Fenced}
+use Rattle.direct_proof.specs.StreamIds.{Controls, Fenced}
 use Rattle.direct_proof.specs.Cancels.{Behind, CancelsFit, IsAsking}
 use Rattle.direct_proof.specs.Ids.{Ids}
-use Rattle.direct_proof.specs.Kinds.{CallIsIn, IsIn, TaggedOfKind, UpsFit}
+use Rattle.direct_proof.specs.Kinds.{StreamIsIn, IsIn, TaggedOfKind, UpsFit}
 use Rattle.direct_proof.specs.Loads.{IsLoad}
 use Rattle.direct_proof.specs.Meets.{ByeLast, Early, Meets, is_announced, is_bye}
 use Rattle.direct_proof.specs.Requests.{Debt, Entry, at_queue, debts_of}
-use Rattle.direct_proof.specs.Running.{called_endpoint}
+use Rattle.direct_proof.specs.Running.{stream_endpoint}
 use Rattle.direct_proof.specs.Session.{Session}
 use Rattle.direct_proof.specs.Shared.{Shared, at_hosts, half_line, lines}
 use Rattle.direct_proof.specs.Tagged.{Tagged, on_wire, runs_in}
@@ -28,7 +28,7 @@ Queued w j = record {
   coming : half_line j.half ++ lines w.to_host ≡ at_hosts j.coming;
   loads : AllByRecursion (λ (e : Entry). IsLoad e.load) (j.held ++ j.coming);
   -- starts and stops are of IN endpoints
-  calls_in : AllByRecursion (λ (p : ℕ × RedirPacket). CallIsIn (called_endpoint p.1)) w.to_host;
+  streams_in : AllByRecursion (λ (p : ℕ × RedirPacket). StreamIsIn (stream_endpoint p.1)) w.to_host;
   cancels : CancelsFit j.held w.to_host j.coming;
   behind : Behind (j.held ++ j.coming);
 }
@@ -67,7 +67,7 @@ pub record Related {S : Type 0} (m : Meaning S) (w : World S) (j : Shared) : Typ
   pub meets : Meets w j
   -- what the host owes is what waits for it, until the device is lost
   pub debts : w.gate.lost ≡ false → debts_of (submits w.gate) ++ debts_of w.gate.abandoned ≡ j.debts
-  pub controls : w.gate.lost ≡ false → Controls w.gate.calls w.to_host j.back
+  pub controls : w.gate.lost ≡ false → Controls w.gate.stream_ids w.to_host j.back
   pub fenced : w.gate.lost ≡ false → Fenced w.gate.fence j.fenced w.to_host j.back
   pub alone : w.gate.imported ≡ true → (w.gate.abandoned ≡ []) × (w.gate.fence ≡ None)
   pub session : w.gate.lost ≡ false → is_announced w j ≡ true → Session m w j

@@ -25,13 +25,13 @@ Quits fence ep runs [] = runs ≡ false
 Quits fence ep runs (p ∷ ps) = (runs ≡ true → list_any (asks fence) (p ∷ ps) ≡ true) × Quits fence ep (runs_after ep p.1 runs) ps
 
 -- the endpoint of a start or stop
-abbrev pub called_endpoint : RedirPacket → Option ℕ
-called_endpoint (Plain (plain.StartIso e urbs count)) = Some e
-called_endpoint (Plain (plain.StartInterrupt e)) = Some e
-called_endpoint (Plain (plain.StopIso e)) = Some e
-called_endpoint (Plain (plain.StopInterrupt e)) = Some e
-called_endpoint (Plain _) = None
-called_endpoint (Carrying d) = None
+abbrev pub stream_endpoint : RedirPacket → Option ℕ
+stream_endpoint (Plain (plain.StartIso e urbs count)) = Some e
+stream_endpoint (Plain (plain.StartInterrupt e)) = Some e
+stream_endpoint (Plain (plain.StopIso e)) = Some e
+stream_endpoint (Plain (plain.StopInterrupt e)) = Some e
+stream_endpoint (Plain _) = None
+stream_endpoint (Carrying d) = None
 
 abbrev pub passes : (ℕ → Bool) → Option ℕ → Bool
 passes test None = false
@@ -40,7 +40,7 @@ passes test (Some ep) = test ep
 -- a start or stop of a stream that is down has a change or the fence's stop behind it, or is that
 abbrev pub Trails : Option ℕ → (ℕ → Bool) → List (ℕ × RedirPacket) → Type 0
 Trails fence down [] = Unit {0}
-Trails fence down (p ∷ ps) = (passes down (called_endpoint p.1) ≡ true → list_any (asks fence) (p ∷ ps) ≡ true) × Trails fence down ps
+Trails fence down (p ∷ ps) = (passes down (stream_endpoint p.1) ≡ true → list_any (asks fence) (p ∷ ps) ≡ true) × Trails fence down ps
 
 -- what is started
 abbrev pub started_kind : RedirPacket → Option (StreamKind × ℕ)

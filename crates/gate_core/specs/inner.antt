@@ -1,5 +1,5 @@
 -- What the code's own values are of the definitions.
-pub mod Calls
+pub mod SentIds
 pub mod Holds
 pub mod Fill
 pub mod StreamEnd

@@ -3,7 +3,7 @@ pub mod State
 pub mod Facts
 pub mod Sides
 pub mod Ups
-pub mod Calls
+pub mod StreamIds
 pub mod Ids
 pub mod Flight
 pub mod Sound

@@ -12,8 +12,8 @@ pub use host::fill::{finish_fronts, write_fillings};
 pub use host::response::{
     Response, StreamIn, data_of, head_size, mismatch, status_of, stream_in, stream_packet,
 };
-pub use state::calls::{Called, Calls, lifted};
 pub use state::id::draw;
+pub use state::stream_ids::{SentIds, StreamIds, lifted};
 pub use state::streams::{Streams, is_ended, is_iso};
 pub use write::answer::{write_all_sent, write_ret_unlink, write_without_packets};
 pub use write::ask::{

@@ -1,5 +1,5 @@
 //! What is kept.
 
-pub mod calls;
 pub mod id;
+pub mod stream_ids;
 pub mod streams;

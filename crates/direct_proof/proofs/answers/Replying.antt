@@ -121,7 +121,7 @@ module _ {S : Type 0} (m : Meaning S) (w : World S) (j : Shared) (place : ℕ) (
     debts = λ h. (λ i. debts_of (submits-left i) ++ debts_of (filter (λ s. not (has_id c.id s)) st.abandoned))
         ∙ (λ i. debts-left c.id (submits st) i ++ debts-left c.id st.abandoned i)
         ∙ sym (filter-append (λ (d : Debt). not (d.id == c.id)) (debts_of (submits st)) (debts_of st.abandoned)) ∙ ap (filter (λ (d : Debt). not (d.id == c.id))) (rel.debts there);
-    controls = λ h. controls-read st.calls w.to_host (Answered c) bs (rel.controls there);
+    controls = λ h. controls-read st.stream_ids w.to_host (Answered c) bs (rel.controls there);
     fenced = λ h. fenced-read st.fence j.fenced w.to_host (Answered c) bs (rel.fenced there);
     alone = λ h. let a = rel.alone h in (ap (filter (λ s. not (has_id c.id s))) a.0, a.1);
     session = λ h a. session-read m w j (Answered c) bs (rel.session there (ap (λ (b : Bool). b || list_any is_plug bs) (sym known) ∙ a));

@@ -27,12 +27,12 @@ use Rattle.direct_run.specs.Clients.{IsMove}
 use Rattle.direct_run.specs.Moves.{World, Move, ByClient, HostReads, GateReads, Performs, Offers, Unplugs}
 use Rattle.direct_proof.specs.Kinds.{TaggedOfKind}
 use Rattle.direct_proof.specs.Moves.{move}
-use Rattle.direct_proof.proofs.races.Kinds.{EndsNone, HearsNoCall, IsRaceVerdict, ReadsReply, Stays}
+use Rattle.direct_proof.proofs.races.Kinds.{EndsNone, HearsNoSwitch, IsRaceVerdict, ReadsReply, Stays}
 use Rattle.direct_proof.specs.Related.{Related}
-use Rattle.direct_proof.specs.Running.{called_endpoint}
+use Rattle.direct_proof.specs.Running.{stream_endpoint}
 use Rattle.direct_proof.specs.Runs.{IsRun}
 use Rattle.direct_proof.specs.Shared.{Shared}
-use Rattle.direct_proof.proofs.streams.Kinds.{HearsCall, MovesStreams, ReadsStream}
+use Rattle.direct_proof.proofs.streams.Kinds.{HearsSwitch, MovesStreams, ReadsStream}
 use Rattle.direct_proof.specs.Tagged.{Tagged, Greeted, Plugged, ToldTable, ToldFaces, Answered, Packed, Stated, Bye, on_wire}
 use Rattle.direct_proof.proofs.shared.Folds.{clash, not-both}
 use Rattle.direct_proof.proofs.shared.Keeps.{Keeps}
@@ -103,13 +103,13 @@ module _ {S : Type 0} (m : Meaning S) (laws : IsGadget m) (w : World S) (j : Sha
   keep-hears-any : Keeps m w j (move m w HostReads)
   keep-hears-any = go w.to_host refl
     where
-      by : (p : ℕ × RedirPacket) (ps : List (ℕ × RedirPacket)) → w.to_host ≡ p ∷ ps → (b : Bool) → is_some (called_endpoint p.1) ≡ b → Keeps m w j (move m w HostReads)
-      by p ps e true c = keep-stream m laws w j HostReads (subst HearsCall (sym e) c) run rel
-      by p ps e false c = keep-race m laws w j HostReads (subst HearsNoCall (sym e) c) run rel
+      by : (p : ℕ × RedirPacket) (ps : List (ℕ × RedirPacket)) → w.to_host ≡ p ∷ ps → (b : Bool) → is_some (stream_endpoint p.1) ≡ b → Keeps m w j (move m w HostReads)
+      by p ps e true c = keep-stream m laws w j HostReads (subst HearsSwitch (sym e) c) run rel
+      by p ps e false c = keep-race m laws w j HostReads (subst HearsNoSwitch (sym e) c) run rel
 
       go : (ps : List (ℕ × RedirPacket)) → w.to_host ≡ ps → Keeps m w j (move m w HostReads)
-      go [] e = keep-stream m laws w j HostReads (subst HearsCall (sym e) tt) run rel
-      go (p ∷ ps) e = by p ps e (is_some (called_endpoint p.1)) refl
+      go [] e = keep-stream m laws w j HostReads (subst HearsSwitch (sym e) tt) run rel
+      go (p ∷ ps) e = by p ps e (is_some (stream_endpoint p.1)) refl
 
   keep-reads-any : (place : ℕ) → Keeps m w j (move m w (GateReads place))
   keep-reads-any place = go j.back refl

@@ -13,7 +13,7 @@ use Rattle.gate_history.specs.state.State.{State, next_ids}
 use Rattle.gate_history.specs.client.Submits.{Pending}
 use Rattle.gate_history.specs.state.Ups.{Up, is_ended, no_streams}
 use Rattle.std.specs.List.{last_or}
-use Rattle.gate_history.specs.state.Calls.{called}
+use Rattle.gate_history.specs.state.StreamIds.{stream_ids_after}
 use Rattle.gate_history.specs.state.Ids.{last_of}
 use Rattle.gate_history.specs.write.Packets.{stops}
 use Rattle.gate_history.specs.state.Sides.{ends_client, refuses_client, turned}
@@ -63,7 +63,7 @@ module _ {S : Type 0} (m : Meaning S) (w : World S) (j : Shared) (rel : Related 
           live = sym (sound.gone out) i;
           abandoned = (ap (λ (ps : List Pending). st.abandoned ++ filter (λ s. goes_by_id s.verdict) (map (λ (p : Pending). p.submit) ps)) (sound.gone out) ∙ append-nil st.abandoned) i;
           streams = sym downs i;
-          calls = called (zip (stopped (downs i)) (stops (is_ended None) (downs i))) st.calls;
+          stream_ids = stream_ids_after (zip (stopped (downs i)) (stops (is_ended None) (downs i))) st.stream_ids;
           fence = last_or st.fence (stopped (downs i));
           last = last_of st.last (stopped (downs i));
         };

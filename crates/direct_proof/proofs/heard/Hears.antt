@@ -32,7 +32,7 @@ use Rattle.direct_proof.specs.Requests.{Entry, at_queue, form_of, form_by, queue
 use Rattle.direct_proof.specs.Shared.{in_line}
 use Rattle.direct_proof.specs.Cancels.{begins, is_request, IsAsking, CanAsk}
 use Rattle.direct_proof.specs.Stale.{asks}
-use Rattle.direct_proof.specs.Running.{called_endpoint}
+use Rattle.direct_proof.specs.Running.{stream_endpoint}
 use Rattle.direct_proof.proofs.shared.Streaming.{IsQuiet}
 
 abbrev pub form_changes : Form → Bool
@@ -44,7 +44,7 @@ pub data Heard {S : Type 0} (m : Meaning S) (h : Host S) (p : ℕ × RedirPacket
   Joins : (f : Form) (t : Transfer) → in_line p ≡ Waits 0 p.0 f t ∷ [] → begins p.1 ≡ true → IsQuiet p → ((fence : Option ℕ) → asks fence p ≡ form_changes f) → packet_move_by m h p.0 p.1 ≡ joins h p.0 f t → Heard m h p
   Resetting : p.1 ≡ Plain plain.Reset → Heard m h p
   Cancelling : p.1 ≡ Plain plain.Cancel → Heard m h p
-  Calling : is_some (called_endpoint p.1) ≡ true → Heard m h p
+  Switching : is_some (stream_endpoint p.1) ≡ true → Heard m h p
   Ignored : in_line p ≡ [] → begins p.1 ≡ false → IsQuiet p → ((fence : Option ℕ) → asks fence p ≡ false) → packet_move_by m h p.0 p.1 ≡ host_quiet h → Heard m h p
 
 by : (f : Form) (t : Transfer) (g : Form) (u : Transfer) → form_changes g ≡ false → (b : Bool) → asked_if b g u ≡ Asks f t → form_changes f ≡ false
@@ -68,10 +68,10 @@ heard m h (id, Plain (plain.SetConfiguration c)) k = Joins (form.SetConfiguratio
 heard m h (id, Plain plain.GetConfiguration) k = Joins form.GetConfiguration (routed route.GetConfig) refl refl (refl, refl, λ ep b. refl) (λ fence. refl) refl
 heard m h (id, Plain (plain.SetAlt i a)) k = Joins (form.SetAlt i a) (routed (route.SetAlt i a)) refl refl (refl, refl, λ ep b. refl) (λ fence. refl) refl
 heard m h (id, Plain (plain.GetAlt i)) k = Joins (form.GetAlt i) (routed (route.GetAlt i)) refl refl (refl, refl, λ ep b. refl) (λ fence. refl) refl
-heard m h (id, Plain (plain.StartIso e n c)) k = Calling refl
-heard m h (id, Plain (plain.StopIso e)) k = Calling refl
-heard m h (id, Plain (plain.StartInterrupt e)) k = Calling refl
-heard m h (id, Plain (plain.StopInterrupt e)) k = Calling refl
+heard m h (id, Plain (plain.StartIso e n c)) k = Switching refl
+heard m h (id, Plain (plain.StopIso e)) k = Switching refl
+heard m h (id, Plain (plain.StartInterrupt e)) k = Switching refl
+heard m h (id, Plain (plain.StopInterrupt e)) k = Switching refl
 heard m h (id, Plain plain.Cancel) k = Cancelling refl
 heard m h (id, Plain _) k = Ignored refl refl (refl, refl, λ ep b. refl) (λ fence. refl) refl
 heard m h (id, Carrying d) k = go (asking_of d) refl k

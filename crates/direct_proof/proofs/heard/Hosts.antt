@@ -9,8 +9,8 @@ use Rattle.direct_proof.specs.Moves.{move, host_reads}
 use Rattle.direct_proof.specs.Shared.{Shared}
 use Rattle.direct_proof.specs.Related.{Related}
 use Rattle.direct_proof.specs.Cancels.{IsAsking}
-use Rattle.direct_proof.specs.Running.{called_endpoint}
-use Rattle.direct_proof.proofs.heard.Hears.{Heard, Joins, Resetting, Cancelling, Calling, Ignored, heard}
+use Rattle.direct_proof.specs.Running.{stream_endpoint}
+use Rattle.direct_proof.proofs.heard.Hears.{Heard, Joins, Resetting, Cancelling, Switching, Ignored, heard}
 use Rattle.direct_proof.proofs.shared.Folds.{clash}
 use Rattle.direct_proof.proofs.heard.Listening.{greeted, keep-joined}
 use Rattle.direct_proof.proofs.heard.Ignoring.{keep-ignored, keep-reset}
@@ -18,7 +18,7 @@ use Rattle.direct_proof.proofs.heard.Taking.{keep-cancel}
 use Rattle.direct_proof.proofs.shared.Keeps.{Keeps, keeps-quiet}
 
 -- it starts or stops no stream, and isn't the hello
-pub keep-reads-asked : {S : Type 0} (m : Meaning S) (w : World S) (j : Shared) (ps : List (ℕ × RedirPacket)) → Related m w j → w.to_host ≡ ps → ((p : ℕ × RedirPacket) (rest : List (ℕ × RedirPacket)) → ps ≡ p ∷ rest → IsAsking p.1 × (is_some (called_endpoint p.1) ≡ false)) → Keeps m w j (move m w HostReads)
+pub keep-reads-asked : {S : Type 0} (m : Meaning S) (w : World S) (j : Shared) (ps : List (ℕ × RedirPacket)) → Related m w j → w.to_host ≡ ps → ((p : ℕ × RedirPacket) (rest : List (ℕ × RedirPacket)) → ps ≡ p ∷ rest → IsAsking p.1 × (is_some (stream_endpoint p.1) ≡ false)) → Keeps m w j (move m w HostReads)
 keep-reads-asked m w j [] rel wire calm = keeps-quiet m w j j (move m w HostReads) w (ap (host_reads m w) wire) rel refl
 keep-reads-asked {S = S} m w j (p ∷ ps) rel wire calm = go (heard m w.host p asks)
   where
@@ -35,5 +35,5 @@ keep-reads-asked {S = S} m w j (p ∷ ps) rel wire calm = go (heard m w.host p a
     go (Joins f t line begin quiet changed host) = keep-joined m w j p ps f t rel wire asks first line begin quiet changed host
     go (Resetting is) = keep-reset m w j p.0 ps rel (named (Plain plain.Reset) is) first
     go (Cancelling is) = keep-cancel m w j p.0 ps rel (named (Plain plain.Cancel) is) first
-    go (Calling is) = absurd (clash (is_some (called_endpoint p.1)) is (calm p ps refl).1)
+    go (Switching is) = absurd (clash (is_some (stream_endpoint p.1)) is (calm p ps refl).1)
     go (Ignored line begin quiet changed host) = keep-ignored m w j p ps rel wire asks first line begin quiet changed (λ h. host)

@@ -22,10 +22,10 @@ use Rattle.direct_proof.specs.Loads.{IsLoad}
 use Rattle.direct_proof.specs.Cancels.{IsAsking, CancelsFit, moved, left, begins, is_change, any_change, Behind}
 use Rattle.direct_proof.specs.Ids.{Ids}
 use Rattle.direct_proof.specs.Stale.{asks, Clean}
-use Rattle.direct_proof.specs.Running.{Quits, Trails, StartsFit, started_kind, called_endpoint}
-use Rattle.direct_proof.specs.Kinds.{StartOfKind, CallIsIn}
+use Rattle.direct_proof.specs.Running.{Quits, Trails, StartsFit, started_kind, stream_endpoint}
+use Rattle.direct_proof.specs.Kinds.{StartOfKind, StreamIsIn}
 use Rattle.direct_proof.specs.Session.{down_in, runs}
-use Rattle.direct_proof.specs.Calls.{Fenced, Controls}
+use Rattle.direct_proof.specs.StreamIds.{Fenced, Controls}
 use Rattle.direct_proof.proofs.shared.Folds.{clash, any-append, Next, next-line}
 use Rattle.direct_proof.proofs.shared.Streaming.{IsQuiet, controls-heard, fenced-heard}
 use Rattle.direct_proof.proofs.heard.Hears.{not-greeting, form_changes, change-form, joined}
@@ -86,7 +86,7 @@ after-heard m w j p ps queue next held half coming rel wire first calm h = recor
     half = h.marked;
     coming = h.line;
     loads = subst (Each (λ (e : Entry). IsLoad e.load)) h.same rel.line.loads;
-    calls_in = (subst (Each (λ (q : ℕ × RedirPacket). CallIsIn (called_endpoint q.1))) wire rel.line.calls_in).1;
+    streams_in = (subst (Each (λ (q : ℕ × RedirPacket). StreamIsIn (stream_endpoint q.1))) wire rel.line.streams_in).1;
     cancels = h.cancels;
     behind = subst Behind h.same rel.line.behind;
   };
@@ -99,7 +99,7 @@ after-heard m w j p ps queue next held half coming rel wire first calm h = recor
   asked = λ k. (subst (Each (λ (q : ℕ × RedirPacket). IsAsking q.1)) wire (rel.asked k)).1;
   meets = rel.meets;
   debts = rel.debts;
-  controls = λ k. controls-heard w.gate.calls p ps j.back (subst (λ (l : List (ℕ × RedirPacket)). Controls w.gate.calls l j.back) wire (rel.controls k));
+  controls = λ k. controls-heard w.gate.stream_ids p ps j.back (subst (λ (l : List (ℕ × RedirPacket)). Controls w.gate.stream_ids l j.back) wire (rel.controls k));
   fenced = λ k. fenced-heard w.gate.fence j.fenced p ps j.back (subst (λ (l : List (ℕ × RedirPacket)). Fenced w.gate.fence j.fenced l j.back) wire (rel.fenced k));
   alone = rel.alone;
   session = λ k a. let s = rel.session k a in record {

@@ -4,7 +4,7 @@ use Rattle.std.specs.Prelude.{zip}
 use Rattle.std.specs.List.{flat_map, last_or}
 use Rattle.std.proofs.lemmas.Grind.{flat_map-append}
 use Rattle.redir_data.specs.declared.packet.RedirPacket.{RedirPacket}
-use Rattle.gate_history.specs.state.Calls.{called, moved_fence}
+use Rattle.gate_history.specs.state.StreamIds.{stream_ids_after, moved_fence}
 use Rattle.gate_history.specs.state.Facts.{no_facts, tell}
 use Rattle.gate_history.specs.state.Ids.{last_of}
 use Rattle.gate_history.specs.step.Marks.{Effect, Mark}
@@ -46,7 +46,7 @@ left_world w test over = record w {
     live = [];
     abandoned = w.gate.abandoned ++ filter (λ s. goes_by_id s.verdict) (submits w.gate);
     streams = no_streams;
-    calls = called (leave_stops w.gate) w.gate.calls;
+    stream_ids = stream_ids_after (leave_stops w.gate) w.gate.stream_ids;
     fence = last_or w.gate.fence (leave_ids w.gate);
     last = last_of w.gate.last (leave_ids w.gate);
   };
@@ -113,7 +113,7 @@ module _ {S : Type 0} (w : World S) (e : Effect) (l : ClientGoes w.gate e) where
         live = leaving-left w.gate e l.gone i;
         abandoned = cond (l.gone i) (w.gate.abandoned ++ filter (λ s. goes_by_id s.verdict) (submits w.gate)) (cond (is_loss e) [] (filter (λ s. not (is_answered e s)) w.gate.abandoned));
         streams = cond (l.gone i || is_loss e) no_streams (moved_streams e w.gate.streams);
-        calls = called (zip (drawn i) (l.asked i)) w.gate.calls;
+        stream_ids = stream_ids_after (zip (drawn i) (l.asked i)) w.gate.stream_ids;
         fence = cond (l.gone i) (last_or w.gate.fence (drawn i)) (cond (is_loss e) None (moved_fence e w.gate.fence));
         last = last_of w.gate.last (drawn i);
       };

@@ -10,17 +10,17 @@ use Rattle.gate_history.specs.state.State.{next_ids, submits, flying}
 use Rattle.gate_history.specs.client.Submits.{Pending}
 use Rattle.direct_run.specs.Moves.{World}
 use Rattle.direct_proof.specs.Cancels.{CancelsFit, IsAsking, any_change, Behind}
-use Rattle.direct_proof.specs.Kinds.{CallIsIn}
+use Rattle.direct_proof.specs.Kinds.{StreamIsIn}
 use Rattle.direct_proof.specs.Meets.{Early}
 use Rattle.direct_proof.specs.Related.{Related}
 use Rattle.direct_proof.specs.Requests.{Entry, at_device, at_queue, debts_of}
-use Rattle.direct_proof.specs.Running.{StartsFit, called_endpoint, Quits, Trails}
+use Rattle.direct_proof.specs.Running.{StartsFit, stream_endpoint, Quits, Trails}
 use Rattle.direct_proof.specs.Session.{Session, down_in, runs}
 use Rattle.direct_proof.specs.Shared.{Shared, at_hosts, half_line, lines, view, way_of}
 use Rattle.direct_proof.proofs.shared.Asked.{cancels-asking, cancels-line, cancels-quiet, changes-ask, line-ask, behind-ask, ids-ask}
 use Rattle.direct_proof.proofs.shared.Folds.{clash, lines-append, not-both, or-right}
 use Rattle.direct_proof.proofs.shared.Fits.{fits-map, fits-nil}
-use Rattle.direct_proof.proofs.shared.Streaming.{IsQuiet, calls-quiet-in, starts-append, starts-more, controls-more, quits-more, trails-more}
+use Rattle.direct_proof.proofs.shared.Streaming.{IsQuiet, streams-quiet-in, starts-append, starts-more, controls-more, quits-more, trails-more}
 use Rattle.direct_proof.proofs.shared.Traces.{map-append}
 use Rattle.direct_proof.proofs.streams.changes.ChangeFree.{stops-asking}
 use Rattle.direct_proof.proofs.streams.changes.ChangeTail.{starts-none}
@@ -30,14 +30,14 @@ use Rattle.direct_proof.proofs.leaving.LeftWire.{IsStopping, each-stop, every_up
 use Rattle.direct_proof.proofs.leaving.LeftLists.{asked_all, asked-fits, no-starts, by_id, debts-again, kinds-none, starts-down, tagged-none}
 use Rattle.redir_host.specs.declared.request.Request.{Request as HostRequest}
 use Rattle.std.specs.List.{last_or, AllByRecursion as Each}
-use Rattle.gate_history.specs.state.Calls.{called}
+use Rattle.gate_history.specs.state.StreamIds.{stream_ids_after}
 use Rattle.gate_history.specs.step.Marks.{Submission}
 use Rattle.gate_history.specs.state.Ids.{holds}
 use Rattle.gate_history.specs.state.Ups.{Up, no_streams}
 use Rattle.gate_history.proofs.lemmas.Lists.{map-map, Each-append}
 use Rattle.direct_device.specs.Acting.{ClientGone}
 use Rattle.direct_device.specs.Direct.{Direct, Waiting}
-use Rattle.direct_proof.specs.Calls.{Controls, Fenced}
+use Rattle.direct_proof.specs.StreamIds.{Controls, Fenced}
 use Rattle.direct_proof.specs.Ids.{Ids}
 use Rattle.direct_proof.specs.Loads.{IsLoad}
 use Rattle.direct_proof.specs.Moves.{when}
@@ -91,9 +91,9 @@ module _ {S : Type 0} (m : Meaning S) (w : World S) (j : Shared) (rel : Related 
       (fits-map asked_all (λ id e h k. refl) j.held w.to_host j.coming rel.line.cancels)
       (subst (λ (l : List Entry). CancelsFit l (cs ++ zs) []) joined (asked-fits (j.held ++ j.coming) (cs ++ zs)))
 
-  new-calls-in : Each (λ (p : ℕ × RedirPacket). CallIsIn (called_endpoint p.1)) (w.to_host ++ (cs ++ zs))
-  new-calls-in = Each-append (λ (p : ℕ × RedirPacket). CallIsIn (called_endpoint p.1)) w.to_host (cs ++ zs) rel.line.calls_in
-      (Each-append (λ (p : ℕ × RedirPacket). CallIsIn (called_endpoint p.1)) cs zs (calls-quiet-in cs quiet-cs) (stops-in every_up zs stopped))
+  new-streams-in : Each (λ (p : ℕ × RedirPacket). StreamIsIn (stream_endpoint p.1)) (w.to_host ++ (cs ++ zs))
+  new-streams-in = Each-append (λ (p : ℕ × RedirPacket). StreamIsIn (stream_endpoint p.1)) w.to_host (cs ++ zs) rel.line.streams_in
+      (Each-append (λ (p : ℕ × RedirPacket). StreamIsIn (stream_endpoint p.1)) cs zs (streams-quiet-in cs quiet-cs) (stops-in every_up zs stopped))
 
   new-asked : w.host.guest.first ≡ false → Each (λ (p : ℕ × RedirPacket). IsAsking p.1) (w.to_host ++ (cs ++ zs))
   new-asked h = Each-append (λ (p : ℕ × RedirPacket). IsAsking p.1) w.to_host (cs ++ zs) (rel.asked h)
@@ -141,7 +141,7 @@ module _ {S : Type 0} (m : Meaning S) (w : World S) (j : Shared) (rel : Related 
       half = rel.line.half;
       coming = new-line;
       loads = subst (Each (λ (e : Entry). IsLoad e.load)) joined (Each-map (λ (e : Entry). IsLoad e.load) asked_all (j.held ++ j.coming) rel.line.loads);
-      calls_in = new-calls-in;
+      streams_in = new-streams-in;
       cancels = new-cancels;
       behind = subst Behind joined (behind-ask asked_all (λ e. refl) (λ e. refl) (j.held ++ j.coming) rel.line.behind);
     };
@@ -154,7 +154,7 @@ module _ {S : Type 0} (m : Meaning S) (w : World S) (j : Shared) (rel : Related 
     asked = new-asked;
     meets = meets-client w j false w.gate.lost (λ h. absurd (not-both (sym h))) rel.meets;
     debts = λ h. ap (λ (l : List Submission). debts_of (l ++ filter by_id (submits w.gate))) (rel.alone inside).0 ∙ debts-again (submits w.gate) ∙ live-debts m w j rel inside h;
-    controls = λ h. subst (λ (l : List (ℕ × RedirPacket)). Controls (called (leave_stops w.gate) w.gate.calls) l j.back) (sym wire) (left-controls w.gate rel.ups gate ps j.back (controls-more w.gate.calls w.to_host cs j.back quiet-cs (rel.controls h)));
+    controls = λ h. subst (λ (l : List (ℕ × RedirPacket)). Controls (stream_ids_after (leave_stops w.gate) w.gate.stream_ids) l j.back) (sym wire) (left-controls w.gate rel.ups gate ps j.back (controls-more w.gate.stream_ids w.to_host cs j.back quiet-cs (rel.controls h)));
     fenced = f.fence-is;
     alone = λ h. absurd (not-both (sym h));
     session = λ h k. let s = rel.session h k in record {
@@ -237,7 +237,7 @@ module _ {S : Type 0} (m : Meaning S) (w : World S) (j : Shared) (rel : Related 
   is-fenced front z is same free = record {
     fence-is = λ h. subst (λ (f : Option ℕ). Fenced f true (w.to_host ++ (cs ++ zs)) j.back) (sym fence)
         (subst (λ (l : List (ℕ × RedirPacket)). Fenced (Some z.0) true l j.back) (sym wire)
-        (left-fenced w.gate rel.ups gate ps j.back front z is free (controls-more w.gate.calls w.to_host cs j.back quiet-cs (rel.controls h))));
+        (left-fenced w.gate rel.ups gate ps j.back front z is free (controls-more w.gate.stream_ids w.to_host cs j.back quiet-cs (rel.controls h))));
     clean-is = λ s. subst (λ (b : Bool). Clean (last_or w.gate.fence (leave_ids w.gate)) (down_in no_streams) b j.back) (sym (or-right (any_change (map asked_all j.held ++ map asked_all j.coming)) true refl))
         (clean-true (last_or w.gate.fence (leave_ids w.gate)) (down_in no_streams) j.back);
     quits-is = λ s e. subst (λ (f : Option ℕ). Quits f e (runs w.host e) (w.to_host ++ (cs ++ zs))) (sym fence)

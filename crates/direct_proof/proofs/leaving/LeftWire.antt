@@ -8,27 +8,27 @@ use Rattle.usb_base.specs.Endpoint.{endpoint_index}
 use Rattle.std.specs.List.{last_or, AllByRecursion as Each}
 use Rattle.redir_host.proofs.lemmas.state.Each.{each_behind}
 use Rattle.gate_history.proofs.lemmas.Lists.{Each-append}
-use Rattle.gate_history.specs.state.Calls.{called, call_ids}
+use Rattle.gate_history.specs.state.StreamIds.{stream_ids_after, ids_of_streams}
 use Rattle.gate_history.specs.state.Flight.{wide_ids, ids_of}
 use Rattle.gate_history.specs.state.Ids.{AreFresh, greatest, holds, times}
 use Rattle.gate_history.specs.write.Packets.{stops}
 use Rattle.gate_history.specs.state.State.{State, submits, flying}
 use Rattle.gate_history.specs.state.Ups.{Up, stream_of, lower, unless, is_ended}
 use Rattle.gate_history.specs.client.Verdict.{is_iso}
-use Rattle.gate_history.proofs.lemmas.state.Calls.{AreLong, times-append}
+use Rattle.gate_history.proofs.lemmas.state.StreamIds.{AreLong, times-append}
 use Rattle.gate_history.proofs.lemmas.state.Draws.{length-draws}
-use Rattle.direct_proof.specs.Calls.{Controls, Fenced, IdIsKept, CallIsKept, StatusIsKept, calls_on, statuses_on}
+use Rattle.direct_proof.specs.StreamIds.{Controls, Fenced, IdIsKept, StreamIdIsKept, StatusIsKept, stream_ids_on, statuses_on}
 use Rattle.direct_proof.specs.Kinds.{UpsFit, UpFits}
-use Rattle.direct_proof.specs.Running.{Quits, Trails, called_endpoint}
+use Rattle.direct_proof.specs.Running.{Quits, Trails, stream_endpoint}
 use Rattle.direct_proof.specs.Session.{down_in}
 use Rattle.direct_proof.specs.Stale.{asks, is_fence}
 use Rattle.direct_proof.specs.Tagged.{Tagged, Stated}
 use Rattle.direct_proof.proofs.lists.Counts.{itself}
 use Rattle.direct_proof.proofs.shared.Folds.{not-both}
-use Rattle.direct_proof.proofs.shared.Streaming.{calls-append}
+use Rattle.direct_proof.proofs.shared.Streaming.{stream_ids-append}
 use Rattle.direct_proof.proofs.shared.UpsFound.{lowered, by-address}
 use Rattle.direct_proof.proofs.streams.wires.Lowered.{WasUp, why-down}
-use Rattle.direct_proof.proofs.streams.submits.Starting.{no-calls, no-statuses}
+use Rattle.direct_proof.proofs.streams.submits.Starting.{no-stream_id, no-statuses}
 use Rattle.direct_proof.proofs.streams.submits.Drawn.{any-back, times-some, times-distinct}
 use Rattle.direct_proof.proofs.streams.changes.Stops.{StopsOne, each-stops, ups-in, runs_all, runs_all-append, stops-off, stops-quit, quits-ends, trails-ends, quits-end}
 use Rattle.direct_proof.proofs.streams.changes.StopIds.{Stand, stops-times, stops-kept, stops-new}
@@ -37,9 +37,9 @@ use Rattle.direct_proof.proofs.leaving.Last.{IsLast, last-is}
 
 -- what is true of every gateway: its laws. A stream that is up keeps no stop
 pub record IsStopping (st : State) : Type 0 where
-  pub long : AreLong st.calls
+  pub long : AreLong st.stream_ids
   pub fresh : AreFresh (greatest (wide_ids st.agreed)) (flying st) (leave_ids st)
-  pub unstopped : (i : ℕ) → is_some (get_or st.streams i None) ≡ true → get_or st.calls.stopped i None ≡ None
+  pub unstopped : (i : ℕ) → is_some (get_or st.streams i None) ≡ true → get_or st.stream_ids.stopped i None ≡ None
 
 abbrev pub every_up : Up → Bool
 every_up = is_ended None
@@ -94,57 +94,57 @@ module _ (st : State) (fits : UpsFit st.streams) (gate : IsStopping st) (ps : Li
   same-length : length (leave_ids st) ≡ length (stops every_up st.streams)
   same-length = length-draws (greatest (wide_ids st.agreed)) (flying st) st.last (length (stops every_up st.streams))
 
-  stands : Stand 0 st.streams st.calls
+  stands : Stand 0 st.streams st.stream_ids
   stands = record {
     fits = λ i. subst (λ (n : ℕ). UpFits n (get_or st.streams i None)) (plus i) (fits.each i);
-    fresh = λ i h. subst (λ (n : ℕ). get_or st.calls.stopped n None ≡ None) (plus i) (gate.unstopped i h);
+    fresh = λ i h. subst (λ (n : ℕ). get_or st.stream_ids.stopped n None ≡ None) (plus i) (gate.unstopped i h);
     long = gate.long.stopped;
   }
     where
       plus : (n : ℕ) → n ≡ 0 + n
       plus n = omega arith
 
-  kept-on : (n e : ℕ) → IdIsKept st.calls n e → IdIsKept (called (leave_stops st) st.calls) n e
-  kept-on n e h = stops-kept every_up (leave_ids st) 0 st.streams st.calls stands n e h
+  kept-on : (n e : ℕ) → IdIsKept st.stream_ids n e → IdIsKept (stream_ids_after (leave_stops st) st.stream_ids) n e
+  kept-on n e h = stops-kept every_up (leave_ids st) 0 st.streams st.stream_ids stands n e h
 
   -- an id that is drawn is in flight nowhere
-  free-call : (n : ℕ) → holds (flying st) n ≡ false → holds (call_ids st.calls) n ≡ false
-  free-call n h = any-back (ids_of (submits st) ++ ids_of st.abandoned) (call_ids st.calls) n h
+  free-stream_id : (n : ℕ) → holds (flying st) n ≡ false → holds (ids_of_streams st.stream_ids) n ≡ false
+  free-stream_id n h = any-back (ids_of (submits st) ++ ids_of st.abandoned) (ids_of_streams st.stream_ids) n h
 
-  pub left-controls : Controls st.calls ps back → Controls (called (leave_stops st) st.calls) (ps ++ leave_stops st) back
+  pub left-controls : Controls st.stream_ids ps back → Controls (stream_ids_after (leave_stops st) st.stream_ids) (ps ++ leave_stops st) back
   left-controls c = record {
     once = λ n. let o = c.once n in
-        let a = ap (times n) (calls-append ps zs) ∙ times-append n (calls_on ps) (calls_on zs) in
+        let a = ap (times n) (stream_ids-append ps zs) ∙ times-append n (stream_ids_on ps) (stream_ids_on zs) in
         let b = stops-times every_up n (leave_ids st) (stops every_up st.streams) in
         few n (times n (leave_ids st)) refl o a b;
-    calls_kept = Each-append (λ (p : ℕ × RedirPacket). CallIsKept (called zs st.calls) p.0 (called_endpoint p.1)) ps zs (olds ps c.calls_kept) (stops-new every_up (leave_ids st) 0 st.streams st.calls stands);
+    stream_ids_kept = Each-append (λ (p : ℕ × RedirPacket). StreamIdIsKept (stream_ids_after zs st.stream_ids) p.0 (stream_endpoint p.1)) ps zs (olds ps c.stream_ids_kept) (stops-new every_up (leave_ids st) 0 st.streams st.stream_ids stands);
     statuses_kept = statuses back c.statuses_kept;
   }
     where
-      olds : (qs : List (ℕ × RedirPacket)) → Each (λ (p : ℕ × RedirPacket). CallIsKept st.calls p.0 (called_endpoint p.1)) qs → Each (λ (p : ℕ × RedirPacket). CallIsKept (called zs st.calls) p.0 (called_endpoint p.1)) qs
+      olds : (qs : List (ℕ × RedirPacket)) → Each (λ (p : ℕ × RedirPacket). StreamIdIsKept st.stream_ids p.0 (stream_endpoint p.1)) qs → Each (λ (p : ℕ × RedirPacket). StreamIdIsKept (stream_ids_after zs st.stream_ids) p.0 (stream_endpoint p.1)) qs
       olds [] h = tt
-      olds (p ∷ qs) h = (go (called_endpoint p.1) h.0, olds qs h.1)
+      olds (p ∷ qs) h = (go (stream_endpoint p.1) h.0, olds qs h.1)
         where
-          go : (o : Option ℕ) → CallIsKept st.calls p.0 o → CallIsKept (called zs st.calls) p.0 o
+          go : (o : Option ℕ) → StreamIdIsKept st.stream_ids p.0 o → StreamIdIsKept (stream_ids_after zs st.stream_ids) p.0 o
           go None k = tt
           go (Some e) k = kept-on p.0 e k
 
-      statuses : (bs : List Tagged) → Each (StatusIsKept st.calls) bs → Each (StatusIsKept (called zs st.calls)) bs
+      statuses : (bs : List Tagged) → Each (StatusIsKept st.stream_ids) bs → Each (StatusIsKept (stream_ids_after zs st.stream_ids)) bs
       statuses [] h = tt
       statuses (b ∷ bs) h = (go b h.0, statuses bs h.1)
         where
-          go : (b : Tagged) → StatusIsKept st.calls b → StatusIsKept (called zs st.calls) b
+          go : (b : Tagged) → StatusIsKept st.stream_ids b → StatusIsKept (stream_ids_after zs st.stream_ids) b
           go (Stated y n e status) k = kept-on n e k
           go _ k = tt
 
-      few : (n k : ℕ) → times n (leave_ids st) ≡ k → times n (calls_on ps) + times n (statuses_on back) ≤ 1 → times n (calls_on (ps ++ zs)) ≡ times n (calls_on ps) + times n (calls_on zs) → times n (calls_on zs) ≤ times n (leave_ids st) →
-          times n (calls_on (ps ++ zs)) + times n (statuses_on back) ≤ 1
+      few : (n k : ℕ) → times n (leave_ids st) ≡ k → times n (stream_ids_on ps) + times n (statuses_on back) ≤ 1 → times n (stream_ids_on (ps ++ zs)) ≡ times n (stream_ids_on ps) + times n (stream_ids_on zs) → times n (stream_ids_on zs) ≤ times n (leave_ids st) →
+          times n (stream_ids_on (ps ++ zs)) + times n (statuses_on back) ≤ 1
       few n zero e o a b = omega (arith, e, o, a, b)
       few n (suc k) e o a b =
           let drawn : times n (leave_ids st) ≤ 1 = times-distinct n (leave_ids st) gate.fresh.differ in
-          let free : holds (call_ids st.calls) n ≡ false = free-call n (times-some n (leave_ids st) (flying st) gate.fresh.free (omega (arith, e))) in
-          let x1 = no-calls st.calls n free ps c.calls_kept in
-          let y1 = no-statuses st.calls n free back c.statuses_kept in
+          let free : holds (ids_of_streams st.stream_ids) n ≡ false = free-stream_id n (times-some n (leave_ids st) (flying st) gate.fresh.free (omega (arith, e))) in
+          let x1 = no-stream_id st.stream_ids n free ps c.stream_ids_kept in
+          let y1 = no-statuses st.stream_ids n free back c.statuses_kept in
           omega (arith, drawn, x1, y1, a, b)
 
   -- the stops, of which the last is the fence
@@ -180,5 +180,5 @@ module _ (st : State) (fits : UpsFit st.streams) (gate : IsStopping st) (ps : Li
     pub left-trails : (down : ℕ → Bool) → Trails (Some z.0) down (ps ++ leave_stops st)
     left-trails down = subst (Trails (Some z.0) down) (sym split) (trails-ends (Some z.0) down (ps ++ front) z asks-z)
 
-    pub left-fenced : holds (flying st) z.0 ≡ false → Controls st.calls ps back → Fenced (Some z.0) true (ps ++ leave_stops st) back
-    left-fenced free c = ((λ h. refl), (λ h. no-statuses st.calls z.0 (free-call z.0 free) back c.statuses_kept))
+    pub left-fenced : holds (flying st) z.0 ≡ false → Controls st.stream_ids ps back → Fenced (Some z.0) true (ps ++ leave_stops st) back
+    left-fenced free c = ((λ h. refl), (λ h. no-statuses st.stream_ids z.0 (free-stream_id z.0 free) back c.statuses_kept))

@@ -5,7 +5,7 @@ use Rattle.gate_history.specs.state.Ids.{greatest}
 use Rattle.gate_history.specs.write.Packets.{stops}
 use Rattle.gate_history.specs.state.State.{State, flying}
 use Rattle.gate_history.specs.state.Ups.{is_ended}
-use Rattle.gate_history.proofs.lemmas.state.Calls.{few-stops}
+use Rattle.gate_history.proofs.lemmas.state.StreamIds.{few-stops}
 use Rattle.gate_history.proofs.lemmas.state.Draws.{draws-fresh}
 use Rattle.direct_proof.specs.Runs.{IsRun}
 use Rattle.direct_proof.proofs.races.Gates.{run-sound}

@@ -79,7 +79,7 @@ module _ {S : Type 0} (m : Meaning S) (w : World S) (j : Shared) (place : ℕ) (
       no_session = λ h k. on.known (rel.meets.no_session h k);
     };
     debts = rel.debts;
-    controls = λ h. controls-read st.calls w.to_host b bs (rel.controls there);
+    controls = λ h. controls-read st.stream_ids w.to_host b bs (rel.controls there);
     fenced = λ h. fenced-read st.fence j.fenced w.to_host b bs (rel.fenced there);
     alone = rel.alone;
     session = λ h a. session-read m w j b bs (rel.session there (on.announced a));

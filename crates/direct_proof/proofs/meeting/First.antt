@@ -39,7 +39,7 @@ first-related m s = record {
     half = λ h. refl;
     coming = refl;
     loads = tt;
-    calls_in = (tt, tt);
+    streams_in = (tt, tt);
     cancels = ((λ h. absurd (not-both (sym h))), tt);
     behind = tt;
   };
@@ -60,7 +60,7 @@ first-related m s = record {
     no_session = λ h k. absurd (not-both (sym h));
   };
   debts = λ h. refl;
-  controls = λ h. record { once = λ id. omega arith; calls_kept = (tt, tt); statuses_kept = (tt, tt) };
+  controls = λ h. record { once = λ id. omega arith; stream_ids_kept = (tt, tt); statuses_kept = (tt, tt) };
   fenced = λ h. refl;
   alone = λ h. absurd (not-both (sym h));
   session = λ h a. absurd (not-both (sym a));

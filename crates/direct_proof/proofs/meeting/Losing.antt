@@ -34,8 +34,8 @@ use Rattle.direct_proof.specs.Tagged.{Greeted, Bye}
 use Rattle.direct_proof.specs.Requests.{live_of, load_of}
 use Rattle.direct_proof.specs.Related.{Related}
 use Rattle.direct_proof.specs.Cancels.{IsAsking, CancelsFit}
-use Rattle.direct_proof.specs.Kinds.{CallIsIn}
-use Rattle.direct_proof.specs.Running.{called_endpoint}
+use Rattle.direct_proof.specs.Kinds.{StreamIsIn}
+use Rattle.direct_proof.specs.Running.{stream_endpoint}
 use Rattle.direct_proof.proofs.answers.Answered.{with_back}
 use Rattle.direct_proof.proofs.shared.Folds.{clash, not-both, lines-append}
 use Rattle.direct_proof.proofs.shared.Fits.{fits-nil}
@@ -113,9 +113,9 @@ module _ {S : Type 0} (m : Meaning S) (w : World S) (j : Shared) (place : ℕ) (
   acked true = (refl, (tt, tt), ((λ h. absurd (not-both (sym h))), tt))
   acked false = (refl, tt, tt)
 
-  uncalled : (b : Bool) → Each (λ (p : ℕ × RedirPacket). CallIsIn (called_endpoint p.1)) (cond b ((0, Plain plain.DisconnectAck) ∷ []) [])
-  uncalled true = (tt, tt)
-  uncalled false = tt
+  stream_ids_stay : (b : Bool) → Each (λ (p : ℕ × RedirPacket). StreamIsIn (stream_endpoint p.1)) (cond b ((0, Plain plain.DisconnectAck) ∷ []) [])
+  stream_ids_stay true = (tt, tt)
+  stream_ids_stay false = tt
 
   abbrev lost_shared : Bool → Shared
   lost_shared gone = record j { back = []; gone = gone }
@@ -127,7 +127,7 @@ module _ {S : Type 0} (m : Meaning S) (w : World S) (j : Shared) (place : ℕ) (
       half = rel.line.half;
       coming = ap (λ (l : List InLine). half_line j.half ++ l) (lines-append w.to_host acks ∙ ap (λ (l : List InLine). lines w.to_host ++ l) (acked (has st.agreed DISCONNECT_ACK)).0 ∙ append-nil (lines w.to_host)) ∙ rel.line.coming;
       loads = rel.line.loads;
-      calls_in = Each-append (λ (p : ℕ × RedirPacket). CallIsIn (called_endpoint p.1)) w.to_host acks rel.line.calls_in (uncalled (has st.agreed DISCONNECT_ACK));
+      streams_in = Each-append (λ (p : ℕ × RedirPacket). StreamIsIn (stream_endpoint p.1)) w.to_host acks rel.line.streams_in (stream_ids_stay (has st.agreed DISCONNECT_ACK));
       cancels = fits-nil j.half j.held w.to_host acks j.coming rel.line.coming rel.line.cancels (acked (has st.agreed DISCONNECT_ACK)).2;
       behind = rel.line.behind;
     };

@@ -25,7 +25,7 @@ use Rattle.direct_proof.specs.Ids.{Ids}
 use Rattle.direct_proof.specs.Kinds.{TaggedOfKind, OfKind}
 use Rattle.direct_proof.specs.Stale.{Clean}
 use Rattle.direct_proof.specs.Cancels.{any_change}
-use Rattle.direct_proof.specs.Calls.{Controls, Fenced, StatusIsKept, statuses_on}
+use Rattle.direct_proof.specs.StreamIds.{Controls, Fenced, StatusIsKept, statuses_on}
 use Rattle.direct_proof.proofs.shared.WireBack.{runs_in-append, packets_in-append}
 use Rattle.direct_proof.proofs.shared.Traces.{map-append}
 use Rattle.direct_proof.proofs.shared.Folds.{clash, not-both, or-right, any-append}
@@ -58,7 +58,7 @@ keep-hello {S = S} m w j rel fresh = go w.host.unplugged refl
     coming : half_line j.half ++ lines [] ≡ at_hosts j.coming
     coming = ap (λ l. half_line j.half ++ lines l) (sym early.wire) ∙ rel.line.coming
 
-    after : (cs : List Tagged) → (w.host.unplugged ≡ true → cs ≡ []) → runs_in cs ≡ [] → Each (TaggedOfKind w.gate.streams) cs → Each (StatusIsKept w.gate.calls) cs → statuses_on cs ≡ [] → list_any is_greeting cs ≡ false → list_any is_bye cs ≡ false → PlugOnce (j.back ++ cs) → (w.host.unplugged ≡ false → list_any is_plug cs ≡ true) →
+    after : (cs : List Tagged) → (w.host.unplugged ≡ true → cs ≡ []) → runs_in cs ≡ [] → Each (TaggedOfKind w.gate.streams) cs → Each (StatusIsKept w.gate.stream_ids) cs → statuses_on cs ≡ [] → list_any is_greeting cs ≡ false → list_any is_bye cs ≡ false → PlugOnce (j.back ++ cs) → (w.host.unplugged ≡ false → list_any is_plug cs ≡ true) →
         (is_announced w (record j { back = j.back ++ cs }) ≡ true → Session m (record w { to_host = []; host = g; to_gate = w.to_gate ++ map on_wire cs }) (record j { back = j.back ++ cs })) →
         Related m (record w { to_host = []; host = g; to_gate = w.to_gate ++ map on_wire cs }) (record j { back = j.back ++ cs })
     after cs off no_ran tagged kept no_status no_greeting no_end once plugs session = record {
@@ -67,7 +67,7 @@ keep-hello {S = S} m w j rel fresh = go w.host.unplugged refl
         half = rel.line.half;
         coming = coming;
         loads = rel.line.loads;
-        calls_in = tt;
+        streams_in = tt;
         cancels = tt;
         behind = rel.line.behind;
       };
@@ -88,7 +88,7 @@ keep-hello {S = S} m w j rel fresh = go w.host.unplugged refl
         no_session = rel.meets.no_session;
       };
       debts = rel.debts;
-      controls = λ h. controls-sent w.gate.calls [] j.back cs no_status kept (controls-heard w.gate.calls (0, gateway_hello) [] j.back (subst (λ l. Controls w.gate.calls l j.back) early.wire (rel.controls h)));
+      controls = λ h. controls-sent w.gate.stream_ids [] j.back cs no_status kept (controls-heard w.gate.stream_ids (0, gateway_hello) [] j.back (subst (λ l. Controls w.gate.stream_ids l j.back) early.wire (rel.controls h)));
       fenced = λ h. fenced-sent w.gate.fence j.fenced [] j.back cs no_status (fenced-heard w.gate.fence j.fenced (0, gateway_hello) [] j.back (subst (λ l. Fenced w.gate.fence j.fenced l j.back) early.wire (rel.fenced h)));
       alone = rel.alone;
       session = λ h a. session a;

@@ -17,7 +17,7 @@ use Rattle.direct_proof.specs.Requests.{Coming, ran_of}
 use Rattle.direct_proof.specs.Shared.{Shared, way_of, view}
 use Rattle.direct_proof.specs.Tagged.{Tagged, Greeted, Bye, on_wire, runs_in, packets_in, told}
 use Rattle.direct_proof.specs.Related.{Related}
-use Rattle.direct_proof.specs.Calls.{statuses_on, StatusIsKept}
+use Rattle.direct_proof.specs.StreamIds.{statuses_on, StatusIsKept}
 use Rattle.direct_proof.specs.Ids.{Ids}
 use Rattle.direct_proof.specs.Kinds.{TaggedOfKind}
 use Rattle.direct_proof.specs.Stale.{Clean, ends}
@@ -48,7 +48,7 @@ module _ {S : Type 0} (m : Meaning S) (w : World S) (j : Shared) (rel : Related 
   gone_shared cs = record j { back = j.back ++ cs }
 
   -- with its farewell, or without where the hello wasn't read
-  related : (cs : List Tagged) → runs_in cs ≡ [] → list_any is_greeting cs ≡ false → list_any is_plug cs ≡ false → Each (TaggedOfKind w.gate.streams) cs → Each (StatusIsKept w.gate.calls) cs → statuses_on cs ≡ [] → ((f : Facts) → told f cs ≡ f) →
+  related : (cs : List Tagged) → runs_in cs ≡ [] → list_any is_greeting cs ≡ false → list_any is_plug cs ≡ false → Each (TaggedOfKind w.gate.streams) cs → Each (StatusIsKept w.gate.stream_ids) cs → statuses_on cs ≡ [] → ((f : Facts) → told f cs ≡ f) →
       ((fence : Option ℕ) (pending : Bool) → Clean fence (down_in w.gate.streams) pending cs) → ByeLast (j.back ++ cs) → (w.host.guest.first ≡ true → cs ≡ []) → Related m (gone_world cs) (gone_shared cs)
   related cs no_ran no_greeting no_plug tagged kept no_status no_fact clean bye_last early = record {
     line = record {
@@ -56,7 +56,7 @@ module _ {S : Type 0} (m : Meaning S) (w : World S) (j : Shared) (rel : Related 
       half = λ h. absurd (not-both h);
       coming = rel.line.coming;
       loads = rel.line.loads;
-      calls_in = rel.line.calls_in;
+      streams_in = rel.line.streams_in;
       cancels = rel.line.cancels;
       behind = rel.line.behind;
     };
@@ -77,7 +77,7 @@ module _ {S : Type 0} (m : Meaning S) (w : World S) (j : Shared) (rel : Related 
       no_session = k.no_session;
     };
     debts = rel.debts;
-    controls = λ h. controls-sent w.gate.calls w.to_host j.back cs no_status kept (rel.controls h);
+    controls = λ h. controls-sent w.gate.stream_ids w.to_host j.back cs no_status kept (rel.controls h);
     fenced = λ h. fenced-sent w.gate.fence j.fenced w.to_host j.back cs no_status (rel.fenced h);
     alone = rel.alone;
     session = λ h a. let s = rel.session h (ap (λ (b : Bool). is_some w.gate.facts.connect || b) (sym (none-more is_plug j.back cs no_plug)) ∙ a) in record {

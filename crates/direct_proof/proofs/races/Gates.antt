@@ -10,7 +10,7 @@ use Rattle.gate_history.specs.step.Marks.{Submission, Mark}
 use Rattle.gate_history.specs.client.Submits.{Pending, pending, live, abandoned}
 use Rattle.gate_history.specs.state.Ids.{holds, AreFresh, Fits, greatest}
 use Rattle.gate_history.specs.state.Flight.{ids_of, in_flight, wide_ids}
-use Rattle.gate_history.specs.state.Calls.{calls, call_ids}
+use Rattle.gate_history.specs.state.StreamIds.{stream_ids, ids_of_streams}
 use Rattle.gate_history.specs.state.State.{State, state_of, flying}
 use Rattle.gate_history.specs.state.Sound.{IsSound, HasFewPackets}
 use Rattle.gate_history.specs.step.Past.{is_left_out, past}
@@ -62,7 +62,7 @@ live-submits ms [] = refl
 live-submits ms (s ∷ ss) = ap (λ (l : List Submission). s ∷ l) (live-submits ms ss)
 
 flying-is : (first : ℕ) (ms : List Mark) → flying (state_of first ms) ≡ in_flight ms
-flying-is first ms = ap (λ (ss : List Submission). ids_of ss ++ ids_of (abandoned ms) ++ call_ids (calls ms)) (live-submits ms (live ms))
+flying-is first ms = ap (λ (ss : List Submission). ids_of ss ++ ids_of (abandoned ms) ++ ids_of_streams (stream_ids ms)) (live-submits ms (live ms))
 
 pub run-fresh : (st : State) → IsRun st → (x : GateItem) → HasFewPackets x → Each (IsDrawn st) (mark_of st x).drawn
 run-fresh st r x few = subst (λ (s : State). Each (IsDrawn s) (mark_of s x).drawn) (state-run first_id r.0 ∙ sym r.1) (each-of (mark_of was x).drawn fresh.fit fresh.free)

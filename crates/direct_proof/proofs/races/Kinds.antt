@@ -22,7 +22,7 @@ use Rattle.gate_history.specs.state.Ups.{Up, is_ended}
 use Rattle.gate_history.specs.declared.verdict.Verdict.{Verdict}
 use Rattle.gate_history.specs.declared.verdict.Verdict.TheVariants.{Routed, Stream}
 use Rattle.direct_run.specs.Moves.{World, Move, ByClient, HostReads, GateReads, Performs, Unplugs}
-use Rattle.direct_proof.specs.Running.{called_endpoint}
+use Rattle.direct_proof.specs.Running.{stream_endpoint}
 
 -- ---- submits
 
@@ -50,9 +50,9 @@ pub record IsRaceSubmit (st : State) (s : UrbSubmit) : Type 0 where
 -- ---- what is read
 
 -- the next packet starts or stops no stream
-abbrev pub HearsNoCall : List (ℕ × RedirPacket) → Type 0
-HearsNoCall [] = Unit {0}
-HearsNoCall (p ∷ ps) = is_some (called_endpoint p.1) ≡ false
+abbrev pub HearsNoSwitch : List (ℕ × RedirPacket) → Type 0
+HearsNoSwitch [] = Unit {0}
+HearsNoSwitch (p ∷ ps) = is_some (stream_endpoint p.1) ≡ false
 
 -- it is no packet or status of a stream
 abbrev pub IsReply : RedirPacket → Type 0
@@ -76,7 +76,7 @@ IsRaceMove w (ByClient (Asked place (Op (op.ReqImport status busid)))) = Unit {0
 IsRaceMove w (ByClient (Asked place (Op (op.ReqDevlist status)))) = Unit {0}
 IsRaceMove w (ByClient (ClientWrong place reason)) = Unit {0}
 IsRaceMove w (ByClient ClientLeft) = Unit {0}
-IsRaceMove w HostReads = HearsNoCall w.to_host
+IsRaceMove w HostReads = HearsNoSwitch w.to_host
 IsRaceMove w (GateReads place) = ReadsReply w.to_gate
 IsRaceMove w (Performs ep) = Unit {0}
 IsRaceMove w Unplugs = Unit {0}

@@ -25,7 +25,7 @@ use Rattle.direct_proof.specs.Tagged.{Tagged, Greeted, Plugged, ToldTable, ToldF
 use Rattle.direct_proof.specs.Related.{Related}
 use Rattle.direct_proof.specs.Cancels.{IsAsking}
 use Rattle.direct_proof.proofs.meeting.Importing.{keep-import, keep-list}
-use Rattle.direct_proof.proofs.races.Kinds.{IsRaceMove, HearsNoCall, ReadsReply, IsReply}
+use Rattle.direct_proof.proofs.races.Kinds.{IsRaceMove, HearsNoSwitch, ReadsReply, IsReply}
 use Rattle.direct_proof.proofs.answers.Answered.{with_back}
 use Rattle.direct_proof.proofs.meeting.Unplugging.{keep-unplug}
 use Rattle.direct_proof.proofs.meeting.Losing.{keep-bye}
@@ -97,7 +97,7 @@ keep-race {S = S} m laws w j HostReads is run rel = go w.host.guest.first refl
   where
     go : (b : Bool) → w.host.guest.first ≡ b → Keeps m w j (move m w HostReads)
     go true fresh = keep-hello m w j rel fresh
-    go false met = keep-reads-asked m w j w.to_host rel refl (λ p rest e. ((subst (Each (λ (q : ℕ × RedirPacket). IsAsking q.1)) e (rel.asked met)).0, subst HearsNoCall e is))
+    go false met = keep-reads-asked m w j w.to_host rel refl (λ p rest e. ((subst (Each (λ (q : ℕ × RedirPacket). IsAsking q.1)) e (rel.asked met)).0, subst HearsNoSwitch e is))
 keep-race m laws w j (GateReads place) is run rel = keep-reads m w j place rel (run-sound w.gate run) is
 keep-race m laws w j (Performs ep) is run rel = keep-performs m laws w j ep rel
 keep-race m laws w j (ByClient (Asked place (Urb (urb.RetSubmit u)))) is run rel = absurd is

@@ -25,8 +25,8 @@ use Rattle.direct_proof.specs.Ids.{Ids}
 use Rattle.direct_proof.specs.Kinds.{TaggedOfKind, IsIn}
 use Rattle.direct_proof.specs.Cancels.{Behind}
 use Rattle.direct_proof.specs.Meets.{is_bye, is_greeting, is_plug, PlugOnce, ByeLast, Meets}
-use Rattle.gate_history.specs.state.Calls.{Calls}
-use Rattle.direct_proof.specs.Calls.{status_id, statuses_on, StatusIsKept}
+use Rattle.gate_history.specs.state.StreamIds.{StreamIds}
+use Rattle.direct_proof.specs.StreamIds.{status_id, statuses_on, StatusIsKept}
 use Rattle.direct_proof.proofs.shared.WireBack.{runs_in-append}
 use Rattle.direct_proof.proofs.shared.Traces.{map-append}
 use Rattle.direct_proof.proofs.shared.Folds.{clash, or-none, or-false, any-append}
@@ -48,7 +48,7 @@ record Plainly (b : Tagged) : Type 0 where
   greeting : is_greeting b ≡ false
   plug : is_plug b ≡ false
   status : status_id b ≡ []
-  kept : (c : Calls) → StatusIsKept c b
+  kept : (c : StreamIds) → StatusIsKept c b
 
 plainly : (b : Tagged) → IsNews b → Plainly b
 plainly (ToldTable t) k = record { bye = refl; greeting = refl; plug = refl; status = refl; kept = λ z. tt }
@@ -64,9 +64,9 @@ news-statuses : (cs : List Tagged) → Each IsNews cs → statuses_on cs ≡ []
 news-statuses [] k = refl
 news-statuses (c ∷ cs) k = (λ i. (plainly c k.0).status i ++ news-statuses cs k.1 i)
 
-news-kept : (calls : Calls) (cs : List Tagged) → Each IsNews cs → Each (StatusIsKept calls) cs
-news-kept calls [] k = tt
-news-kept calls (c ∷ cs) k = ((plainly c k.0).kept calls, news-kept calls cs k.1)
+news-kept : (stream_ids : StreamIds) (cs : List Tagged) → Each IsNews cs → Each (StatusIsKept stream_ids) cs
+news-kept stream_ids [] k = tt
+news-kept stream_ids (c ∷ cs) k = ((plainly c k.0).kept stream_ids, news-kept stream_ids cs k.1)
 
 -- ---- the wire back
 
@@ -148,7 +148,7 @@ after-host m w j gadget held running cs rel plugged first news loads tagged ids 
     half = rel.line.half;
     coming = rel.line.coming;
     loads = loads;
-    calls_in = rel.line.calls_in;
+    streams_in = rel.line.streams_in;
     cancels = fits-each j.held held fewer w.to_host j.coming rel.line.cancels;
     behind = behind;
   };
@@ -161,7 +161,7 @@ after-host m w j gadget held running cs rel plugged first news loads tagged ids 
   asked = rel.asked;
   meets = meets-sent w j cs greetingless plugless rel.meets;
   debts = rel.debts;
-  controls = λ h. controls-sent w.gate.calls w.to_host j.back cs (news-statuses cs news) (news-kept w.gate.calls cs news) (rel.controls h);
+  controls = λ h. controls-sent w.gate.stream_ids w.to_host j.back cs (news-statuses cs news) (news-kept w.gate.stream_ids cs news) (rel.controls h);
   fenced = λ h. fenced-sent w.gate.fence j.fenced w.to_host j.back cs (news-statuses cs news) (rel.fenced h);
   alone = rel.alone;
   session = λ h a. session (rel.session h (ap (λ (b : Bool). is_some w.gate.facts.connect || b) (sym (none-more is_plug j.back cs plugless)) ∙ a));

@@ -6,18 +6,18 @@ use Rattle.redir_data.specs.declared.packet.RedirPacket.{RedirPacket}
 use Rattle.redir_host.specs.declared.running.StreamKind.{StreamKind}
 use Rattle.gate_history.proofs.lemmas.Lists.{Each-append}
 use Rattle.gate_history.specs.state.Ids.{times}
-use Rattle.gate_history.specs.state.Calls.{Calls}
+use Rattle.gate_history.specs.state.StreamIds.{StreamIds}
 use Rattle.direct_proof.specs.Tagged.{Tagged}
 use Rattle.direct_proof.specs.Stale.{asks}
-use Rattle.direct_proof.specs.Running.{Quits, runs_after, Trails, passes, called_endpoint, started_kind, CanStart, StartsFit}
-use Rattle.direct_proof.specs.Calls.{call_id, calls_on, statuses_on, status_id, Controls, CallIsKept, StatusIsKept, Fenced}
-use Rattle.direct_proof.specs.Kinds.{CallIsIn}
+use Rattle.direct_proof.specs.Running.{Quits, runs_after, Trails, passes, stream_endpoint, started_kind, CanStart, StartsFit}
+use Rattle.direct_proof.specs.StreamIds.{stream_id, stream_ids_on, statuses_on, status_id, Controls, StreamIdIsKept, StatusIsKept, Fenced}
+use Rattle.direct_proof.specs.Kinds.{StreamIsIn}
 use Rattle.direct_proof.proofs.shared.Folds.{not-both, or-left, or-assoc, or-false, any-append, gathers-append}
 
 -- ---- packets that say nothing of streams
 
 abbrev pub IsQuiet : ℕ × RedirPacket → Type 0
-IsQuiet p = (called_endpoint p.1 ≡ None) × (started_kind p.1 ≡ None) × ((ep : ℕ) (b : Bool) → runs_after ep p.1 b ≡ b)
+IsQuiet p = (stream_endpoint p.1 ≡ None) × (started_kind p.1 ≡ None) × ((ep : ℕ) (b : Bool) → runs_after ep p.1 b ≡ b)
 
 quits-quiet : (fence : Option ℕ) (ep : ℕ) (qs : List (ℕ × RedirPacket)) → Each IsQuiet qs → Quits fence ep false qs
 quits-quiet fence ep [] h = refl
@@ -66,57 +66,57 @@ pub times-append : (id : ℕ) (xs ys : List ℕ) → times id (xs ++ ys) ≡ tim
 times-append id [] ys = omega arith
 times-append id (x ∷ xs) ys = let r = times-append id xs ys in omega (arith, r)
 
-pub calls-append : (ps qs : List (ℕ × RedirPacket)) → calls_on (ps ++ qs) ≡ calls_on ps ++ calls_on qs
-calls-append = gathers-append call_id calls_on refl (λ p ps. refl)
+pub stream_ids-append : (ps qs : List (ℕ × RedirPacket)) → stream_ids_on (ps ++ qs) ≡ stream_ids_on ps ++ stream_ids_on qs
+stream_ids-append = gathers-append stream_id stream_ids_on refl (λ p ps. refl)
 
 pub statuses-append : (bs cs : List Tagged) → statuses_on (bs ++ cs) ≡ statuses_on bs ++ statuses_on cs
 statuses-append = gathers-append status_id statuses_on refl (λ b bs. refl)
 
-calls-quiet : (qs : List (ℕ × RedirPacket)) → Each IsQuiet qs → calls_on qs ≡ []
-calls-quiet [] h = refl
-calls-quiet (q ∷ qs) h = (λ i. cond (is_some (h.0.0 i)) (q.0 ∷ []) [] ++ calls-quiet qs h.1 i)
+stream_ids-quiet : (qs : List (ℕ × RedirPacket)) → Each IsQuiet qs → stream_ids_on qs ≡ []
+stream_ids-quiet [] h = refl
+stream_ids-quiet (q ∷ qs) h = (λ i. cond (is_some (h.0.0 i)) (q.0 ∷ []) [] ++ stream_ids-quiet qs h.1 i)
 
-kept-quiet : (c : Calls) (qs : List (ℕ × RedirPacket)) → Each IsQuiet qs → Each (λ (p : ℕ × RedirPacket). CallIsKept c p.0 (called_endpoint p.1)) qs
+kept-quiet : (c : StreamIds) (qs : List (ℕ × RedirPacket)) → Each IsQuiet qs → Each (λ (p : ℕ × RedirPacket). StreamIdIsKept c p.0 (stream_endpoint p.1)) qs
 kept-quiet c [] h = tt
-kept-quiet c (q ∷ qs) h = (subst (CallIsKept c q.0) (sym h.0.0) tt, kept-quiet c qs h.1)
+kept-quiet c (q ∷ qs) h = (subst (StreamIdIsKept c q.0) (sym h.0.0) tt, kept-quiet c qs h.1)
 
-pub calls-same : (ps qs : List (ℕ × RedirPacket)) → Each IsQuiet qs → calls_on (ps ++ qs) ≡ calls_on ps
-calls-same ps qs h = calls-append ps qs ∙ ap (λ (l : List ℕ). calls_on ps ++ l) (calls-quiet qs h) ∙ append-nil (calls_on ps)
+pub stream_ids-same : (ps qs : List (ℕ × RedirPacket)) → Each IsQuiet qs → stream_ids_on (ps ++ qs) ≡ stream_ids_on ps
+stream_ids-same ps qs h = stream_ids-append ps qs ∙ ap (λ (l : List ℕ). stream_ids_on ps ++ l) (stream_ids-quiet qs h) ∙ append-nil (stream_ids_on ps)
 
--- and they call no endpoint
-pub calls-quiet-in : (qs : List (ℕ × RedirPacket)) → Each IsQuiet qs → Each (λ (p : ℕ × RedirPacket). CallIsIn (called_endpoint p.1)) qs
-calls-quiet-in [] h = tt
-calls-quiet-in (q ∷ qs) h = (subst CallIsIn (sym h.0.0) tt, calls-quiet-in qs h.1)
+-- and they start and stop no stream
+pub streams-quiet-in : (qs : List (ℕ × RedirPacket)) → Each IsQuiet qs → Each (λ (p : ℕ × RedirPacket). StreamIsIn (stream_endpoint p.1)) qs
+streams-quiet-in [] h = tt
+streams-quiet-in (q ∷ qs) h = (subst StreamIsIn (sym h.0.0) tt, streams-quiet-in qs h.1)
 
 -- more is asked
-pub controls-more : (c : Calls) (ps qs : List (ℕ × RedirPacket)) (back : List Tagged) → Each IsQuiet qs → Controls c ps back → Controls c (ps ++ qs) back
+pub controls-more : (c : StreamIds) (ps qs : List (ℕ × RedirPacket)) (back : List Tagged) → Each IsQuiet qs → Controls c ps back → Controls c (ps ++ qs) back
 controls-more c ps qs back quiet k = record {
-  once = λ id. subst (λ (l : List ℕ). times id l + times id (statuses_on back) ≤ 1) (sym (calls-same ps qs quiet)) (k.once id);
-  calls_kept = Each-append (λ (p : ℕ × RedirPacket). CallIsKept c p.0 (called_endpoint p.1)) ps qs k.calls_kept (kept-quiet c qs quiet);
+  once = λ id. subst (λ (l : List ℕ). times id l + times id (statuses_on back) ≤ 1) (sym (stream_ids-same ps qs quiet)) (k.once id);
+  stream_ids_kept = Each-append (λ (p : ℕ × RedirPacket). StreamIdIsKept c p.0 (stream_endpoint p.1)) ps qs k.stream_ids_kept (kept-quiet c qs quiet);
   statuses_kept = k.statuses_kept;
 }
 
 pub fenced-more : (fence : Option ℕ) (fenced : Bool) (ps qs : List (ℕ × RedirPacket)) (back : List Tagged) → Each IsQuiet qs → Fenced fence fenced ps back → Fenced fence fenced (ps ++ qs) back
 fenced-more None fenced ps qs back quiet h = h
-fenced-more (Some f) fenced ps qs back quiet h = ((λ k. h.0 (subst (λ (l : List ℕ). 1 ≤ times f l) (calls-same ps qs quiet) k)), h.1)
+fenced-more (Some f) fenced ps qs back quiet h = ((λ k. h.0 (subst (λ (l : List ℕ). 1 ≤ times f l) (stream_ids-same ps qs quiet) k)), h.1)
 
 -- the host has read a packet
-pub controls-heard : (c : Calls) (p : ℕ × RedirPacket) (ps : List (ℕ × RedirPacket)) (back : List Tagged) → Controls c (p ∷ ps) back → Controls c ps back
+pub controls-heard : (c : StreamIds) (p : ℕ × RedirPacket) (ps : List (ℕ × RedirPacket)) (back : List Tagged) → Controls c (p ∷ ps) back → Controls c ps back
 controls-heard c p ps back k = record {
-  once = λ id. let z = k.once id in let y = times-append id (call_id p) (calls_on ps) in omega (arith, z, y);
-  calls_kept = k.calls_kept.1;
+  once = λ id. let z = k.once id in let y = times-append id (stream_id p) (stream_ids_on ps) in omega (arith, z, y);
+  stream_ids_kept = k.stream_ids_kept.1;
   statuses_kept = k.statuses_kept;
 }
 
 pub fenced-heard : (fence : Option ℕ) (fenced : Bool) (p : ℕ × RedirPacket) (ps : List (ℕ × RedirPacket)) (back : List Tagged) → Fenced fence fenced (p ∷ ps) back → Fenced fence fenced ps back
 fenced-heard None fenced p ps back h = h
-fenced-heard (Some f) fenced p ps back h = ((λ k. h.0 (let y = times-append f (call_id p) (calls_on ps) in omega (arith, k, y))), h.1)
+fenced-heard (Some f) fenced p ps back h = ((λ k. h.0 (let y = times-append f (stream_id p) (stream_ids_on ps) in omega (arith, k, y))), h.1)
 
 -- the gateway has read one
-pub controls-read : (c : Calls) (ps : List (ℕ × RedirPacket)) (b : Tagged) (bs : List Tagged) → Controls c ps (b ∷ bs) → Controls c ps bs
+pub controls-read : (c : StreamIds) (ps : List (ℕ × RedirPacket)) (b : Tagged) (bs : List Tagged) → Controls c ps (b ∷ bs) → Controls c ps bs
 controls-read c ps b bs k = record {
   once = λ id. let z = k.once id in let y = times-append id (status_id b) (statuses_on bs) in omega (arith, z, y);
-  calls_kept = k.calls_kept;
+  stream_ids_kept = k.stream_ids_kept;
   statuses_kept = k.statuses_kept.1;
 }
 
@@ -125,10 +125,10 @@ fenced-read None fenced ps b bs h = h
 fenced-read (Some f) fenced ps b bs h = (h.0, λ k. let z = h.1 k in let y = times-append f (status_id b) (statuses_on bs) in omega (arith, z, y))
 
 -- the host has sent more, and no status
-pub controls-sent : (c : Calls) (ps : List (ℕ × RedirPacket)) (bs cs : List Tagged) → statuses_on cs ≡ [] → Each (StatusIsKept c) cs → Controls c ps bs → Controls c ps (bs ++ cs)
+pub controls-sent : (c : StreamIds) (ps : List (ℕ × RedirPacket)) (bs cs : List Tagged) → statuses_on cs ≡ [] → Each (StatusIsKept c) cs → Controls c ps bs → Controls c ps (bs ++ cs)
 controls-sent c ps bs cs none kept k = record {
-  once = λ id. subst (λ (l : List ℕ). times id (calls_on ps) + times id l ≤ 1) (sym same) (k.once id);
-  calls_kept = k.calls_kept;
+  once = λ id. subst (λ (l : List ℕ). times id (stream_ids_on ps) + times id l ≤ 1) (sym same) (k.once id);
+  stream_ids_kept = k.stream_ids_kept;
   statuses_kept = Each-append (StatusIsKept c) bs cs k.statuses_kept kept;
 }
   where

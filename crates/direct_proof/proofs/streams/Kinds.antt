@@ -18,7 +18,7 @@ use Rattle.gate_history.specs.state.State.{State, has_number}
 use Rattle.gate_history.specs.declared.verdict.Verdict.{Verdict}
 use Rattle.gate_history.specs.declared.verdict.Verdict.TheVariants.{Routed, Stream}
 use Rattle.direct_run.specs.Moves.{World, Move, ByClient, HostReads, GateReads, Offers}
-use Rattle.direct_proof.specs.Running.{called_endpoint}
+use Rattle.direct_proof.specs.Running.{stream_endpoint}
 
 -- it waits for packets of a stream, which goes up where it is down, or it is a change, ahead of which the streams that it ends are
 -- stopped
@@ -36,9 +36,9 @@ pub record IsStreamSubmit (st : State) (s : UrbSubmit) : Type 0 where
   pub moves : MovesStreams verdict
 
 -- the next packet starts or stops a stream
-abbrev pub HearsCall : List (ℕ × RedirPacket) → Type 0
-HearsCall [] = Unit {0}
-HearsCall (p ∷ ps) = is_some (called_endpoint p.1) ≡ true
+abbrev pub HearsSwitch : List (ℕ × RedirPacket) → Type 0
+HearsSwitch [] = Unit {0}
+HearsSwitch (p ∷ ps) = is_some (stream_endpoint p.1) ≡ true
 
 -- it is a packet of a stream, or its status
 abbrev pub IsStreamPacket : RedirPacket → Type 0
@@ -55,7 +55,7 @@ ReadsStream (p ∷ ps) = IsStreamPacket p.1
 
 abbrev pub IsStreamMove : {S : Type 0} → World S → Move → Type 0
 IsStreamMove w (ByClient (Asked place (Urb (urb.Submit s)))) = (w.gate.imported ≡ true) × IsStreamSubmit w.gate s
-IsStreamMove w HostReads = HearsCall w.to_host
+IsStreamMove w HostReads = HearsSwitch w.to_host
 IsStreamMove w (GateReads place) = ReadsStream w.to_gate
 IsStreamMove w (Offers ep) = Unit {0}
 IsStreamMove w _ = ⊥

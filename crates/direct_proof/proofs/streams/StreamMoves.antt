@@ -14,16 +14,16 @@ use Rattle.gate_history.specs.declared.verdict.Verdict.TheVariants.{Routed, Stre
 use Rattle.direct_run.specs.Moves.{World, Move, ByClient, HostReads, GateReads, Performs, Offers, Unplugs}
 use Rattle.direct_proof.specs.Moves.{move, quiet, gate_made, gate_reads, host_reads}
 use Rattle.direct_proof.specs.Related.{Related}
-use Rattle.direct_proof.specs.Running.{called_endpoint}
+use Rattle.direct_proof.specs.Running.{stream_endpoint}
 use Rattle.direct_proof.specs.Runs.{IsRun}
 use Rattle.direct_proof.specs.Shared.{Shared}
-use Rattle.direct_proof.proofs.streams.Kinds.{MovesStreams, IsStreamSubmit, HearsCall, IsStreamPacket, ReadsStream, IsStreamMove}
+use Rattle.direct_proof.proofs.streams.Kinds.{MovesStreams, IsStreamSubmit, HearsSwitch, IsStreamPacket, ReadsStream, IsStreamMove}
 use Rattle.direct_proof.specs.Tagged.{Tagged, Answered, Packed, Stated, on_wire}
 use Rattle.direct_proof.proofs.shared.Keeps.{Keeps, keeps-quiet}
 use Rattle.direct_proof.proofs.races.Gates.{run-sound}
 use Rattle.direct_proof.proofs.submits.Ranged.{submit-load}
 use Rattle.direct_proof.proofs.streams.hears.Offering.{keep-offers}
-use Rattle.direct_proof.proofs.streams.hears.Called.{keep-calls}
+use Rattle.direct_proof.proofs.streams.hears.Switched.{keep-switches}
 use Rattle.direct_proof.proofs.streams.reads.Stating.{keep-stated}
 use Rattle.direct_proof.proofs.streams.reads.Arrived.{keep-packed}
 use Rattle.direct_proof.proofs.streams.submits.StreamIn.{keep-stream-submit}
@@ -44,19 +44,19 @@ keep-submit {S = S} m w j place s imported is run rel = by w.gate.client_over re
     by true over = keeps-quiet m w j j (move m w (ByClient (Asked place (Urb (urb.Submit s))))) w (λ i. cond (over i) (quiet w) (gate_made w (mark_of w.gate (Asked place (Urb (urb.Submit s)))))) rel refl
     by false present = go present is.verdict is.verdict-is is.moves
 
-pub keep-hears : {S : Type 0} (m : Meaning S) (w : World S) (j : Shared) → Related m w j → HearsCall w.to_host → Keeps m w j (move m w HostReads)
+pub keep-hears : {S : Type 0} (m : Meaning S) (w : World S) (j : Shared) → Related m w j → HearsSwitch w.to_host → Keeps m w j (move m w HostReads)
 keep-hears {S = S} m w j rel hears = go w.to_host refl
   where
-    by : (q : ℕ × RedirPacket) (ps : List (ℕ × RedirPacket)) → w.to_host ≡ q ∷ ps → (o : Option ℕ) → called_endpoint q.1 ≡ o → is_some o ≡ true → Keeps m w j (move m w HostReads)
+    by : (q : ℕ × RedirPacket) (ps : List (ℕ × RedirPacket)) → w.to_host ≡ q ∷ ps → (o : Option ℕ) → stream_endpoint q.1 ≡ o → is_some o ≡ true → Keeps m w j (move m w HostReads)
     by q ps e None c h = absurd (none h)
       where
         none : false ≡ true → ⊥
         none z = cc
-    by q ps e (Some ep) c h = keep-calls m w j rel q ps e ep c
+    by q ps e (Some ep) c h = keep-switches m w j rel q ps e ep c
 
     go : (ps : List (ℕ × RedirPacket)) → w.to_host ≡ ps → Keeps m w j (move m w HostReads)
     go [] e = keeps-quiet m w j j (move m w HostReads) w (ap (host_reads m w) e) rel refl
-    go (q ∷ ps) e = by q ps e (called_endpoint q.1) refl (subst HearsCall e hears)
+    go (q ∷ ps) e = by q ps e (stream_endpoint q.1) refl (subst HearsSwitch e hears)
 
 abbrev pub with_back : Shared → List Tagged → Shared
 with_back j bs = record j { back = bs }

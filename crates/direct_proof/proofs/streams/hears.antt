@@ -1,5 +1,5 @@
-pub mod Calling
-pub mod CalledFence
-pub mod Called
+pub mod Switching
+pub mod SwitchedFence
+pub mod Switched
 pub mod Offered
 pub mod Offering

@@ -12,7 +12,7 @@ use Rattle.gate_history.specs.declared.verdict.Verdict.{Verdict}
 use Rattle.gate_history.specs.client.Verdict.{goes_by_id}
 use Rattle.gate_history.specs.step.Marks.{Submission, Effect, Opens, Mark}
 use Rattle.gate_history.specs.client.Submits.{Pending, is_touched}
-use Rattle.gate_history.specs.state.Calls.{called}
+use Rattle.gate_history.specs.state.StreamIds.{stream_ids_after}
 use Rattle.gate_history.specs.state.State.{State, submits, is_number as is_numbered, change_waits}
 use Rattle.gate_history.specs.state.Sound.{IsSound}
 use Rattle.gate_history.specs.step.Machine.{after}
@@ -30,13 +30,13 @@ use Rattle.direct_proof.specs.Cancels.{moved as moved_on, left, begins, IsAsking
 use Rattle.direct_proof.specs.Loads.{IsLoad}
 use Rattle.direct_proof.specs.Ids.{Ids}
 use Rattle.direct_proof.specs.Session.{down_in, runs}
-use Rattle.direct_proof.specs.Kinds.{StartOfKind, CallIsIn}
-use Rattle.direct_proof.specs.Running.{started_kind, called_endpoint}
+use Rattle.direct_proof.specs.Kinds.{StartOfKind, StreamIsIn}
+use Rattle.direct_proof.specs.Running.{started_kind, stream_endpoint}
 use Rattle.direct_proof.proofs.lists.Counts.{any-none}
 use Rattle.direct_proof.proofs.shared.Owed.{ids-submit, IsNewNumber}
 use Rattle.direct_proof.proofs.shared.Folds.{clash, any-append, lines-append, at_hosts-append}
 use Rattle.direct_proof.proofs.shared.Fits.{fits-append}
-use Rattle.direct_proof.proofs.shared.Streaming.{IsQuiet, quits-more, trails-more, starts-more, controls-more, fenced-more, calls-quiet-in}
+use Rattle.direct_proof.proofs.shared.Streaming.{IsQuiet, quits-more, trails-more, starts-more, controls-more, fenced-more, streams-quiet-in}
 use Rattle.direct_proof.proofs.shared.Backs.{clean-more}
 use Rattle.direct_proof.proofs.shared.Traces.{map-append}
 use Rattle.direct_proof.proofs.shared.Found.{before, unmap-each, way-again}
@@ -92,7 +92,7 @@ module _ {S : Type 0} (m : Meaning S) (w : World S) (j : Shared) (rel : Related 
 
   abbrev opened_world : World S
   opened_world = record w {
-    gate = record (after st mark) { live = st.live ++ fresh (record { place = st.items; request = r; verdict = v; id = is.simple.id }) ∷ []; abandoned = st.abandoned; streams = st.streams; calls = st.calls };
+    gate = record (after st mark) { live = st.live ++ fresh (record { place = st.items; request = r; verdict = v; id = is.simple.id }) ∷ []; abandoned = st.abandoned; streams = st.streams; stream_ids = st.stream_ids };
     to_host = w.to_host ++ qs;
     submits = w.submits ++ record { seqnum = r.number; id = is.simple.id } ∷ [];
   }
@@ -103,7 +103,7 @@ module _ {S : Type 0} (m : Meaning S) (w : World S) (j : Shared) (rel : Related 
       live = simple-live st r v is.simple first i;
       abandoned = filter-all st.abandoned i;
       streams = is.simple.streams i;
-      calls = (ap (λ l. called l st.calls) (simple-asks st r v is.simple first) ∙ is.simple.uncalled st.calls) i;
+      stream_ids = (ap (λ l. stream_ids_after l st.stream_ids) (simple-asks st r v is.simple first) ∙ is.simple.stream_ids_stay st.stream_ids) i;
     };
     to_host = w.to_host ++ simple-sent st r v is.simple first i;
     submits = w.submits ++ simple-named st r v is.simple first i;
@@ -156,7 +156,7 @@ module _ {S : Type 0} (m : Meaning S) (w : World S) (j : Shared) (rel : Related 
       half = rel.line.half;
       coming = coming;
       loads = subst (Each (λ (e : Entry). IsLoad e.load)) joined (Each-append (λ (e : Entry). IsLoad e.load) (j.held ++ j.coming) (entry ∷ []) rel.line.loads (is.load, tt));
-      calls_in = Each-append (λ (p : ℕ × RedirPacket). CallIsIn (called_endpoint p.1)) w.to_host qs rel.line.calls_in (calls-quiet-in qs quiet-qs);
+      streams_in = Each-append (λ (p : ℕ × RedirPacket). StreamIsIn (stream_endpoint p.1)) w.to_host qs rel.line.streams_in (streams-quiet-in qs quiet-qs);
       cancels = fits-append j.half j.held w.to_host qs j.coming (entry ∷ []) rel.line.coming rel.line.cancels (uncancelled (j.held ++ j.coming) qs (entry ∷ []) is.simple.no_cancel);
       behind = subst Behind joined behind;
     };
@@ -171,7 +171,7 @@ module _ {S : Type 0} (m : Meaning S) (w : World S) (j : Shared) (rel : Related 
     meets = rel.meets;
     debts = λ h. (λ i. (ap debts_of (map-append (λ (p : Pending). p.submit) st.live (fresh (opened_as st r v is.simple first) ∷ [])) ∙ debts-append (submits st) (opened_as st r v is.simple first ∷ []) ∙ (λ k. owed k ++ map debt_from (cond (is.simple.goes k) (opened_as st r v is.simple first ∷ []) []))) i ++ debts_of ((rel.alone inside).0 i))
         ∙ append-nil (j.debts ++ debt ∷ []);
-    controls = λ h. controls-more st.calls w.to_host qs j.back quiet-qs (rel.controls h);
+    controls = λ h. controls-more st.stream_ids w.to_host qs j.back quiet-qs (rel.controls h);
     fenced = λ h. fenced-more st.fence j.fenced w.to_host qs j.back quiet-qs (rel.fenced h);
     alone = rel.alone;
     session = λ h a. let k = rel.session h a in record {

@@ -11,7 +11,7 @@ use Rattle.gate_history.specs.client.Verdict.{goes_by_id}
 use Rattle.gate_history.specs.step.Marks.{Submission}
 use Rattle.gate_history.specs.state.Ids.{holds}
 use Rattle.gate_history.specs.state.Flight.{ids_of}
-use Rattle.gate_history.specs.state.Calls.{call_ids}
+use Rattle.gate_history.specs.state.StreamIds.{ids_of_streams}
 use Rattle.gate_history.specs.state.State.{State, submits, flying, has_number, change_waits}
 use Rattle.gate_history.specs.step.Meaning.{verdict_of}
 use Rattle.direct_device.specs.Direct.{normal_of}
@@ -35,11 +35,11 @@ is-new st id ds free same = subst (IsNew id) same (Each-append (λ (d : Debt). (
     test : ℕ → Bool
     test x = id == x
 
-    whole : (list_any test (ids_of (submits st) ++ ids_of st.abandoned) || list_any test (call_ids st.calls)) ≡ false
-    whole = sym (any-append test (ids_of (submits st) ++ ids_of st.abandoned) (call_ids st.calls)) ∙ free
+    whole : (list_any test (ids_of (submits st) ++ ids_of st.abandoned) || list_any test (ids_of_streams st.stream_ids)) ≡ false
+    whole = sym (any-append test (ids_of (submits st) ++ ids_of st.abandoned) (ids_of_streams st.stream_ids)) ∙ free
 
     parts : (list_any test (ids_of (submits st)) ≡ false) × (list_any test (ids_of st.abandoned) ≡ false)
-    parts = or-none (list_any test (ids_of (submits st))) (list_any test (ids_of st.abandoned)) (sym (any-append test (ids_of (submits st)) (ids_of st.abandoned)) ∙ (or-none (list_any test (ids_of (submits st) ++ ids_of st.abandoned)) (list_any test (call_ids st.calls)) whole).0)
+    parts = or-none (list_any test (ids_of (submits st))) (list_any test (ids_of st.abandoned)) (sym (any-append test (ids_of (submits st)) (ids_of st.abandoned)) ∙ (or-none (list_any test (ids_of (submits st) ++ ids_of st.abandoned)) (list_any test (ids_of_streams st.stream_ids)) whole).0)
 
     turned : (a b : ℕ) → (a == b) ≡ false → (b == a) ≡ false
     turned a b h = grind (arith, h)

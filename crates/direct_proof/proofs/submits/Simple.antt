@@ -18,7 +18,7 @@ use Rattle.gate_history.specs.step.Marks.{Submission, Opens}
 use Rattle.gate_history.specs.client.Submits.{Pending, at_once, is_touched}
 use Rattle.gate_history.specs.state.Ids.{last_of, draw, greatest}
 use Rattle.gate_history.specs.state.Flight.{wide_ids}
-use Rattle.gate_history.specs.state.Calls.{Calls, called_by, called, asking}
+use Rattle.gate_history.specs.state.StreamIds.{StreamIds, stream_ids_by, stream_ids_after, asking}
 use Rattle.gate_history.specs.state.Ups.{Up, opened_streams, lower, is_ended as ends_with}
 use Rattle.gate_history.specs.state.State.{State, flying, next_ids}
 use Rattle.gate_history.specs.write.Packets.{packets_of, wire_packet, route_packets, stops, stop_of, stop_packet}
@@ -55,7 +55,7 @@ pub record IsSimple (st : State) (r : Request) (v : Verdict) : Type 0 where
   pub line : lines qs ≡ at_host (record { id = id; load = record { request = r; verdict = v }; asked = false })
   pub asking : Each (λ (p : ℕ × RedirPacket). IsAsking p.1) qs
   pub quiet : Each IsQuiet qs
-  pub uncalled : (c : Calls) → called qs c ≡ c
+  pub stream_ids_stay : (c : StreamIds) → stream_ids_after qs c ≡ c
   pub no_cancel : Each (λ (p : ℕ × RedirPacket). is_cancel p.1 ≡ false) qs
 
 pub simple-wire : (st : State) (r : Request) (pipe : Pipe) → IsTransfer r.transfer → FitsPipe pipe r.transfer r.transfer.setup → IsSimple st r (Wire pipe)
@@ -78,7 +78,7 @@ simple-wire st r pipe is fits = record {
   line = ap (λ (l : List InLine). l ++ []) (ap (λ (p : RedirPacket). in_line (next_id st, p)) d.1 ∙ ap (asked_line 0 (next_id st)) (heard-as pipe r.transfer is fits d.0 d.1));
   asking = (subst IsAsking (sym d.1) (subst CanAsk (sym (heard-as pipe r.transfer is fits d.0 d.1)) tt), tt);
   quiet = (subst (λ (p : RedirPacket). IsQuiet (next_id st, p)) (sym d.1) (refl, refl, λ ep b. refl), tt);
-  uncalled = λ c. ap (λ (p : RedirPacket). called_by (next_id st) p c) d.1;
+  stream_ids_stay = λ c. ap (λ (p : RedirPacket). stream_ids_by (next_id st) p c) d.1;
   no_cancel = (ap is_cancel d.1, tt);
 }
   where
@@ -122,8 +122,8 @@ get-ends st x h = record { ups = every (Stays (ends_with (Some x))) stays st.str
 
 -- those of one packet
 pub simple-route : (st : State) (r : Request) (x : Route) (p : RedirPacket) → EndsNone st x → route_packets x ≡ p ∷ [] → ((id : ℕ) → in_line (id, p) ≡ at_host (record { id = id; load = record { request = r; verdict = Routed x }; asked = false })) →
-    IsAsking p → ((id : ℕ) → IsQuiet (id, p)) → ((id : ℕ) (c : Calls) → called_by id p c ≡ c) → is_cancel p ≡ false → IsSimple st r (Routed x)
-simple-route st r x p none one line asking quiet uncalled no_cancel = record {
+    IsAsking p → ((id : ℕ) → IsQuiet (id, p)) → ((id : ℕ) (c : StreamIds) → stream_ids_by id p c ≡ c) → is_cancel p ≡ false → IsSimple st r (Routed x)
+simple-route st r x p none one line asking quiet stream_ids_stay no_cancel = record {
   sent = p ∷ [];
   qs = (next_id st, p) ∷ [];
   id = next_id st;
@@ -142,7 +142,7 @@ simple-route st r x p none one line asking quiet uncalled no_cancel = record {
   line = append-nil (in_line (next_id st, p)) ∙ line (next_id st);
   asking = (asking, tt);
   quiet = (quiet (next_id st), tt);
-  uncalled = λ c. uncalled (next_id st) c;
+  stream_ids_stay = λ c. stream_ids_stay (next_id st) c;
   no_cancel = (no_cancel, tt);
 }
 
@@ -180,7 +180,7 @@ simple-reset st r none = record {
   line = refl;
   asking = (tt, (tt, tt));
   quiet = ((refl, refl, λ ep b. refl), ((refl, refl, λ ep b. refl), tt));
-  uncalled = λ c. refl;
+  stream_ids_stay = λ c. refl;
   no_cancel = (refl, (refl, tt));
 }
   where

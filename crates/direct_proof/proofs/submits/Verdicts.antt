@@ -39,7 +39,7 @@ use Rattle.direct_proof.specs.Cancels.{any_change, is_change}
 use Rattle.direct_proof.specs.Stale.{Clean, ends, is_stale}
 use Rattle.direct_proof.specs.Session.{down_in}
 use Rattle.direct_proof.specs.Meets.{is_plug, is_announced}
-use Rattle.direct_proof.specs.Calls.{Fenced}
+use Rattle.direct_proof.specs.StreamIds.{Fenced}
 use Rattle.direct_proof.proofs.lists.Counts.{single, any-none, Each-found, itself}
 use Rattle.direct_proof.proofs.shared.Folds.{not-both, or-left}
 use Rattle.direct_proof.proofs.shared.Backs.{silent}

@@ -34,12 +34,12 @@ use Rattle.direct_proof.specs.Cancels.{IsAsking, CancelsFit, any_change, Behind}
 use Rattle.direct_proof.specs.Ids.{Ids}
 use Rattle.direct_proof.specs.Stale.{Clean}
 use Rattle.direct_proof.specs.Session.{down_in}
-use Rattle.direct_proof.specs.Running.{StartsFit, started_kind, called_endpoint}
-use Rattle.direct_proof.specs.Kinds.{StartOfKind, CallIsIn}
+use Rattle.direct_proof.specs.Running.{StartsFit, started_kind, stream_endpoint}
+use Rattle.direct_proof.specs.Kinds.{StartOfKind, StreamIsIn}
 use Rattle.direct_proof.proofs.lists.Counts.{Each-map}
 use Rattle.direct_proof.proofs.shared.Folds.{clash, lines-append}
 use Rattle.direct_proof.proofs.shared.Fits.{fits-nil, fits-map}
-use Rattle.direct_proof.proofs.shared.Streaming.{IsQuiet, quits-more, trails-more, starts-more, controls-more, fenced-more, calls-quiet-in}
+use Rattle.direct_proof.proofs.shared.Streaming.{IsQuiet, quits-more, trails-more, starts-more, controls-more, fenced-more, streams-quiet-in}
 use Rattle.direct_proof.proofs.shared.Asked.{ask_entry, ids-ask, changes-ask, behind-ask, line-ask, cancels-line, cancels-quiet, cancels-asking, cancels-fit, entries-of}
 use Rattle.direct_proof.proofs.unlinks.Unlinks.{live-same, debts-unlinked, unlink-done, unlink-named, unlink-sent, unlink-answers}
 use Rattle.direct_proof.proofs.shared.Traces.{map-append}
@@ -116,7 +116,7 @@ keep-unlink {S = S} m w j place u rel sound inside = go w.gate.client_over refl
         half = rel.line.half;
         coming = coming;
         loads = subst (Each (λ (e : Entry). IsLoad e.load)) split (Each-map (λ (e : Entry). IsLoad e.load) f es rel.line.loads);
-        calls_in = Each-append (λ (p : ℕ × RedirPacket). CallIsIn (called_endpoint p.1)) w.to_host qs rel.line.calls_in (calls-quiet-in qs quiet-qs);
+        streams_in = Each-append (λ (p : ℕ × RedirPacket). StreamIsIn (stream_endpoint p.1)) w.to_host qs rel.line.streams_in (streams-quiet-in qs quiet-qs);
         cancels = fits-nil j.half (map f j.held) w.to_host qs (map f j.coming) (rel.line.coming ∙ sym (line-ask f (λ e. refl) (λ e. refl) j.coming)) (fits-map f (still-asked target) j.held w.to_host j.coming rel.line.cancels) asked;
         behind = subst Behind split (behind-ask f (λ e. refl) (λ e. refl) es rel.line.behind);
       };
@@ -129,7 +129,7 @@ keep-unlink {S = S} m w j place u rel sound inside = go w.gate.client_over refl
       asked = λ h. Each-append (λ (p : ℕ × RedirPacket). IsAsking p.1) w.to_host qs (rel.asked h) (cancels-asking (filter (cancels (what by target)) st.live));
       meets = rel.meets;
       debts = λ h. (λ i. debts-unlinked st by target i ++ debts_of (filter-all st.abandoned i)) ∙ rel.debts h;
-      controls = λ h. controls-more st.calls w.to_host qs j.back quiet-qs (rel.controls h);
+      controls = λ h. controls-more st.stream_ids w.to_host qs j.back quiet-qs (rel.controls h);
       fenced = λ h. fenced-more st.fence j.fenced w.to_host qs j.back quiet-qs (rel.fenced h);
       alone = λ h. let a = rel.alone h in (filter-all st.abandoned ∙ a.0, a.1);
       session = λ h a. let s = rel.session h a in record {

@@ -9,7 +9,7 @@ use Rattle.unlink_race.specs.declared.live.LiveKind.{LiveKind}
 use Rattle.unlink_race.specs.Searches.{goes_by_id, has_number, is_stream}
 use Rattle.gate_parts.specs.declared.write.outputs.Outputs.{Outputs}
 use Rattle.gate_core.specs.declared.state.kept.Kept.{Kept}
-use Rattle.gate_parts.specs.declared.state.calls.Called.{Called}
+use Rattle.gate_parts.specs.declared.state.stream_ids.SentIds.{SentIds}
 use Rattle.usb_base.specs.Number.{capped}
 use Rattle.usb_base.specs.declared.endpoint.TheConstants.{ENDPOINTS}
 use Rattle.gate_history.specs.step.Marks.{Mark}
@@ -43,8 +43,8 @@ pub record IsKept (t : Kept) : Type 0 where
   pub left : length t.lives.abandoned ≤ MAX_LIVE
   -- each endpoint has its place
   pub places : length t.streams ≡ ENDPOINTS
-  pub started : length t.calls.started ≡ ENDPOINTS
-  pub stopped : length t.calls.stopped ≡ ENDPOINTS
+  pub started : length t.stream_ids.started ≡ ENDPOINTS
+  pub stopped : length t.stream_ids.stopped ≡ ENDPOINTS
   pub answered_fits : t.answered ≤ 2 ^ 64 - 1
   pub unlinked_fits : t.unlinked ≤ 2 ^ 64 - 1
   pub dropped_fits : t.dropped ≤ 2 ^ 64 - 1
@@ -59,7 +59,7 @@ items_of t = record {
   client_over = t.client_over;
   host_over = t.host_over;
   streams = t.streams;
-  calls = t.calls;
+  stream_ids = t.stream_ids;
   fence = t.fence;
   live = t.lives.live;
   abandoned = t.lives.abandoned;
@@ -120,19 +120,19 @@ pub record HasLost (unlinked : ℕ) (old new : Kept) : Type 0 where
   pub is : new ≡ lost_by unlinked old
 
 -- with their client, whose streams are stopped
-abbrev pub left_by : Called → Kept → Kept
-left_by called old = record old {
+abbrev pub left_by : SentIds → Kept → Kept
+left_by sent_ids old = record old {
   lives = record { live = []; abandoned = old.lives.abandoned ++ filter goes_by_id old.lives.live };
   imported = false;
   streams = no_streams;
-  calls = called.calls;
-  fence = called.fence;
-  last = called.last;
+  stream_ids = sent_ids.stream_ids;
+  fence = sent_ids.fence;
+  last = sent_ids.last;
   dropped = capped (old.dropped + length old.lives.live);
 }
 
-pub record HasLeft (called : Called) (old new : Kept) : Type 0 where
-  pub is : new ≡ left_by called old
+pub record HasLeft (sent_ids : SentIds) (old new : Kept) : Type 0 where
+  pub is : new ≡ left_by sent_ids old
 
 -- ---- a submit is taken in
 

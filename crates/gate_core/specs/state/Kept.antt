@@ -6,7 +6,7 @@ use Rattle.redir_data.specs.declared.state.RedirState.{RedirState}
 use Rattle.unlink_race.specs.declared.live.Live.{Live}
 use Rattle.gate_history.specs.declared.facts.Facts.{Facts}
 use Rattle.gate_history.specs.state.Ups.{Up}
-use Rattle.gate_history.specs.state.Calls.{Calls}
+use Rattle.gate_history.specs.state.StreamIds.{StreamIds}
 
 -- of the items that have come
 pub record ItemsKept : Type 0 where
@@ -20,7 +20,7 @@ pub record ItemsKept : Type 0 where
   -- the streams that are up with the packets that they hold, by their endpoints' places in a table; the ids of what started and stopped them; and the
   -- last stop of a client's leaving, while no import passes it
   pub streams : List (Option Up)
-  pub calls : Calls
+  pub stream_ids : StreamIds
   pub fence : Option ℕ
   -- the live submits in order, and those that a client left at the host: what their answers need of them
   pub live : List Live

@@ -37,7 +37,7 @@ pub record IsOf (t : ItemsKept) (st : State) : Type 0 where
   pub client_over : t.client_over ≡ st.client_over
   pub host_over : t.host_over ≡ st.host_over
   pub streams : t.streams ≡ st.streams
-  pub calls : t.calls ≡ st.calls
+  pub stream_ids : t.stream_ids ≡ st.stream_ids
   pub fence : t.fence ≡ st.fence
   pub last : t.last ≡ st.last
   pub live : t.live ≡ map row st.live

@@ -11,13 +11,13 @@ ghost use Rattle.gate_history.specs.step.Meaning.{mark_as, submission};
 ghost use Rattle.gate_history.specs.state.Sound.{IsSound};
 ghost use Rattle.gate_history.specs.write.Asked.{HasItsPackets};
 ghost use Rattle.gate_history.specs.client.Carried.{IsLaid};
-ghost use Rattle.gate_core.specs.inner.Calls.{ids_after, starts_of, called_of, after_starts, bytes_of};
+ghost use Rattle.gate_core.specs.inner.SentIds.{ids_after, starts_of, sent_ids_of, after_starts, bytes_of};
 ghost use Rattle.gate_core.specs.inner.Holds.{IsKept, Holds, Does, StopsShort};
 ghost use Rattle.gate_parts.specs.write.Extends.{Extends};
 
 use crate::state::kept::Kept;
 use gate_history::{Note, Request};
-use gate_parts::{Called, Outputs, write_all_sent, write_start};
+use gate_parts::{Outputs, SentIds, write_all_sent, write_start};
 use redir_data::write_iso_out;
 use usb_base::{Bytes, EpAddr, EpRow, Memory};
 use usbip_urb::part;
@@ -42,32 +42,37 @@ impl Kept {
         let seqnum = request.number;
         out.notes.push(Note::Submitted { seqnum, id: 0 })?;
         let ep = request.transfer.ep;
-        let called = self.write_start(ep, row, &mut out.to_host)?;
-        let last = self.write_packets(request, called.last, &mut out.to_host)?;
+        let sent_ids = self.write_start(ep, row, &mut out.to_host)?;
+        let last = self.write_packets(request, sent_ids.last, &mut out.to_host)?;
         write_all_sent(self.alloc, &request.asked(), &mut out.to_client)?;
         self.streams.raise(self.alloc, ep, row);
-        self.calls = called.calls;
+        self.stream_ids = sent_ids.stream_ids;
         self.last = last;
         self.answered = self.answered.saturating_add(1);
         Ok(())
     }
 
     /// Appends the start of an endpoint's stream, unless it is up. It gives what is to be kept of it.
-    pub fn write_start(&self, ep: EpAddr, row: EpRow, to_host: &mut Bytes) -> Result<Called, Memory>
+    pub fn write_start(
+        &self,
+        ep: EpAddr,
+        row: EpRow,
+        to_host: &mut Bytes,
+    ) -> Result<SentIds, Memory>
         requires { IsKept self.now }
         ensures sent { OnOk result (to_host.new ≡ to_host.old ++ bytes_of self.now self.now.last (starts_of self.now ep row)) }
-        ensures called { IfOk result (λ called. called ≡ after_starts self.now (called_of self.now) (starts_of self.now ep row)) }
+        ensures sent_ids { IfOk result (λ sent_ids. sent_ids ≡ after_starts self.now (sent_ids_of self.now) (starts_of self.now ep row)) }
         ensures err { OnErr result (to_host.new ≡ to_host.old) }
     {
-        let mut called = self.called();
+        let mut sent_ids = self.sent_ids();
         match self.streams.at(ep) {
-            Some(_) => Ok(called),
+            Some(_) => Ok(sent_ids),
             None => {
                 let id = self.draw(self.last);
                 write_start(ep, row, id, self.caps, to_host)?;
-                called.calls.start(ep, id);
-                called.last = id;
-                Ok(called)
+                sent_ids.stream_ids.start(ep, id);
+                sent_ids.last = id;
+                Ok(sent_ids)
             }
         }
     }

@@ -18,7 +18,7 @@ ghost use Rattle.gate_parts.specs.state.Rows.{cancel_bytes, is_cancelled_row};
 
 use crate::state::kept::Kept;
 use gate_history::{Note, Notes};
-use gate_parts::{Called, Outputs, write_cancel_of};
+use gate_parts::{Outputs, SentIds, write_cancel_of};
 use usb_base::{Bytes, Memory, Refusal};
 
 impl Kept {
@@ -45,9 +45,9 @@ impl Kept {
         ensures wants { (st : State) → Holds self.old st → OnErr result (GivesSome st (mark_as st (Ends Client) None)) }
     {
         self.write_cancels(&mut out.to_host)?;
-        let called = self.write_stops(None, &mut out.to_host)?;
+        let sent_ids = self.write_stops(None, &mut out.to_host)?;
         self.tell_gone(&mut out.notes)?;
-        self.leave(called);
+        self.leave(sent_ids);
         self.client_over = false;
         Ok(())
     }
@@ -61,10 +61,10 @@ impl Kept {
         ensures err { OnErr result (StopsShort self.old self.new out.old out.new) }
     {
         self.write_cancels(&mut out.to_host)?;
-        let called = self.write_stops(None, &mut out.to_host)?;
+        let sent_ids = self.write_stops(None, &mut out.to_host)?;
         out.notes.push(Note::ClientGone)?;
         out.notes.push(Note::Refused(refusal))?;
-        self.leave(called);
+        self.leave(sent_ids);
         self.client_over = true;
         Ok(())
     }
@@ -82,15 +82,15 @@ impl Kept {
     }
 
     /// The client is gone: the host still has its transfers, which are abandoned, and its streams were stopped.
-    pub fn leave(&mut self, called: Called)
+    pub fn leave(&mut self, sent_ids: SentIds)
         requires kept { IsKept self.old }
         ensures kept { IsKept self.new }
-        ensures left { HasLeft called self.old self.new }
+        ensures left { HasLeft sent_ids self.old self.new }
     {
         self.dropped = self.dropped.saturating_add(self.lives.len() as u64);
         self.imported = false;
         self.abandon();
-        self.forget_streams(called);
+        self.forget_streams(sent_ids);
     }
 
     /// What the client has at the host is abandoned.
@@ -106,14 +106,14 @@ impl Kept {
     }
 
     /// The streams were stopped.
-    fn forget_streams(&mut self, called: Called)
+    fn forget_streams(&mut self, sent_ids: SentIds)
         requires kept { IsKept self.old }
         ensures kept { IsKept self.new }
-        ensures forgot { self.new ≡ record self.old { streams = no_streams; calls = called.calls; fence = called.fence; last = called.last } }
+        ensures forgot { self.new ≡ record self.old { streams = no_streams; stream_ids = sent_ids.stream_ids; fence = sent_ids.fence; last = sent_ids.last } }
     {
         self.streams.clear();
-        self.calls = called.calls;
-        self.fence = called.fence;
-        self.last = called.last;
+        self.stream_ids = sent_ids.stream_ids;
+        self.fence = sent_ids.fence;
+        self.last = sent_ids.last;
     }
 }

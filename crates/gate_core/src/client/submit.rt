@@ -20,7 +20,7 @@ ghost use Rattle.gate_history.specs.state.State.{State, next_ids};
 ghost use Rattle.gate_history.specs.step.Meaning.{mark_as, submission, drawn_for, accepts, verdict_of, asked_meaning};
 ghost use Rattle.gate_history.specs.state.Sound.{IsSound};
 ghost use Rattle.gate_history.specs.write.Asked.{HasItsPackets};
-ghost use Rattle.gate_core.specs.inner.Calls.{flying_in, ids_after, bytes_of};
+ghost use Rattle.gate_core.specs.inner.SentIds.{flying_in, ids_after, bytes_of};
 ghost use Rattle.gate_history.specs.client.Carried.{IsRequest, IsSent, IsCarried};
 ghost use Rattle.gate_parts.specs.state.Rows.{kind_of, IsFine};
 ghost use Rattle.gate_core.specs.inner.Holds.{IsKept, Holds, Does, StopsShort, IsFree, CanAnswer, CanGo, HasOpened};
@@ -30,8 +30,8 @@ use control_route::Route;
 use gate_history::errno::ESHUTDOWN;
 use gate_history::{Note, Pipe, Request, Verdict};
 use gate_parts::{
-    Calls, Outputs, client_refusal, decide, draw, packet_count, row_of, wire_packet, write_route,
-    write_without_packets,
+    Outputs, StreamIds, client_refusal, decide, draw, packet_count, row_of, wire_packet,
+    write_route, write_without_packets,
 };
 use redir_data::move_data;
 use redir_wire::{Caps, Way};
@@ -169,14 +169,14 @@ impl Kept {
     {
         let end = StreamEnd::Change(route);
         self.write_ends(&end, ESHUTDOWN, &mut out.to_client)?;
-        let called = self.write_stops(Some(route), &mut out.to_host)?;
-        let id = self.ask_route(&route, called.last, &mut out.to_host)?;
+        let sent_ids = self.write_stops(Some(route), &mut out.to_host)?;
+        let id = self.ask_route(&route, sent_ids.last, &mut out.to_host)?;
         let seqnum = request.number;
         out.notes.push(Note::Submitted { seqnum, id })?;
         let live = row_of(request, LiveKind::Routed(route), id);
         self.open(live, id);
         self.drop_ended(&end);
-        self.end_streams(route, called.calls);
+        self.end_streams(route, sent_ids.stream_ids);
         Ok(())
     }
 
@@ -198,13 +198,13 @@ impl Kept {
     }
 
     /// The streams that end with a route go down, and were stopped.
-    fn end_streams(&mut self, route: Route, calls: Calls)
+    fn end_streams(&mut self, route: Route, stream_ids: StreamIds)
         requires kept { IsKept self.old }
         ensures kept { IsKept self.new }
-        ensures ended { self.new ≡ record self.old { streams = lower (is_ended (Some route)) self.old.streams; calls = calls } }
+        ensures ended { self.new ≡ record self.old { streams = lower (is_ended (Some route)) self.old.streams; stream_ids = stream_ids } }
     {
         self.streams.lower(Some(route));
-        self.calls = calls;
+        self.stream_ids = stream_ids;
     }
 
     /// The first id after this one that is in flight nowhere.
@@ -215,7 +215,7 @@ impl Kept {
     {
         draw(
             &self.lives,
-            &self.calls,
+            &self.stream_ids,
             self.caps.contains(Caps::WIDE_IDS),
             last,
         )

@@ -84,15 +84,15 @@ impl Kept {
         let seqnum = request.number;
         out.notes.push(Note::Submitted { seqnum, id: 0 })?;
         let ep = request.ep();
-        let called = self.write_start(ep, row, &mut out.to_host)?;
+        let sent_ids = self.write_start(ep, row, &mut out.to_host)?;
         let kind = LiveKind::Stream {
             ep,
             interface: row.interface,
         };
         self.streams.raise(self.alloc, ep, row);
-        self.calls = called.calls;
+        self.stream_ids = sent_ids.stream_ids;
         let live = row_of(request, kind, 0);
-        self.open(live, called.last);
+        self.open(live, sent_ids.last);
         Ok(())
     }
 }

@@ -13,7 +13,7 @@ ghost use Rattle.usb_base.specs.Number.{capped};
 ghost use Rattle.gate_history.specs.step.Marks.{StreamTold};
 ghost use Rattle.gate_history.specs.state.Facts.{tell};
 ghost use Rattle.usb_base.specs.Status.{status_of};
-ghost use Rattle.gate_history.specs.state.Calls.{lifted};
+ghost use Rattle.gate_history.specs.state.StreamIds.{lifted};
 ghost use Rattle.gate_history.specs.state.Flight.{wide_ids};
 ghost use Rattle.gate_history.specs.client.Submits.{has_id as submit_has_id};
 ghost use Rattle.gate_history.specs.state.State.{State, submits};

@@ -4,7 +4,7 @@ ghost use Rattle.std.specs.Prelude.{◌≡◌, ◌≤◌, IfOk};
 ghost use Rattle.gate_core.specs.inner.Holds.{IsFirst, IsKept};
 
 use gate_history::Facts;
-use gate_parts::{Calls, Streams};
+use gate_parts::{StreamIds, Streams};
 use redir_wire::Caps;
 use std::alloc::Global;
 use unlink_race::Lives;
@@ -30,7 +30,7 @@ pub struct Kept {
     /// The streams that are up, by their endpoints' places in a table.
     pub streams: Streams,
     /// The ids of what started and stopped them.
-    pub calls: Calls,
+    pub stream_ids: StreamIds,
     /// The id of the last stop that a client's leaving sent, until the host has answered it: no import passes it.
     pub fence: Option<u64>,
     /// The id that was drawn last.
@@ -60,7 +60,7 @@ impl Kept {
             client_over: false,
             host_over: false,
             streams: Streams::none(),
-            calls: Calls::none(),
+            stream_ids: StreamIds::none(),
             fence: None,
             last: first_id - 1,
             answered: 0,

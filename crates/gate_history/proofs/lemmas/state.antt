@@ -1,7 +1,7 @@
 -- What is kept.
 pub mod Cycle
 pub mod Draws
-pub mod Calls
+pub mod StreamIds
 pub mod Search
 pub mod Flights
 pub mod Sound

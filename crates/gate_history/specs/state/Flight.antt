@@ -8,7 +8,7 @@ use Rattle.gate_history.specs.state.Ids.{last_of}
 use Rattle.gate_history.specs.client.Verdict.{goes_by_id}
 use Rattle.gate_history.specs.step.Marks.{Submission, Mark}
 use Rattle.gate_history.specs.client.Submits.{live, abandoned}
-use Rattle.gate_history.specs.state.Calls.{calls, call_ids}
+use Rattle.gate_history.specs.state.StreamIds.{stream_ids, ids_of_streams}
 
 -- `usb_redir_cap_64bits_ids`: ids have 64 bits
 abbrev pub wide_ids : Caps → Bool
@@ -22,7 +22,7 @@ abbrev pub ids_of : List Submission → List ℕ
 ids_of ss = map (λ s. s.id) (filter (λ s. goes_by_id s.verdict) ss)
 
 abbrev pub in_flight : List Mark → List ℕ
-in_flight ms = ids_of (live ms) ++ ids_of (abandoned ms) ++ call_ids (calls ms)
+in_flight ms = ids_of (live ms) ++ ids_of (abandoned ms) ++ ids_of_streams (stream_ids ms)
 
 -- the last id that was drawn; the first of all is the first id, which stands after `first - 1`
 abbrev pub last_drawn : ℕ → List Mark → ℕ

@@ -10,7 +10,7 @@ use Rattle.gate_history.specs.state.Sides.{imported, lost, client_over, host_ove
 use Rattle.gate_history.specs.state.Facts.{facts}
 use Rattle.gate_history.specs.client.Submits.{Pending, abandoned, pending, live}
 use Rattle.gate_history.specs.state.Ups.{Up, streams}
-use Rattle.gate_history.specs.state.Calls.{Calls, calls, call_ids, fence}
+use Rattle.gate_history.specs.state.StreamIds.{StreamIds, stream_ids, ids_of_streams, fence}
 use Rattle.gate_history.specs.state.Flight.{wide_ids, ids_of, last_drawn}
 
 pub record State : Type 0 where
@@ -27,7 +27,7 @@ pub record State : Type 0 where
   pub abandoned : List Submission
   -- the streams that are up, the ids of what started and stopped them, and the one that no import passes
   pub streams : List (Option Up)
-  pub calls : Calls
+  pub stream_ids : StreamIds
   pub fence : Option ℕ
   -- the id that was drawn last
   pub last : ℕ
@@ -44,7 +44,7 @@ state_of first ms = record {
   live = map (pending ms) (live ms);
   abandoned = abandoned ms;
   streams = streams ms;
-  calls = calls ms;
+  stream_ids = stream_ids ms;
   fence = fence ms;
   last = last_drawn first ms;
 }
@@ -55,7 +55,7 @@ abbrev pub submits : State → List Submission
 submits st = map (λ p. p.submit) st.live
 
 abbrev pub flying : State → List ℕ
-flying st = ids_of (submits st) ++ ids_of st.abandoned ++ call_ids st.calls
+flying st = ids_of (submits st) ++ ids_of st.abandoned ++ ids_of_streams st.stream_ids
 
 -- the ids of an item's first n packets
 abbrev pub next_ids : State → ℕ → List ℕ

@@ -11,7 +11,7 @@ use Rattle.gate_history.specs.state.Facts.{facts_after}
 use Rattle.gate_history.specs.client.Submits.{Pending, ends, asks, abandoned_after}
 use Rattle.gate_history.specs.state.Ids.{last_of}
 use Rattle.gate_history.specs.state.Ups.{streams_after}
-use Rattle.gate_history.specs.state.Calls.{called, asking, fence_after}
+use Rattle.gate_history.specs.state.StreamIds.{stream_ids_after, asking, fence_after}
 use Rattle.gate_history.specs.state.State.{State, state_of, submits}
 use Rattle.gate_history.specs.step.Meaning.{mark_of}
 use Rattle.gate_history.specs.step.Past.{is_left_out, past}
@@ -43,7 +43,7 @@ after st m = record {
   live = live_after st m.what;
   abandoned = abandoned_after m.what (submits st) st.abandoned;
   streams = streams_after m.what st.streams;
-  calls = called (asking st.streams m) st.calls;
+  stream_ids = stream_ids_after (asking st.streams m) st.stream_ids;
   fence = fence_after m.what m.drawn st.fence;
   last = last_of st.last m.drawn;
 }

@@ -14,7 +14,7 @@ use Rattle.gate_history.specs.step.Marks.{Submission, Effect, Replies, Imports, 
 use Rattle.gate_history.specs.state.Sides.{leaves}
 use Rattle.gate_history.specs.client.Submits.{Pending, is_waiting, opened, ends}
 use Rattle.gate_history.specs.state.State.{State}
-use Rattle.gate_history.specs.state.Calls.{asking}
+use Rattle.gate_history.specs.state.StreamIds.{asking}
 use Rattle.gate_history.specs.write.Answers.{answers_at, ret_unlink}
 
 -- ---- to the client

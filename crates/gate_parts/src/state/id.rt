@@ -3,10 +3,10 @@
 ghost use Rattle.std.specs.Prelude.{◌≡◌, ◌+◌, ◌++◌, ◌<◌, length, false};
 ghost use Rattle.redir_wire.specs.Header.{IdFits};
 ghost use Rattle.gate_history.specs.state.Ids.{after, greatest, holds, draw};
-ghost use Rattle.gate_history.specs.state.Calls.{call_ids};
+ghost use Rattle.gate_history.specs.state.StreamIds.{ids_of_streams};
 ghost use Rattle.gate_parts.specs.state.Ids.{ids_in};
 
-use crate::state::calls::Calls;
+use crate::state::stream_ids::StreamIds;
 use unlink_race::Lives;
 
 /// The greatest id, without 64-bit ids and with them.
@@ -25,23 +25,23 @@ fn after(greatest: u64, id: u64) -> u64
 
 /// The first id after the last drawn that no request in flight has, and none of the starts and stops of streams. The
 /// loop ends: it passes over no more ids than are in flight, and there are more ids than that.
-pub fn draw(lives: &Lives, calls: &Calls, wide: bool, last: u64) -> u64
-    requires few { length lives.now.live + length lives.now.abandoned + length (call_ids calls.now) < u32.MAX }
-    ensures value { result ≡ draw (greatest wide) (ids_in lives.now ++ call_ids calls.now) last }
-    ensures free { holds (ids_in lives.now ++ call_ids calls.now) result ≡ false }
+pub fn draw(lives: &Lives, stream_ids: &StreamIds, wide: bool, last: u64) -> u64
+    requires few { length lives.now.live + length lives.now.abandoned + length (ids_of_streams stream_ids.now) < u32.MAX }
+    ensures value { result ≡ draw (greatest wide) (ids_in lives.now ++ ids_of_streams stream_ids.now) last }
+    ensures free { holds (ids_in lives.now ++ ids_of_streams stream_ids.now) result ≡ false }
     ensures fits { IdFits wide result }
 {
     let greatest = greatest(wide);
     let mut id = after(greatest, last);
-    while is_held(lives, calls, id) {
+    while is_held(lives, stream_ids, id) {
         id = after(greatest, id);
     }
     id
 }
 
 // Whether an id is in flight.
-fn is_held(lives: &Lives, calls: &Calls, id: u64) -> bool
-    ensures { result ≡ holds (ids_in lives.now ++ call_ids calls.now) id }
+fn is_held(lives: &Lives, stream_ids: &StreamIds, id: u64) -> bool
+    ensures { result ≡ holds (ids_in lives.now ++ ids_of_streams stream_ids.now) id }
 {
-    lives.holds_id(id) || calls.holds(id)
+    lives.holds_id(id) || stream_ids.holds(id)
 }

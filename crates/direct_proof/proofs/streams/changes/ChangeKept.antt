@@ -18,7 +18,7 @@ use Rattle.gate_history.specs.declared.verdict.Verdict.TheVariants.{Routed}
 use Rattle.gate_history.specs.client.Verdict.{verdict, changes}
 use Rattle.gate_history.specs.declared.errno.TheConstants.{ESHUTDOWN}
 use Rattle.gate_history.specs.state.Flight.{wide_bulk, ids_of}
-use Rattle.gate_history.specs.state.Calls.{call_ids}
+use Rattle.gate_history.specs.state.StreamIds.{ids_of_streams}
 use Rattle.gate_history.specs.state.Ids.{last_of}
 use Rattle.gate_history.specs.step.Marks.{Submission}
 use Rattle.gate_history.specs.client.Submits.{Pending, is_touched}
@@ -41,7 +41,7 @@ use Rattle.direct_proof.specs.Session.{Session, down_in}
 use Rattle.direct_proof.specs.Ids.{Ids}
 use Rattle.direct_proof.specs.Loads.{IsLoad, FitsRoute}
 use Rattle.direct_proof.specs.Cancels.{Behind, is_change as is_changing, any_change, IsAsking}
-use Rattle.direct_proof.specs.Calls.{Fenced}
+use Rattle.direct_proof.specs.StreamIds.{Fenced}
 use Rattle.direct_proof.specs.Kinds.{StartOfKind}
 use Rattle.direct_proof.specs.Running.{started_kind}
 use Rattle.direct_proof.proofs.shared.Traces.{map-append}
@@ -55,7 +55,7 @@ use Rattle.direct_proof.proofs.streams.wires.Lowered.{tagged-lower, kinds-lower,
 use Rattle.direct_proof.proofs.streams.changes.Changing.{change_ids, change_sent, changer, touched, staying, ending, change_world, change-means, change-made, changed, device-changes}
 use Rattle.direct_proof.proofs.streams.changes.ChangeTail.{entry_of, starts-none}
 use Rattle.direct_proof.proofs.streams.changes.Changed.{new-controls, change-id}
-use Rattle.direct_proof.proofs.streams.changes.ChangeWire.{IsChanging, new-quits, new-trails, none-started, new-line, new-calls-in}
+use Rattle.direct_proof.proofs.streams.changes.ChangeWire.{IsChanging, new-quits, new-trails, none-started, new-line, new-streams-in}
 use Rattle.direct_proof.proofs.streams.changes.ChangeFree.{asks-free, change-free, uncancelled-free}
 
 -- ---- what is kept
@@ -93,7 +93,7 @@ module _ {S : Type 0} (m : Meaning S) (w : World S) (j : Shared) (place : ℕ) (
   owed = sym (append-nil (debts_of (submits w.gate))) ∙ ap (λ (l : List Submission). debts_of (submits w.gate) ++ debts_of l) (sym (rel.alone imported).0) ∙ rel.debts there
 
   new-id : IsNew id j.debts
-  new-id = subst (IsNew id) owed (new-debts id (filter by_id (submits w.gate)) (holds-front (ids_of (submits w.gate)) (ids_of w.gate.abandoned) id (holds-front (ids_of (submits w.gate) ++ ids_of w.gate.abandoned) (call_ids w.gate.calls) id (change-id m w j r x change rel gate).0)))
+  new-id = subst (IsNew id) owed (new-debts id (filter by_id (submits w.gate)) (holds-front (ids_of (submits w.gate)) (ids_of w.gate.abandoned) id (holds-front (ids_of (submits w.gate) ++ ids_of w.gate.abandoned) (ids_of_streams w.gate.stream_ids) id (change-id m w j r x change rel gate).0)))
 
   joined : (j.held ++ j.coming) ++ entry ∷ [] ≡ j.held ++ (j.coming ++ entry ∷ [])
   joined = append_assoc j.held j.coming (entry ∷ [])
@@ -125,7 +125,7 @@ module _ {S : Type 0} (m : Meaning S) (w : World S) (j : Shared) (place : ℕ) (
       half = rel.line.half;
       coming = new-line m w j r x change rel gate;
       loads = subst (Each (λ (e : Entry). IsLoad e.load)) joined (Each-append (λ (e : Entry). IsLoad e.load) (j.held ++ j.coming) (entry ∷ []) rel.line.loads (load, tt));
-      calls_in = new-calls-in m w j r x change rel gate;
+      streams_in = new-streams-in m w j r x change rel gate;
       cancels = fits-append j.half j.held w.to_host (change_sent w.gate x) j.coming (entry ∷ []) rel.line.coming rel.line.cancels
           (uncancelled-free (j.held ++ j.coming) (change_sent w.gate x) (entry ∷ []) (change-free w.gate x));
       behind = subst Behind joined (behind-more (j.held ++ j.coming) entry (zero-route r x change) rel.line.behind);

@@ -14,15 +14,15 @@ use Rattle.gate_history.specs.declared.verdict.Verdict.TheVariants.{Routed}
 use Rattle.direct_proof.specs.Requests.{Entry, at_host}
 use Rattle.direct_proof.specs.Shared.{lines}
 use Rattle.direct_proof.specs.Stale.{asks}
-use Rattle.direct_proof.specs.Running.{called_endpoint, started_kind, passes, CanStart, Quits, Trails, StartsFit}
-use Rattle.direct_proof.specs.Calls.{calls_on}
+use Rattle.direct_proof.specs.Running.{stream_endpoint, started_kind, passes, CanStart, Quits, Trails, StartsFit}
+use Rattle.direct_proof.specs.StreamIds.{stream_ids_on}
 use Rattle.direct_proof.proofs.streams.wires.Sorts.{is_for_endpoint}
 use Rattle.direct_proof.proofs.shared.Folds.{not-both}
 use Rattle.direct_proof.proofs.streams.wires.Folds.{quits-more}
 
 -- a packet that neither starts nor stops
 abbrev pub IsMute : ℕ × RedirPacket → Type 0
-IsMute p = (called_endpoint p.1 ≡ None) × (started_kind p.1 ≡ None)
+IsMute p = (stream_endpoint p.1 ≡ None) × (started_kind p.1 ≡ None)
 
 abbrev pub entry_of : ℕ → Request → Route → Entry
 entry_of id r x = record { id = id; load = record { request = r; verdict = Routed x }; asked = false }
@@ -54,9 +54,9 @@ pub trails-mute : (fence : Option ℕ) (down : ℕ → Bool) (qs : List (ℕ × 
 trails-mute fence down [] h = tt
 trails-mute fence down (q ∷ qs) h = ((λ e. absurd (not-both (sym e ∙ ap (passes down) h.0.0))), trails-mute fence down qs h.1)
 
-pub mute-calls : (qs : List (ℕ × RedirPacket)) → Each IsMute qs → calls_on qs ≡ []
-mute-calls [] h = refl
-mute-calls (q ∷ qs) h = (λ i. cond (is_some (h.0.0 i)) (q.0 ∷ []) [] ++ mute-calls qs h.1 i)
+pub mute-stream_ids : (qs : List (ℕ × RedirPacket)) → Each IsMute qs → stream_ids_on qs ≡ []
+mute-stream_ids [] h = refl
+mute-stream_ids (q ∷ qs) h = (λ i. cond (is_some (h.0.0 i)) (q.0 ∷ []) [] ++ mute-stream_ids qs h.1 i)
 
 -- what starts nothing fits
 pub starts-none : (t : EpTable) (c : Bool) (qs : List (ℕ × RedirPacket)) → Each (λ (p : ℕ × RedirPacket). started_kind p.1 ≡ None) qs → StartsFit t c qs

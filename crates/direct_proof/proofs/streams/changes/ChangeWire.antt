@@ -16,15 +16,15 @@ use Rattle.gate_history.specs.write.Packets.{stops, route_packets}
 use Rattle.gate_history.specs.state.Sound.{IsSound}
 use Rattle.gate_history.specs.state.State.{State, flying}
 use Rattle.gate_history.specs.state.Ups.{Up, stream_of, lower, is_ended}
-use Rattle.gate_history.proofs.lemmas.state.Calls.{AreLong, zip-append, draws-append, last-append, last-any}
+use Rattle.gate_history.proofs.lemmas.state.StreamIds.{AreLong, zip-append, draws-append, last-append, last-any}
 use Rattle.gate_history.proofs.lemmas.state.Draws.{length-draws}
 use Rattle.direct_run.specs.Moves.{World}
 use Rattle.direct_proof.specs.Requests.{Entry, at_host}
 use Rattle.direct_proof.specs.Shared.{Shared, lines, half_line, at_hosts}
 use Rattle.direct_proof.specs.Related.{Related}
 use Rattle.direct_proof.specs.Session.{Session, down_in, runs}
-use Rattle.direct_proof.specs.Kinds.{CallIsIn}
-use Rattle.direct_proof.specs.Running.{called_endpoint, started_kind, Quits, Trails}
+use Rattle.direct_proof.specs.Kinds.{StreamIsIn}
+use Rattle.direct_proof.specs.Running.{stream_endpoint, started_kind, Quits, Trails}
 use Rattle.direct_proof.proofs.shared.Folds.{lines-append}
 use Rattle.direct_proof.proofs.shared.Streaming.{trails-append}
 use Rattle.direct_proof.proofs.streams.wires.Sorts.{runs-same, is_for_endpoint}
@@ -36,9 +36,9 @@ use Rattle.direct_proof.proofs.streams.changes.ChangeTail.{IsMute, IsTail, is-ta
 -- what is true of every gateway: its laws. A stream that is up keeps no stop
 pub record IsChanging (st : State) (x : Route) : Type 0 where
   pub sound : IsSound st
-  pub long : AreLong st.calls
+  pub long : AreLong st.stream_ids
   pub fresh : AreFresh (greatest (wide_ids st.agreed)) (flying st) (change_ids st x)
-  pub unstopped : (i : ℕ) → is_some (get_or st.streams i None) ≡ true → get_or st.calls.stopped i None ≡ None
+  pub unstopped : (i : ℕ) → is_some (get_or st.streams i None) ≡ true → get_or st.stream_ids.stopped i None ≡ None
 
 module _ {S : Type 0} (m : Meaning S) (w : World S) (j : Shared) (r : Request) (x : Route) (change : is_change x ≡ true) (rel : Related m w j) (gate : IsChanging w.gate x) where
   abbrev st : State
@@ -90,17 +90,17 @@ module _ {S : Type 0} (m : Meaning S) (w : World S) (j : Shared) (r : Request) (
       ∙ (λ i. rel.line.coming i ++ at_host (entry_of (id-is i) r x))
       ∙ sym (at_hosts-more j.coming (entry_of (last_of 0 (change_ids w.gate x)) r x))
 
-  pub new-calls-in : Each (λ (p : ℕ × RedirPacket). CallIsIn (called_endpoint p.1)) (w.to_host ++ change_sent w.gate x)
-  new-calls-in = Each-append (λ (p : ℕ × RedirPacket). CallIsIn (called_endpoint p.1)) w.to_host (change_sent w.gate x) rel.line.calls_in
-      (subst (Each (λ (p : ℕ × RedirPacket). CallIsIn (called_endpoint p.1))) (sym sent-is)
-      (Each-append (λ (p : ℕ × RedirPacket). CallIsIn (called_endpoint p.1)) zs cs (stops-in (is_ended (Some x)) zs each) (subst (Each (λ (p : ℕ × RedirPacket). CallIsIn (called_endpoint p.1))) (sym tail.are) (quiet tail.first tail.mute, quiets tail.rest tail.rest_mute))))
+  pub new-streams-in : Each (λ (p : ℕ × RedirPacket). StreamIsIn (stream_endpoint p.1)) (w.to_host ++ change_sent w.gate x)
+  new-streams-in = Each-append (λ (p : ℕ × RedirPacket). StreamIsIn (stream_endpoint p.1)) w.to_host (change_sent w.gate x) rel.line.streams_in
+      (subst (Each (λ (p : ℕ × RedirPacket). StreamIsIn (stream_endpoint p.1))) (sym sent-is)
+      (Each-append (λ (p : ℕ × RedirPacket). StreamIsIn (stream_endpoint p.1)) zs cs (stops-in (is_ended (Some x)) zs each) (subst (Each (λ (p : ℕ × RedirPacket). StreamIsIn (stream_endpoint p.1))) (sym tail.are) (quiet tail.first tail.mute, quiets tail.rest tail.rest_mute))))
     where
-      quiet : (p : ℕ × RedirPacket) → IsMute p → CallIsIn (called_endpoint p.1)
-      quiet p h = subst CallIsIn (sym h.0) tt
+      quiet : (p : ℕ × RedirPacket) → IsMute p → StreamIsIn (stream_endpoint p.1)
+      quiet p h = subst StreamIsIn (sym h.0) tt
 
-      quiets : (ps : List (ℕ × RedirPacket)) → Each IsMute ps → Each (λ (p : ℕ × RedirPacket). CallIsIn (called_endpoint p.1)) ps
+      quiets : (ps : List (ℕ × RedirPacket)) → Each IsMute ps → Each (λ (p : ℕ × RedirPacket). StreamIsIn (stream_endpoint p.1)) ps
       quiets [] h = tt
-      quiets (p ∷ ps) h = (subst CallIsIn (sym h.0.0) tt, quiets ps h.1)
+      quiets (p ∷ ps) h = (subst StreamIsIn (sym h.0.0) tt, quiets ps h.1)
 
   -- ---- the wire, split at the change
 

@@ -25,7 +25,7 @@ use Rattle.gate_history.specs.state.State.{State, has_number, next_ids}
 use Rattle.gate_history.specs.write.Packets.{stops, route_packets}
 use Rattle.gate_history.specs.step.Meaning.{meaning, mark_as, refused, by_stream, accepts, accepted_as, submission, drawn_for, verdict_of}
 use Rattle.gate_history.specs.write.Output.{fresh}
-use Rattle.gate_history.specs.state.Calls.{called}
+use Rattle.gate_history.specs.state.StreamIds.{stream_ids_after}
 use Rattle.gate_history.specs.write.Notes.{is_by_answer}
 use Rattle.gate_history.specs.declared.note.Note.TheVariants as note
 use Rattle.gate_history.specs.write.Answers.{answers_at, without_packets}
@@ -82,7 +82,7 @@ change_world w r x = record w {
     items = suc w.gate.items;
     live = staying x w.gate.live ++ fresh (changer w.gate r x) ∷ [];
     streams = lower (is_ended (Some x)) w.gate.streams;
-    calls = called (change_sent w.gate x) w.gate.calls;
+    stream_ids = stream_ids_after (change_sent w.gate x) w.gate.stream_ids;
     last = last_of w.gate.last (change_ids w.gate x);
   };
   to_host = w.to_host ++ change_sent w.gate x;

@@ -5,37 +5,37 @@ use Rattle.std.specs.List.{AllByRecursion as Each}
 use Rattle.std.proofs.lemmas.List.{get_or-set_same, get_or-set_other, length-set}
 use Rattle.usb_base.specs.Endpoint.{endpoint_index}
 use Rattle.redir_data.specs.declared.packet.RedirPacket.{RedirPacket}
-use Rattle.gate_history.specs.state.Calls.{Calls, called, stopped}
+use Rattle.gate_history.specs.state.StreamIds.{StreamIds, stream_ids_after, stopped}
 use Rattle.gate_history.specs.state.Ids.{times}
 use Rattle.gate_history.specs.write.Packets.{stop_packet, stops}
 use Rattle.gate_history.specs.state.Ups.{Up}
-use Rattle.gate_history.proofs.lemmas.state.Calls.{times-append, stop-calls}
+use Rattle.gate_history.proofs.lemmas.state.StreamIds.{times-append, stop-stream_ids}
 use Rattle.direct_proof.specs.Kinds.{IsIn, UpFits}
-use Rattle.direct_proof.specs.Calls.{IdIsKept, CallIsKept, is_id, call_id, calls_on}
-use Rattle.direct_proof.specs.Running.{called_endpoint}
+use Rattle.direct_proof.specs.StreamIds.{IdIsKept, StreamIdIsKept, is_id, stream_id, stream_ids_on}
+use Rattle.direct_proof.specs.Running.{stream_endpoint}
 use Rattle.direct_proof.proofs.streams.fills.FillLists.{weight}
 use Rattle.direct_proof.proofs.shared.Folds.{clash, or-left, or-right}
 use Rattle.direct_proof.proofs.shared.UpsFound.{in-place}
 use Rattle.direct_proof.proofs.streams.changes.Stops.{stopping, stop-is}
 
 -- no more than the ids that were drawn
-pub stops-times : (test : Up → Bool) (n : ℕ) (ids : List ℕ) (ps : List RedirPacket) → times n (calls_on (zip ids ps)) ≤ times n ids
+pub stops-times : (test : Up → Bool) (n : ℕ) (ids : List ℕ) (ps : List RedirPacket) → times n (stream_ids_on (zip ids ps)) ≤ times n ids
 stops-times test n [] ps = omega arith
 stops-times test n (id ∷ ids) [] = omega arith
-stops-times test n (id ∷ ids) (p ∷ ps) = let rest = stops-times test n ids ps in let a = times-append n (call_id (id, p)) (calls_on (zip ids ps)) in let b = go (is_some (called_endpoint p)) in omega (arith, rest, a, b)
+stops-times test n (id ∷ ids) (p ∷ ps) = let rest = stops-times test n ids ps in let a = times-append n (stream_id (id, p)) (stream_ids_on (zip ids ps)) in let b = go (is_some (stream_endpoint p)) in omega (arith, rest, a, b)
   where
     go : (b : Bool) → times n (cond b (id ∷ []) []) ≤ weight (n == id)
     go true = omega arith
     go false = omega arith
 
 -- the streams from a place on, of which those that are up keep no stop
-pub record Stand (k : ℕ) (ups : List (Option Up)) (c : Calls) : Type 0 where
+pub record Stand (k : ℕ) (ups : List (Option Up)) (c : StreamIds) : Type 0 where
   pub fits : (i : ℕ) → UpFits (k + i) (get_or ups i None)
   pub fresh : (i : ℕ) → is_some (get_or ups i None) ≡ true → get_or c.stopped (k + i) None ≡ None
   pub long : length c.stopped ≡ 32
 
 -- a stop takes no id from another endpoint, nor a start from its own
-kept-stop : (up : Up) (id : ℕ) (c : Calls) (n e : ℕ) → get_or c.stopped (endpoint_index up.ep) None ≡ None → IdIsKept c n e → IdIsKept (stopped up.ep id c) n e
+kept-stop : (up : Up) (id : ℕ) (c : StreamIds) (n e : ℕ) → get_or c.stopped (endpoint_index up.ep) None ≡ None → IdIsKept c n e → IdIsKept (stopped up.ep id c) n e
 kept-stop up id c n e free kept = go (endpoint_index e == endpoint_index up.ep) refl
   where
     go : (b : Bool) → (endpoint_index e == endpoint_index up.ep) ≡ b → IdIsKept (stopped up.ep id c) n e
@@ -55,14 +55,14 @@ kept-stop up id c n e free kept = go (endpoint_index e == endpoint_index up.ep) 
         left true b x y = refl
         left false b x y = absurd (clash b x y)
 
-new-stop : (up : Up) (id : ℕ) (c : Calls) → IsIn up.ep → length c.stopped ≡ 32 → IdIsKept (stopped up.ep id c) id up.ep
+new-stop : (up : Up) (id : ℕ) (c : StreamIds) → IsIn up.ep → length c.stopped ≡ 32 → IdIsKept (stopped up.ep id c) id up.ep
 new-stop up id c h n = or-right (is_id id (get_or c.started (endpoint_index up.ep) None)) (is_id id (get_or (slice_set c.stopped (endpoint_index up.ep) (Some id)) (endpoint_index up.ep) None))
     (ap (is_id id) (get_or-set_same c.stopped (endpoint_index up.ep) (Some id) None (subst (λ (k : ℕ). endpoint_index up.ep < k) (sym n) (in-place up.ep h))) ∙ itself id)
   where
     itself : (k : ℕ) → (k == k) ≡ true
     itself k = grind arith
 
-stand-next : (k : ℕ) (o : Option Up) (ups : List (Option Up)) (c : Calls) → Stand k (o ∷ ups) c → Stand (suc k) ups c
+stand-next : (k : ℕ) (o : Option Up) (ups : List (Option Up)) (c : StreamIds) → Stand k (o ∷ ups) c → Stand (suc k) ups c
 stand-next k o ups c s = record {
   fits = λ i. subst (λ (n : ℕ). UpFits n (get_or ups i None)) (shift k i) (s.fits (suc i));
   fresh = λ i h. subst (λ (n : ℕ). get_or c.stopped n None ≡ None) (shift k i) (s.fresh (suc i) h);
@@ -72,7 +72,7 @@ stand-next k o ups c s = record {
     shift : (a b : ℕ) → a + suc b ≡ suc a + b
     shift a b = omega arith
 
-stand-stop : (k : ℕ) (up : Up) (ups : List (Option Up)) (id : ℕ) (c : Calls) → Stand k (Some up ∷ ups) c → Stand (suc k) ups (stopped up.ep id c)
+stand-stop : (k : ℕ) (up : Up) (ups : List (Option Up)) (id : ℕ) (c : StreamIds) → Stand k (Some up ∷ ups) c → Stand (suc k) ups (stopped up.ep id c)
 stand-stop k up ups id c s = record {
   fits = (stand-next k (Some up) ups c s).fits;
   fresh = λ i h. get_or-set_other c.stopped (endpoint_index up.ep) (suc k + i) (Some id) None (later i) ∙ (stand-next k (Some up) ups c s).fresh i h;
@@ -83,7 +83,7 @@ stand-stop k up ups id c s = record {
     later i e = let z : endpoint_index up.ep ≡ k + 0 = (s.fits 0).1 in absurd (omega (arith, e, z))
 
 -- all stops
-pub stops-kept : (test : Up → Bool) (ids : List ℕ) (k : ℕ) (ups : List (Option Up)) (c : Calls) → Stand k ups c → (n e : ℕ) → IdIsKept c n e → IdIsKept (called (stopping test ids ups) c) n e
+pub stops-kept : (test : Up → Bool) (ids : List ℕ) (k : ℕ) (ups : List (Option Up)) (c : StreamIds) → Stand k ups c → (n e : ℕ) → IdIsKept c n e → IdIsKept (stream_ids_after (stopping test ids ups) c) n e
 stops-kept test [] k ups c s n e kept = kept
 stops-kept test (id ∷ ids) k [] c s n e kept = kept
 stops-kept test (id ∷ ids) k (None ∷ ups) c s n e kept = stops-kept test (id ∷ ids) (suc k) ups c (stand-next k None ups c s) n e kept
@@ -92,12 +92,12 @@ stops-kept test (id ∷ ids) k (Some up ∷ ups) c s n e kept = go (test up) (st
     free : get_or c.stopped (endpoint_index up.ep) None ≡ None
     free = subst (λ (i : ℕ). get_or c.stopped i None ≡ None) (sym (s.fits 0).1) (s.fresh 0 refl)
 
-    go : (b : Bool) → (IdIsKept (stopped up.ep id c) n e → IdIsKept (called (zip ids (stops test ups)) (stopped up.ep id c)) n e) → (IdIsKept c n e → IdIsKept (called (zip (id ∷ ids) (stops test ups)) c) n e) →
-        IdIsKept (called (zip (id ∷ ids) (cond b (stop_packet up ∷ []) [] ++ stops test ups)) c) n e
-    go true more skip = subst (λ (d : Calls). IdIsKept (called (zip ids (stops test ups)) d) n e) (sym (stop-calls id up c)) (more (kept-stop up id c n e free kept))
+    go : (b : Bool) → (IdIsKept (stopped up.ep id c) n e → IdIsKept (stream_ids_after (zip ids (stops test ups)) (stopped up.ep id c)) n e) → (IdIsKept c n e → IdIsKept (stream_ids_after (zip (id ∷ ids) (stops test ups)) c) n e) →
+        IdIsKept (stream_ids_after (zip (id ∷ ids) (cond b (stop_packet up ∷ []) [] ++ stops test ups)) c) n e
+    go true more skip = subst (λ (d : StreamIds). IdIsKept (stream_ids_after (zip ids (stops test ups)) d) n e) (sym (stop-stream_ids id up c)) (more (kept-stop up id c n e free kept))
     go false more skip = skip kept
 
-pub stops-new : (test : Up → Bool) (ids : List ℕ) (k : ℕ) (ups : List (Option Up)) (c : Calls) → Stand k ups c → Each (λ (p : ℕ × RedirPacket). CallIsKept (called (stopping test ids ups) c) p.0 (called_endpoint p.1)) (stopping test ids ups)
+pub stops-new : (test : Up → Bool) (ids : List ℕ) (k : ℕ) (ups : List (Option Up)) (c : StreamIds) → Stand k ups c → Each (λ (p : ℕ × RedirPacket). StreamIdIsKept (stream_ids_after (stopping test ids ups) c) p.0 (stream_endpoint p.1)) (stopping test ids ups)
 stops-new test [] k ups c s = tt
 stops-new test (id ∷ ids) k [] c s = tt
 stops-new test (id ∷ ids) k (None ∷ ups) c s = stops-new test (id ∷ ids) (suc k) ups c (stand-next k None ups c s)
@@ -106,10 +106,10 @@ stops-new test (id ∷ ids) k (Some up ∷ ups) c s = go (test up) (stops-new te
     is-in : IsIn up.ep
     is-in = (s.fits 0).0
 
-    go : (b : Bool) → Each (λ (p : ℕ × RedirPacket). CallIsKept (called (zip ids (stops test ups)) (stopped up.ep id c)) p.0 (called_endpoint p.1)) (zip ids (stops test ups)) →
-        (IdIsKept (stopped up.ep id c) id up.ep → IdIsKept (called (zip ids (stops test ups)) (stopped up.ep id c)) id up.ep) →
-        Each (λ (p : ℕ × RedirPacket). CallIsKept (called (zip (id ∷ ids) (stops test ups)) c) p.0 (called_endpoint p.1)) (zip (id ∷ ids) (stops test ups)) →
-        Each (λ (p : ℕ × RedirPacket). CallIsKept (called (zip (id ∷ ids) (cond b (stop_packet up ∷ []) [] ++ stops test ups)) c) p.0 (called_endpoint p.1)) (zip (id ∷ ids) (cond b (stop_packet up ∷ []) [] ++ stops test ups))
-    go true more own skip = subst (λ (d : Calls). Each (λ (p : ℕ × RedirPacket). CallIsKept (called (zip ids (stops test ups)) d) p.0 (called_endpoint p.1)) ((id, stop_packet up) ∷ zip ids (stops test ups))) (sym (stop-calls id up c))
-        (subst (CallIsKept (called (zip ids (stops test ups)) (stopped up.ep id c)) id) (sym (stop-is up).called) (own (new-stop up id c is-in s.long)), more)
+    go : (b : Bool) → Each (λ (p : ℕ × RedirPacket). StreamIdIsKept (stream_ids_after (zip ids (stops test ups)) (stopped up.ep id c)) p.0 (stream_endpoint p.1)) (zip ids (stops test ups)) →
+        (IdIsKept (stopped up.ep id c) id up.ep → IdIsKept (stream_ids_after (zip ids (stops test ups)) (stopped up.ep id c)) id up.ep) →
+        Each (λ (p : ℕ × RedirPacket). StreamIdIsKept (stream_ids_after (zip (id ∷ ids) (stops test ups)) c) p.0 (stream_endpoint p.1)) (zip (id ∷ ids) (stops test ups)) →
+        Each (λ (p : ℕ × RedirPacket). StreamIdIsKept (stream_ids_after (zip (id ∷ ids) (cond b (stop_packet up ∷ []) [] ++ stops test ups)) c) p.0 (stream_endpoint p.1)) (zip (id ∷ ids) (cond b (stop_packet up ∷ []) [] ++ stops test ups))
+    go true more own skip = subst (λ (d : StreamIds). Each (λ (p : ℕ × RedirPacket). StreamIdIsKept (stream_ids_after (zip ids (stops test ups)) d) p.0 (stream_endpoint p.1)) ((id, stop_packet up) ∷ zip ids (stops test ups))) (sym (stop-stream_ids id up c))
+        (subst (StreamIdIsKept (stream_ids_after (zip ids (stops test ups)) (stopped up.ep id c)) id) (sym (stop-is up).stream) (own (new-stop up id c is-in s.long)), more)
     go false more own skip = skip

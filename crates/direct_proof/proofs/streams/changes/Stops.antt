@@ -9,16 +9,16 @@ use Rattle.gate_history.specs.write.Packets.{stop_packet, stops}
 use Rattle.gate_history.specs.state.Ups.{Up}
 use Rattle.gate_history.specs.client.Verdict.{is_iso}
 use Rattle.direct_proof.specs.Shared.{lines}
-use Rattle.direct_proof.specs.Kinds.{IsIn, UpsFit, UpFits, CallIsIn}
-use Rattle.direct_proof.specs.Running.{called_endpoint, started_kind, runs_after, Quits, Trails}
+use Rattle.direct_proof.specs.Kinds.{IsIn, UpsFit, UpFits, StreamIsIn}
+use Rattle.direct_proof.specs.Running.{stream_endpoint, started_kind, runs_after, Quits, Trails}
 use Rattle.direct_proof.specs.Stale.{asks}
 use Rattle.direct_proof.proofs.shared.Folds.{not-both, or-left, or-right, any-append}
-use Rattle.direct_proof.proofs.streams.wires.Sorts.{IsCall, Calls_or, is-call}
+use Rattle.direct_proof.proofs.streams.wires.Sorts.{IsSwitch, Switches_or, is-switch}
 
 -- ---- one stop
 
 pub record IsStop (up : Up) (p : RedirPacket) : Type 0 where
-  pub called : called_endpoint p ≡ Some up.ep
+  pub stream : stream_endpoint p ≡ Some up.ep
   pub no_start : started_kind p ≡ None
   pub runs-are : (e : ℕ) (r : Bool) → runs_after e p r ≡ cond (up.ep == e) false r
 
@@ -26,8 +26,8 @@ pub stop-is : (up : Up) → IsStop up (stop_packet up)
 stop-is up = go (is_iso up.row.kind)
   where
     go : (b : Bool) → IsStop up (Plain (cond b (plain.StopIso up.ep) (plain.StopInterrupt up.ep)))
-    go true = record { called = refl; no_start = refl; runs-are = λ e r. refl }
-    go false = record { called = refl; no_start = refl; runs-are = λ e r. refl }
+    go true = record { stream = refl; no_start = refl; runs-are = λ e r. refl }
+    go false = record { stream = refl; no_start = refl; runs-are = λ e r. refl }
 
 -- ---- all stops
 
@@ -51,7 +51,7 @@ pub record StopsOne (test : Up → Bool) (p : ℕ × RedirPacket) : Type 0 where
   pub is : IsStop up p.1
   pub passes-it : test up ≡ true
   pub is_in : IsIn up.ep
-  pub call : IsCall p
+  pub switch : IsSwitch p
 
 abbrev pub stopping : (Up → Bool) → List ℕ → List (Option Up) → List (ℕ × RedirPacket)
 stopping test ids ups = zip ids (stops test ups)
@@ -64,7 +64,7 @@ each-stops test (id ∷ ids) (Some up ∷ ups) h = go (test up) refl (each-stops
   where
     go : (b : Bool) → test up ≡ b → Each (StopsOne test) (zip ids (stops test ups)) → Each (StopsOne test) (zip (id ∷ ids) (stops test ups)) → Each (StopsOne test) (zip (id ∷ ids) (cond b (stop_packet up ∷ []) [] ++ stops test ups))
     go false e more skip = skip
-    go true e more skip = (record { up = up; is = stop-is up; passes-it = e; is_in = h.0; call = subst (λ (o : Option ℕ). Calls_or o (id, stop_packet up)) (stop-is up).called (is-call (id, stop_packet up)) }, more)
+    go true e more skip = (record { up = up; is = stop-is up; passes-it = e; is_in = h.0; switch = subst (λ (o : Option ℕ). Switches_or o (id, stop_packet up)) (stop-is up).stream (is-switch (id, stop_packet up)) }, more)
 
 -- ---- how streams run behind packets
 
@@ -144,12 +144,12 @@ quits-end fence e r (p ∷ ps) h = quits-end fence e (runs_after e p.1 r) ps h.1
 
 pub stops-lines : (test : Up → Bool) (zs : List (ℕ × RedirPacket)) → Each (StopsOne test) zs → lines zs ≡ []
 stops-lines test [] h = refl
-stops-lines test (z ∷ zs) h = (λ i. h.0.call.line i ++ stops-lines test zs h.1 i)
+stops-lines test (z ∷ zs) h = (λ i. h.0.switch.line i ++ stops-lines test zs h.1 i)
 
 pub stops-unchanged : (test : Up → Bool) (zs : List (ℕ × RedirPacket)) → Each (StopsOne test) zs → list_any (asks None) zs ≡ false
 stops-unchanged test [] h = refl
-stops-unchanged test (z ∷ zs) h = (λ i. h.0.call.no_change i || stops-unchanged test zs h.1 i)
+stops-unchanged test (z ∷ zs) h = (λ i. h.0.switch.no_change i || stops-unchanged test zs h.1 i)
 
-pub stops-in : (test : Up → Bool) (zs : List (ℕ × RedirPacket)) → Each (StopsOne test) zs → Each (λ (p : ℕ × RedirPacket). CallIsIn (called_endpoint p.1)) zs
+pub stops-in : (test : Up → Bool) (zs : List (ℕ × RedirPacket)) → Each (StopsOne test) zs → Each (λ (p : ℕ × RedirPacket). StreamIsIn (stream_endpoint p.1)) zs
 stops-in test [] h = tt
-stops-in test (z ∷ zs) h = (subst CallIsIn (sym h.0.is.called) h.0.is_in, stops-in test zs h.1)
+stops-in test (z ∷ zs) h = (subst StreamIsIn (sym h.0.is.stream) h.0.is_in, stops-in test zs h.1)

@@ -4,14 +4,14 @@ use Rattle.std.specs.Prelude.{get_or, slice_set, zip}
 use Rattle.std.proofs.Math.ListN.{get_or-map}
 use Rattle.std.proofs.lemmas.List.{get_or-set_other}
 use Rattle.usb_base.specs.Endpoint.{endpoint_index}
-use Rattle.gate_history.specs.state.Calls.{Calls, called, started, stopped}
+use Rattle.gate_history.specs.state.StreamIds.{StreamIds, stream_ids_after, started, stopped}
 use Rattle.gate_history.specs.write.Packets.{stops, stop_packet}
 use Rattle.gate_history.specs.state.Ups.{Up, lower, unless}
-use Rattle.gate_history.proofs.lemmas.state.Calls.{stop-calls}
+use Rattle.gate_history.proofs.lemmas.state.StreamIds.{stop-stream_ids}
 use Rattle.direct_proof.proofs.shared.Folds.{clash, not-both}
 
 -- a place has the stream of its endpoint, and where one is up no stop is kept
-pub record Unstopped (ups : List (Option Up)) (c : Calls) : Type 0 where
+pub record Unstopped (ups : List (Option Up)) (c : StreamIds) : Type 0 where
   pub places : (i : ℕ) (up : Up) → get_or ups i None ≡ Some up → endpoint_index up.ep ≡ i
   pub fresh : (i : ℕ) → is_some (get_or ups i None) ≡ true → get_or c.stopped i None ≡ None
 
@@ -37,7 +37,7 @@ stopped-none (y ∷ ys) zero = refl
 stopped-none (y ∷ ys) (suc i) = stopped-none ys i
 
 -- a stream goes up, with its start
-pub unstopped-raised : (ups : List (Option Up)) (c : Calls) (up : Up) (id : ℕ) → Unstopped ups c → Unstopped (slice_set ups (endpoint_index up.ep) (Some up)) (started up.ep id c)
+pub unstopped-raised : (ups : List (Option Up)) (c : StreamIds) (up : Up) (id : ℕ) → Unstopped ups c → Unstopped (slice_set ups (endpoint_index up.ep) (Some up)) (started up.ep id c)
 unstopped-raised ups c up id h = record { places = λ i u e. place i u (i == endpoint_index up.ep) refl e; fresh = λ i e. none i (i == endpoint_index up.ep) refl e }
   where
     place : (i : ℕ) (u : Up) (b : Bool) → (i == endpoint_index up.ep) ≡ b → get_or (slice_set ups (endpoint_index up.ep) (Some up)) i None ≡ Some u → endpoint_index u.ep ≡ i
@@ -57,7 +57,7 @@ unstopped-raised ups c up id h = record { places = λ i u e. place i u (i == end
         ∙ h.fresh i (ap (λ (o : Option Up). is_some o) (sym (get_or-set_other ups (endpoint_index up.ep) i (Some up) None (apart i (endpoint_index up.ep) k))) ∙ e)
 
 -- those of a list that are up are among those of another
-pub unstopped-fewer : (ups more : List (Option Up)) (c : Calls) → ((i : ℕ) (u : Up) → get_or ups i None ≡ Some u → (y : Up) × (get_or more i None ≡ Some y) × (y.ep ≡ u.ep)) → Unstopped more c → Unstopped ups c
+pub unstopped-fewer : (ups more : List (Option Up)) (c : StreamIds) → ((i : ℕ) (u : Up) → get_or ups i None ≡ Some u → (y : Up) × (get_or more i None ≡ Some y) × (y.ep ≡ u.ep)) → Unstopped more c → Unstopped ups c
 unstopped-fewer ups more c from h = record {
   places = λ i u e. let y = from i u e in ap endpoint_index (sym y.2) ∙ h.places i y.0 y.1;
   fresh = λ i e. go i (get_or ups i None) refl e;
@@ -70,8 +70,8 @@ unstopped-fewer ups more c from h = record {
 -- ---- streams are stopped and go down
 
 -- of a place and those behind it, the stop of another place leaves it
-stopped-elsewhere : (test : Up → Bool) (ids : List ℕ) (k : ℕ) (ups : List (Option Up)) (c : Calls) → ((i : ℕ) (up : Up) → get_or ups i None ≡ Some up → endpoint_index up.ep ≡ k + i) → (n : ℕ) → ((i : ℕ) (up : Up) → get_or ups i None ≡ Some up → test up ≡ true → n ≢ k + i) →
-    get_or (called (zip ids (stops test ups)) c).stopped n None ≡ get_or c.stopped n None
+stopped-elsewhere : (test : Up → Bool) (ids : List ℕ) (k : ℕ) (ups : List (Option Up)) (c : StreamIds) → ((i : ℕ) (up : Up) → get_or ups i None ≡ Some up → endpoint_index up.ep ≡ k + i) → (n : ℕ) → ((i : ℕ) (up : Up) → get_or ups i None ≡ Some up → test up ≡ true → n ≢ k + i) →
+    get_or (stream_ids_after (zip ids (stops test ups)) c).stopped n None ≡ get_or c.stopped n None
 stopped-elsewhere test [] k ups c places n away = refl
 stopped-elsewhere test (id ∷ ids) k [] c places n away = refl
 stopped-elsewhere test (id ∷ ids) k (None ∷ ups) c places n away = stopped-elsewhere test (id ∷ ids) (suc k) ups c (λ i up e. places (suc i) up e ∙ shift k i) n (λ i up e t z. away (suc i) up e t (z ∙ sym (shift k i)))
@@ -89,14 +89,14 @@ stopped-elsewhere test (id ∷ ids) k (Some up ∷ ups) c places n away = go (te
     away' : (i : ℕ) (u : Up) → get_or ups i None ≡ Some u → test u ≡ true → n ≢ suc k + i
     away' i u e t z = away (suc i) u e t (z ∙ sym (shift k i))
 
-    go : (b : Bool) → test up ≡ b → get_or (called (zip ids (stops test ups)) (stopped up.ep id c)).stopped n None ≡ get_or (slice_set c.stopped (endpoint_index up.ep) (Some id)) n None → get_or (called (zip (id ∷ ids) (stops test ups)) c).stopped n None ≡ get_or c.stopped n None →
-        get_or (called (zip (id ∷ ids) (cond b (stop_packet up ∷ []) [] ++ stops test ups)) c).stopped n None ≡ get_or c.stopped n None
+    go : (b : Bool) → test up ≡ b → get_or (stream_ids_after (zip ids (stops test ups)) (stopped up.ep id c)).stopped n None ≡ get_or (slice_set c.stopped (endpoint_index up.ep) (Some id)) n None → get_or (stream_ids_after (zip (id ∷ ids) (stops test ups)) c).stopped n None ≡ get_or c.stopped n None →
+        get_or (stream_ids_after (zip (id ∷ ids) (cond b (stop_packet up ∷ []) [] ++ stops test ups)) c).stopped n None ≡ get_or c.stopped n None
     go true t more skip =
-        ap (λ (d : Calls). get_or (called (zip ids (stops test ups)) d).stopped n None) (stop-calls id up c) ∙ more
+        ap (λ (d : StreamIds). get_or (stream_ids_after (zip ids (stops test ups)) d).stopped n None) (stop-stream_ids id up c) ∙ more
         ∙ get_or-set_other c.stopped (endpoint_index up.ep) n (Some id) None (λ z. away 0 up refl t (z ∙ places 0 up refl))
     go false t more skip = skip
 
-pub unstopped-lower : (test : Up → Bool) (ids : List ℕ) (ups : List (Option Up)) (c : Calls) → Unstopped ups c → Unstopped (lower test ups) (called (zip ids (stops test ups)) c)
+pub unstopped-lower : (test : Up → Bool) (ids : List ℕ) (ups : List (Option Up)) (c : StreamIds) → Unstopped ups c → Unstopped (lower test ups) (stream_ids_after (zip ids (stops test ups)) c)
 unstopped-lower test ids ups c h = record { places = λ i u e. h.places i u (was i u e).0; fresh = λ i e. go i (get_or (lower test ups) i None) refl e }
   where
     was : (i : ℕ) (u : Up) → get_or (lower test ups) i None ≡ Some u → (get_or ups i None ≡ Some u) × (test u ≡ false)
@@ -113,7 +113,7 @@ unstopped-lower test ids ups c h = record { places = λ i u e. h.places i u (was
     plain : (n : ℕ) → n ≡ 0 + n
     plain n = omega arith
 
-    go : (i : ℕ) (o : Option Up) → get_or (lower test ups) i None ≡ o → is_some o ≡ true → get_or (called (zip ids (stops test ups)) c).stopped i None ≡ None
+    go : (i : ℕ) (o : Option Up) → get_or (lower test ups) i None ≡ o → is_some o ≡ true → get_or (stream_ids_after (zip ids (stops test ups)) c).stopped i None ≡ None
     go i None k e = absurd (not-both (sym e))
     go i (Some u) k e =
         let w = was i u k in

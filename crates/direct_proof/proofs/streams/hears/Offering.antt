@@ -128,7 +128,7 @@ module _ {S : Type 0} (m : Meaning S) (laws : IsGadget m) (w : World S) (j : Sha
     asked = rel.asked;
     meets = meets-sent w j (Packed s.kind ep sent.1 ∷ []) refl refl rel.meets;
     debts = rel.debts;
-    controls = λ h. controls-sent w.gate.calls w.to_host j.back (Packed s.kind ep sent.1 ∷ []) refl (tt, tt) (rel.controls h);
+    controls = λ h. controls-sent w.gate.stream_ids w.to_host j.back (Packed s.kind ep sent.1 ∷ []) refl (tt, tt) (rel.controls h);
     fenced = λ h. fenced-sent w.gate.fence j.fenced w.to_host j.back (Packed s.kind ep sent.1 ∷ []) refl (rel.fenced h);
     alone = rel.alone;
     session = λ h k. new-session;

@@ -19,7 +19,7 @@ use Rattle.direct_proof.specs.Tagged.{Tagged, Packed, on_wire, packets_in, is_ki
 use Rattle.direct_proof.specs.Shared.{Shared, way_of, view}
 use Rattle.direct_proof.specs.Requests.{live_of}
 use Rattle.direct_proof.specs.Related.{Related}
-use Rattle.direct_proof.specs.Calls.{Fenced}
+use Rattle.direct_proof.specs.StreamIds.{Fenced}
 use Rattle.direct_proof.specs.Kinds.{IsIn, OfKind}
 use Rattle.direct_proof.specs.Stale.{asks, ends}
 use Rattle.direct_proof.proofs.shared.Keeps.{Keeps, keeps-quiet}

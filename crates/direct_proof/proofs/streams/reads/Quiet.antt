@@ -9,7 +9,7 @@ use Rattle.gate_history.specs.step.Marks.{Submission, Effect, Idle, StreamTold}
 use Rattle.gate_history.specs.client.Submits.{Pending, ByStatus, ends, waits_at}
 use Rattle.gate_history.specs.step.Meaning.{mark_as}
 use Rattle.gate_history.specs.step.Machine.{live_after}
-use Rattle.gate_history.specs.state.Calls.{lifted}
+use Rattle.gate_history.specs.state.StreamIds.{lifted}
 use Rattle.gate_history.specs.write.Answers.{answers_at}
 use Rattle.gate_history.specs.write.Notes.{is_by_answer}
 use Rattle.gate_history.specs.declared.note.Note.TheVariants as note

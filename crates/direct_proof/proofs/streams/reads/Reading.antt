@@ -12,13 +12,13 @@ use Rattle.gate_history.specs.client.Submits.{Pending}
 use Rattle.gate_history.specs.state.State.{submits}
 use Rattle.gate_history.specs.state.Ups.{Up, no_streams}
 use Rattle.gate_history.specs.declared.facts.Facts.{Facts}
-use Rattle.gate_history.proofs.lemmas.state.Calls.{times-append}
+use Rattle.gate_history.proofs.lemmas.state.StreamIds.{times-append}
 use Rattle.direct_run.specs.Moves.{World}
 use Rattle.direct_proof.specs.Requests.{Coming, Debt, debts_of}
 use Rattle.direct_proof.specs.Tagged.{Tagged, Packed, Stated, on_wire, ran_in, runs_in, told}
 use Rattle.direct_proof.specs.Shared.{Shared}
 use Rattle.direct_proof.specs.Related.{Related}
-use Rattle.direct_proof.specs.Calls.{Fenced, statuses_on, status_id}
+use Rattle.direct_proof.specs.StreamIds.{Fenced, statuses_on, status_id}
 use Rattle.direct_proof.specs.Ids.{Ids}
 use Rattle.direct_proof.specs.Kinds.{UpsFit}
 use Rattle.direct_proof.specs.Meets.{is_greeting, is_plug, is_bye}
@@ -95,7 +95,7 @@ module _ {S : Type 0} (m : Meaning S) (w : World S) (j : Shared) (b : Tagged) (b
     debts = λ h. ap (λ (l : List Debt). l ++ debts_of w.gate.abandoned) may.owes ∙ rel.debts h;
     controls = λ h. let c = rel.controls h in record {
       once = λ id. let o = c.once id in let a = times-append id (status_id b) (statuses_on bs) in omega (arith, o, a);
-      calls_kept = c.calls_kept;
+      stream_ids_kept = c.stream_ids_kept;
       statuses_kept = c.statuses_kept.1;
     };
     fenced = λ h. may.fenced-is;

@@ -9,7 +9,7 @@ use Rattle.model_device.specs.Meaning.{Meaning}
 use Rattle.gate_history.specs.state.Ids.{times}
 use Rattle.gate_history.specs.declared.item.Item.TheVariants.{Told}
 use Rattle.gate_history.specs.step.Marks.{StreamTold}
-use Rattle.gate_history.specs.state.Calls.{lifted}
+use Rattle.gate_history.specs.state.StreamIds.{lifted}
 use Rattle.gate_history.specs.state.State.{State}
 use Rattle.gate_history.specs.step.Meaning.{meaning, mark_as, fact_of}
 use Rattle.gate_history.specs.state.Ups.{Up, stream_of}
@@ -19,7 +19,7 @@ use Rattle.redir_data.specs.Sent.{sent_header}
 use Rattle.direct_proof.specs.Tagged.{Tagged, Stated, on_wire}
 use Rattle.direct_proof.specs.Shared.{Shared, way_of, view}
 use Rattle.direct_proof.specs.Related.{Related}
-use Rattle.direct_proof.specs.Calls.{Fenced, statuses_on, calls_on}
+use Rattle.direct_proof.specs.StreamIds.{Fenced, statuses_on, stream_ids_on}
 use Rattle.direct_proof.specs.Stale.{asks, ends}
 use Rattle.direct_proof.proofs.shared.Keeps.{Keeps, keeps-quiet}
 use Rattle.direct_proof.proofs.streams.fills.FillLists.{weight}
@@ -49,7 +49,7 @@ record Lifts (id : ℕ) (fence : Option ℕ) (fenced : Bool) (ps : List (ℕ × 
   asks_same : Each (λ p. asks fence p ≡ asks (lifted id fence) p) ps
   ends_same : Each (λ c. ends fence c ≡ ends (lifted id fence) c) bs
 
-lifts : (id : ℕ) (fence : Option ℕ) (fenced : Bool) (ps : List (ℕ × RedirPacket)) (bs : List Tagged) → ((n : ℕ) → times n (calls_on ps) + times n (id ∷ statuses_on bs) ≤ 1) → (b : Tagged) → statuses_on (b ∷ bs) ≡ id ∷ statuses_on bs → Fenced fence fenced ps (b ∷ bs) → Lifts id fence fenced ps bs
+lifts : (id : ℕ) (fence : Option ℕ) (fenced : Bool) (ps : List (ℕ × RedirPacket)) (bs : List Tagged) → ((n : ℕ) → times n (stream_ids_on ps) + times n (id ∷ statuses_on bs) ≤ 1) → (b : Tagged) → statuses_on (b ∷ bs) ≡ id ∷ statuses_on bs → Fenced fence fenced ps (b ∷ bs) → Lifts id fence fenced ps bs
 lifts id None fenced ps bs once b is h = record { fenced-is = h; asks_same = each-refl (asks None) ps; ends_same = each-refl (ends None) bs }
 lifts id (Some f) fenced ps bs once b is h = by (f == id) refl
   where
@@ -57,11 +57,11 @@ lifts id (Some f) fenced ps bs once b is h = by (f == id) refl
     by true e =
         let o = once f in
         let z : weight (f == id) ≡ weight true = ap weight e in
-        let calls : times f (calls_on ps) ≡ 0 = omega (arith, o, z) in
+        let stream_ids : times f (stream_ids_on ps) ≡ 0 = omega (arith, o, z) in
         let statuses : times f (statuses_on bs) ≡ 0 = omega (arith, o, z) in
         let over : lifted id (Some f) ≡ None = ap (λ (y : Bool). cond y None (Some f)) e in record {
           fenced-is = subst (λ (g : Option ℕ). Fenced g fenced ps bs) (sym over) (low fenced refl);
-          asks_same = subst (λ (g : Option ℕ). Each (λ p. asks (Some f) p ≡ asks g p) ps) (sym over) (all-asks-over f ps calls);
+          asks_same = subst (λ (g : Option ℕ). Each (λ p. asks (Some f) p ≡ asks g p) ps) (sym over) (all-asks-over f ps stream_ids);
           ends_same = subst (λ (g : Option ℕ). Each (λ c. ends (Some f) c ≡ ends g c) bs) (sym over) (all-ends-over f bs statuses);
         }
       where

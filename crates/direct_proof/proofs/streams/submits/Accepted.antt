@@ -6,13 +6,13 @@ use Rattle.usb_base.specs.declared.endpoint.EpRow.{EpRow}
 use Rattle.gate_history.specs.declared.request.Request.{Request}
 use Rattle.gate_history.specs.state.Flight.{wide_ids, ids_of}
 use Rattle.gate_history.specs.state.Ids.{AreFresh, holds, greatest}
-use Rattle.gate_history.specs.state.Calls.{call_ids}
+use Rattle.gate_history.specs.state.StreamIds.{ids_of_streams}
 use Rattle.gate_history.specs.step.Marks.{Submission}
 use Rattle.gate_history.specs.client.Submits.{Pending}
 use Rattle.gate_history.specs.write.Output.{fresh}
 use Rattle.gate_history.specs.state.Sound.{IsSound}
 use Rattle.gate_history.specs.state.State.{State, submits, flying, next_ids, has_number, is_number as has_seq}
-use Rattle.gate_history.proofs.lemmas.state.Calls.{AreLong}
+use Rattle.gate_history.proofs.lemmas.state.StreamIds.{AreLong}
 use Rattle.direct_proof.proofs.shared.New.{next_id}
 use Rattle.direct_proof.specs.Ids.{count}
 use Rattle.direct_proof.proofs.lists.Counts.{count-append, count-zero, any-none}
@@ -23,12 +23,12 @@ use Rattle.direct_proof.proofs.streams.submits.Waits.{waiter, with_waiter}
 -- what is true of every gateway: its laws
 pub record IsGate (st : State) : Type 0 where
   pub sound : IsSound st
-  pub long : AreLong st.calls
+  pub long : AreLong st.stream_ids
   pub fresh : AreFresh (greatest (wide_ids st.agreed)) (flying st) (next_ids st 1)
 
 -- the id that is drawn is that of no start or stop
-pub id-free : (st : State) → IsGate st → holds (call_ids st.calls) (next_id st) ≡ false
-id-free st g = any-back (ids_of (submits st) ++ ids_of st.abandoned) (call_ids st.calls) (next_id st) (g.fresh.free.0)
+pub id-free : (st : State) → IsGate st → holds (ids_of_streams st.stream_ids) (next_id st) ≡ false
+id-free st g = any-back (ids_of (submits st) ++ ids_of st.abandoned) (ids_of_streams st.stream_ids) (next_id st) (g.fresh.free.0)
 
 pub differ-more : (st : State) (r : Request) (row : EpRow) → Differ st.live → has_number st r.number ≡ false → Differ (with_waiter st r row)
 differ-more st r row d new n = go (r.number == n) refl

@@ -9,29 +9,29 @@ use Rattle.redir_data.specs.declared.packet.RedirPacket.{RedirPacket}
 use Rattle.redir_host.specs.declared.running.Running.{Running}
 use Rattle.redir_host.specs.declared.running.StreamKind.{StreamKind}
 use Rattle.model_device.specs.Meaning.{Meaning}
-use Rattle.gate_history.specs.state.Calls.{call_ids}
+use Rattle.gate_history.specs.state.StreamIds.{ids_of_streams}
 use Rattle.gate_history.specs.state.Ids.{holds}
 use Rattle.gate_history.specs.write.Packets.{start_packet}
 use Rattle.gate_history.specs.state.Ups.{Up, stream_of}
-use Rattle.gate_history.proofs.lemmas.state.Calls.{AreLong}
+use Rattle.gate_history.proofs.lemmas.state.StreamIds.{AreLong}
 use Rattle.direct_run.specs.Moves.{World}
 use Rattle.direct_proof.specs.Tagged.{Tagged, Answered, Packed, Stated}
 use Rattle.direct_proof.specs.Shared.{Shared}
 use Rattle.direct_proof.specs.Related.{Related}
 use Rattle.direct_proof.specs.Session.{down_in, runs}
 use Rattle.direct_proof.specs.Kinds.{IsIn, OfKind, TaggedOfKind, StartOfKind}
-use Rattle.direct_proof.specs.Running.{called_endpoint, started_kind, passes, Quits}
+use Rattle.direct_proof.specs.Running.{stream_endpoint, started_kind, passes, Quits}
 use Rattle.direct_proof.specs.Stale.{is_stale, asks}
 use Rattle.direct_proof.proofs.streams.submits.Still.{IsStill}
 use Rattle.direct_proof.proofs.shared.Folds.{clash}
 use Rattle.direct_proof.proofs.streams.wires.Folds.{quits-runs, no-trails}
-use Rattle.direct_proof.proofs.streams.wires.Sorts.{IsCall, Calls_or, is-call}
-use Rattle.direct_proof.proofs.streams.wires.SortsMore.{started-called}
+use Rattle.direct_proof.proofs.streams.wires.Sorts.{IsSwitch, Switches_or, is-switch}
+use Rattle.direct_proof.proofs.streams.wires.SortsMore.{started-stream}
 use Rattle.direct_proof.proofs.streams.wires.UpRows.{set-other, set-here}
 use Rattle.direct_proof.proofs.streams.submits.Starting.{IsStart, is-start}
 
 module _ {S : Type 0} (m : Meaning S) (w : World S) (j : Shared) (ep id : ℕ) (row : EpRow) (rel : Related m w j) (s : IsStill m w j) (h : IsIn ep) (kinds : (row.kind ≡ kind.Iso) ⊎ (row.kind ≡ kind.Interrupt))
-    (same-row : row ≡ row_of (m.table w.host.gadget) ep) (down : stream_of w.gate.streams ep ≡ None) (long : AreLong w.gate.calls) (free : holds (call_ids w.gate.calls) id ≡ false) where
+    (same-row : row ≡ row_of (m.table w.host.gadget) ep) (down : stream_of w.gate.streams ep ≡ None) (long : AreLong w.gate.stream_ids) (free : holds (ids_of_streams w.gate.stream_ids) id ≡ false) where
   abbrev pub up : Up
   up = record { ep = ep; row = row; held = [] }
 
@@ -47,8 +47,8 @@ module _ {S : Type 0} (m : Meaning S) (w : World S) (j : Shared) (ep id : ℕ) (
   pub start : IsStart ep row (start_packet ep row)
   start = is-start ep row kinds
 
-  pub call : IsCall q
-  call = subst (λ (o : Option ℕ). Calls_or o (id, start_packet ep row)) start.called (is-call (id, start_packet ep row))
+  pub switch : IsSwitch q
+  switch = subst (λ (o : Option ℕ). Switches_or o (id, start_packet ep row)) start.stream (is-switch (id, start_packet ep row))
 
   pub up-here : stream_of ups ep ≡ Some up
   up-here = set-here w.gate.streams (Some up) ep h rel.ups.count_is
@@ -103,17 +103,17 @@ module _ {S : Type 0} (m : Meaning S) (w : World S) (j : Shared) (ep id : ℕ) (
       go false i = refl
       go true i = absurd (clash (list_any (asks w.gate.fence) w.to_host) (quits-runs w.gate.fence ep w.to_host (subst (λ (r : Bool). Quits w.gate.fence ep r w.to_host) i (s.session.quits ep was-down))) s.none_asks)
 
-  pub none-called : Each (λ (p : ℕ × RedirPacket). passes (down_in w.gate.streams) (called_endpoint p.1) ≡ false) w.to_host
-  none-called = no-trails w.gate.fence (down_in w.gate.streams) w.to_host s.none_asks s.session.trails
+  pub none-switched : Each (λ (p : ℕ × RedirPacket). passes (down_in w.gate.streams) (stream_endpoint p.1) ≡ false) w.to_host
+  none-switched = no-trails w.gate.fence (down_in w.gate.streams) w.to_host s.none_asks s.session.trails
 
   pub running-kinds : (rs : List Running) → Each (λ (x : Running). (x.ep == ep) ≡ false) rs → Each (λ (x : Running). OfKind (stream_of w.gate.streams x.ep) x.kind) rs → Each (λ (x : Running). OfKind (stream_of ups x.ep) x.kind) rs
   running-kinds [] n f = tt
   running-kinds (x ∷ rs) n f = (kind-other x.ep x.kind n.0 f.0, running-kinds rs n.1 f.1)
 
-  pub start-kinds : (xs : List (ℕ × RedirPacket)) → Each (λ (p : ℕ × RedirPacket). passes (down_in w.gate.streams) (called_endpoint p.1) ≡ false) xs → Each (λ (p : ℕ × RedirPacket). StartOfKind w.gate.streams (started_kind p.1)) xs → Each (λ (p : ℕ × RedirPacket). StartOfKind ups (started_kind p.1)) xs
+  pub start-kinds : (xs : List (ℕ × RedirPacket)) → Each (λ (p : ℕ × RedirPacket). passes (down_in w.gate.streams) (stream_endpoint p.1) ≡ false) xs → Each (λ (p : ℕ × RedirPacket). StartOfKind w.gate.streams (started_kind p.1)) xs → Each (λ (p : ℕ × RedirPacket). StartOfKind ups (started_kind p.1)) xs
   start-kinds [] n f = tt
   start-kinds (p ∷ xs) n f = (go (started_kind p.1) refl f.0, start-kinds xs n.1 f.1)
     where
       go : (o : Option (StreamKind × ℕ)) → started_kind p.1 ≡ o → StartOfKind w.gate.streams o → StartOfKind ups o
       go None e y = tt
-      go (Some z) e y = kind-other z.1 z.0 (fresh-other z.1 (sym (ap (passes (down_in w.gate.streams)) (started-called p.1 z e)) ∙ n.0)) y
+      go (Some z) e y = kind-other z.1 z.0 (fresh-other z.1 (sym (ap (passes (down_in w.gate.streams)) (started-stream p.1 z e)) ∙ n.0)) y

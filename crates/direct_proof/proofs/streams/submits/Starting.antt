@@ -15,15 +15,15 @@ use Rattle.redir_data.specs.declared.packet.RedirPacket.TheVariants.{Plain}
 use Rattle.redir_host.specs.declared.running.StreamKind.{StreamKind}
 use Rattle.redir_host.specs.declared.running.StreamKind.TheVariants.{Iso, Interrupt}
 use Rattle.redir_host.specs.guest.Packets.{can_start, is_kind_of}
-use Rattle.gate_history.specs.state.Calls.{Calls, call_ids, started}
+use Rattle.gate_history.specs.state.StreamIds.{StreamIds, ids_of_streams, started}
 use Rattle.gate_history.specs.state.Ids.{times, holds}
 use Rattle.gate_history.specs.write.Packets.{start_packet}
 use Rattle.gate_history.specs.client.Verdict.{is_iso}
-use Rattle.gate_history.proofs.lemmas.state.Calls.{AreLong, times-append}
+use Rattle.gate_history.proofs.lemmas.state.StreamIds.{AreLong, times-append}
 use Rattle.direct_proof.specs.Tagged.{Tagged, Stated, is_kind}
 use Rattle.direct_proof.specs.Kinds.{IsIn}
-use Rattle.direct_proof.specs.Calls.{IdIsKept, CallIsKept, StatusIsKept, is_id, call_id, calls_on, status_id, statuses_on}
-use Rattle.direct_proof.specs.Running.{called_endpoint, started_kind}
+use Rattle.direct_proof.specs.StreamIds.{IdIsKept, StreamIdIsKept, StatusIsKept, is_id, stream_id, stream_ids_on, status_id, statuses_on}
+use Rattle.direct_proof.specs.Running.{stream_endpoint, started_kind}
 use Rattle.direct_proof.proofs.streams.fills.FillLists.{weight}
 use Rattle.direct_proof.proofs.shared.Folds.{clash, not-both, or-left, or-right, any-append}
 use Rattle.direct_proof.proofs.streams.wires.Folds.{or-either}
@@ -33,7 +33,7 @@ use Rattle.direct_proof.proofs.shared.UpsFound.{in-place, places-differ}
 
 pub record IsStart (ep : ℕ) (row : EpRow) (p : RedirPacket) : Type 0 where
   pub kind : StreamKind
-  pub called : called_endpoint p ≡ Some ep
+  pub stream : stream_endpoint p ≡ Some ep
   pub started-is : started_kind p ≡ Some (kind, ep)
   pub right : is_kind kind (is_iso row.kind) ≡ true
   pub fits : is_kind_of kind row.kind ≡ true
@@ -41,7 +41,7 @@ pub record IsStart (ep : ℕ) (row : EpRow) (p : RedirPacket) : Type 0 where
 start-iso : (ep : ℕ) (row : EpRow) → row.kind ≡ kind.Iso → IsStart ep row (start_packet ep row)
 start-iso ep row h = record {
   kind = Iso;
-  called = ap (λ (k : EpKind). called_endpoint (Plain (cond (is_iso k) (plain.StartIso ep 8 4) (plain.StartInterrupt ep)))) h;
+  stream = ap (λ (k : EpKind). stream_endpoint (Plain (cond (is_iso k) (plain.StartIso ep 8 4) (plain.StartInterrupt ep)))) h;
   started-is = ap (λ (k : EpKind). started_kind (Plain (cond (is_iso k) (plain.StartIso ep 8 4) (plain.StartInterrupt ep)))) h;
   right = ap is_iso h;
   fits = ap (is_kind_of Iso) h;
@@ -50,7 +50,7 @@ start-iso ep row h = record {
 start-interrupt : (ep : ℕ) (row : EpRow) → row.kind ≡ kind.Interrupt → IsStart ep row (start_packet ep row)
 start-interrupt ep row h = record {
   kind = Interrupt;
-  called = ap (λ (k : EpKind). called_endpoint (Plain (cond (is_iso k) (plain.StartIso ep 8 4) (plain.StartInterrupt ep)))) h;
+  stream = ap (λ (k : EpKind). stream_endpoint (Plain (cond (is_iso k) (plain.StartIso ep 8 4) (plain.StartInterrupt ep)))) h;
   started-is = ap (λ (k : EpKind). started_kind (Plain (cond (is_iso k) (plain.StartIso ep 8 4) (plain.StartInterrupt ep)))) h;
   right = ap (λ (k : EpKind). not (is_iso k)) h;
   fits = ap (is_kind_of Interrupt) h;
@@ -84,7 +84,7 @@ held-id id zero (Some x ∷ xs) h = or-left (id == x) (list_any (λ y. id == y) 
 held-id id (suc i) (None ∷ xs) h = held-id id i xs h
 held-id id (suc i) (Some x ∷ xs) h = or-right (id == x) (list_any (λ y. id == y) (flat_map option_to_list xs)) (held-id id i xs h)
 
-pub kept-held : (c : Calls) (id ep : ℕ) → IdIsKept c id ep → holds (call_ids c) id ≡ true
+pub kept-held : (c : StreamIds) (id ep : ℕ) → IdIsKept c id ep → holds (ids_of_streams c) id ≡ true
 kept-held c id ep h = any-append (λ x. id == x) (flat_map option_to_list c.started) (flat_map option_to_list c.stopped) ∙ go (or-either (is_id id (get_or c.started (endpoint_index ep) None)) (is_id id (get_or c.stopped (endpoint_index ep) None)) h)
   where
     go : (is_id id (get_or c.started (endpoint_index ep) None) ≡ true) ⊎ (is_id id (get_or c.stopped (endpoint_index ep) None) ≡ true) → (list_any (λ x. id == x) (flat_map option_to_list c.started) || list_any (λ x. id == x) (flat_map option_to_list c.stopped)) ≡ true
@@ -92,22 +92,22 @@ kept-held c id ep h = any-append (λ x. id == x) (flat_map option_to_list c.star
     go (inr k) = or-right (list_any (λ x. id == x) (flat_map option_to_list c.started)) (list_any (λ x. id == x) (flat_map option_to_list c.stopped)) (held-id id (endpoint_index ep) c.stopped k)
 
 -- an id that is held nowhere is on no wire
-none-here : (c : Calls) (id other ep : ℕ) → holds (call_ids c) id ≡ false → IdIsKept c other ep → (id == other) ≡ false
+none-here : (c : StreamIds) (id other ep : ℕ) → holds (ids_of_streams c) id ≡ false → IdIsKept c other ep → (id == other) ≡ false
 none-here c id other ep free kept = go (id == other) refl
   where
     go : (b : Bool) → (id == other) ≡ b → b ≡ false
-    go true e = let same : id ≡ other = grind (arith, e) in absurd (clash (holds (call_ids c) other) (kept-held c other ep kept) (ap (holds (call_ids c)) (sym same) ∙ free))
+    go true e = let same : id ≡ other = grind (arith, e) in absurd (clash (holds (ids_of_streams c) other) (kept-held c other ep kept) (ap (holds (ids_of_streams c)) (sym same) ∙ free))
     go false e = refl
 
-pub no-calls : (c : Calls) (id : ℕ) → holds (call_ids c) id ≡ false → (ps : List (ℕ × RedirPacket)) → Each (λ (p : ℕ × RedirPacket). CallIsKept c p.0 (called_endpoint p.1)) ps → times id (calls_on ps) ≡ 0
-no-calls c id free [] h = refl
-no-calls c id free (p ∷ ps) h = let rest = no-calls c id free ps h.1 in let a = times-append id (call_id p) (calls_on ps) in let b = go (called_endpoint p.1) h.0 in omega (arith, rest, a, b)
+pub no-stream_id : (c : StreamIds) (id : ℕ) → holds (ids_of_streams c) id ≡ false → (ps : List (ℕ × RedirPacket)) → Each (λ (p : ℕ × RedirPacket). StreamIdIsKept c p.0 (stream_endpoint p.1)) ps → times id (stream_ids_on ps) ≡ 0
+no-stream_id c id free [] h = refl
+no-stream_id c id free (p ∷ ps) h = let rest = no-stream_id c id free ps h.1 in let a = times-append id (stream_id p) (stream_ids_on ps) in let b = go (stream_endpoint p.1) h.0 in omega (arith, rest, a, b)
   where
-    go : (o : Option ℕ) → CallIsKept c p.0 o → times id (cond (is_some o) (p.0 ∷ []) []) ≡ 0
+    go : (o : Option ℕ) → StreamIdIsKept c p.0 o → times id (cond (is_some o) (p.0 ∷ []) []) ≡ 0
     go None k = refl
     go (Some e) k = ap (λ (b : Bool). weight b + 0) (none-here c id p.0 e free k)
 
-pub no-statuses : (c : Calls) (id : ℕ) → holds (call_ids c) id ≡ false → (bs : List Tagged) → Each (StatusIsKept c) bs → times id (statuses_on bs) ≡ 0
+pub no-statuses : (c : StreamIds) (id : ℕ) → holds (ids_of_streams c) id ≡ false → (bs : List Tagged) → Each (StatusIsKept c) bs → times id (statuses_on bs) ≡ 0
 no-statuses c id free [] h = refl
 no-statuses c id free (b ∷ bs) h = let rest = no-statuses c id free bs h.1 in let a = times-append id (status_id b) (statuses_on bs) in let z = go b h.0 in omega (arith, rest, a, z)
   where
@@ -117,11 +117,11 @@ no-statuses c id free (b ∷ bs) h = let rest = no-statuses c id free bs h.1 in 
 
 -- ---- with one start more
 
-pub kept-new : (c : Calls) (id ep : ℕ) → AreLong c → IsIn ep → IdIsKept (started ep id c) id ep
+pub kept-new : (c : StreamIds) (id ep : ℕ) → AreLong c → IsIn ep → IdIsKept (started ep id c) id ep
 kept-new c id ep long h = or-left (is_id id (get_or (slice_set c.started (endpoint_index ep) (Some id)) (endpoint_index ep) None)) _ (ap (is_id id) (get_or-set_same c.started (endpoint_index ep) (Some id) None (subst (λ (n : ℕ). endpoint_index ep < n) (sym long.started) (in-place ep h))) ∙ itself id)
   where
     itself : (n : ℕ) → (n == n) ≡ true
     itself n = grind arith
 
-pub kept-other : (c : Calls) (id ep other e : ℕ) → IsIn ep → IsIn e → (e == ep) ≡ false → IdIsKept c other e → IdIsKept (started ep id c) other e
+pub kept-other : (c : StreamIds) (id ep other e : ℕ) → IsIn ep → IsIn e → (e == ep) ≡ false → IdIsKept c other e → IdIsKept (started ep id c) other e
 kept-other c id ep other e h k apart kept = (λ i. is_id other (get_or-set_other c.started (endpoint_index ep) (endpoint_index e) (Some id) None (places-differ e ep k h apart) i) || is_id other (get_or-set_other c.stopped (endpoint_index ep) (endpoint_index e) None None (places-differ e ep k h apart) i)) ∙ kept

@@ -5,7 +5,7 @@ use Rattle.model_device.specs.Meaning.{Meaning}
 use Rattle.redir_host.specs.guest.Line.{Reset}
 use Rattle.gate_history.specs.state.State.{change_waits}
 use Rattle.direct_run.specs.Moves.{World}
-use Rattle.direct_proof.specs.Calls.{Fenced}
+use Rattle.direct_proof.specs.StreamIds.{Fenced}
 use Rattle.direct_proof.specs.Cancels.{any_change, is_change}
 use Rattle.direct_proof.specs.Meets.{is_announced}
 use Rattle.direct_proof.specs.Related.{Related}

@@ -6,7 +6,7 @@ use Rattle.usb_base.specs.declared.transfer.StreamPacket.{StreamPacket}
 use Rattle.redir_data.specs.declared.packet.RedirPacket.{RedirPacket}
 use Rattle.model_device.specs.Meaning.{Meaning}
 use Rattle.gate_history.specs.declared.request.Request.{Request}
-use Rattle.gate_history.specs.state.Calls.{Calls}
+use Rattle.gate_history.specs.state.StreamIds.{StreamIds}
 use Rattle.gate_history.specs.step.Marks.{Submission}
 use Rattle.gate_history.specs.client.Submits.{Pending}
 use Rattle.gate_history.specs.write.Output.{fresh}
@@ -19,10 +19,10 @@ use Rattle.direct_proof.specs.Shared.{Shared, lines, half_line, at_hosts}
 use Rattle.direct_proof.specs.Tagged.{runs_in}
 use Rattle.direct_proof.specs.Related.{Related}
 use Rattle.direct_proof.specs.Session.{Session}
-use Rattle.direct_proof.specs.Calls.{Controls, Fenced}
-use Rattle.direct_proof.specs.Kinds.{IsIn, TaggedOfKind, CallIsIn, UpsFit}
+use Rattle.direct_proof.specs.StreamIds.{Controls, Fenced}
+use Rattle.direct_proof.specs.Kinds.{IsIn, TaggedOfKind, StreamIsIn, UpsFit}
 use Rattle.direct_proof.specs.Cancels.{CancelsFit, IsAsking, any_change}
-use Rattle.direct_proof.specs.Running.{called_endpoint, Trails}
+use Rattle.direct_proof.specs.Running.{stream_endpoint, Trails}
 use Rattle.direct_proof.specs.Stale.{Clean}
 use Rattle.direct_proof.proofs.shared.Folds.{clash}
 use Rattle.direct_proof.proofs.streams.wires.UpRows.{SameRows, same-down, tagged-rows, kinds-rows, starts-rows, fits-hold, hold-rows}
@@ -33,12 +33,12 @@ use Rattle.direct_proof.proofs.shared.Counted.{ids-named}
 abbrev pub streams_world : {S : Type 0} → World S → List (ℕ × RedirPacket) → List (Option Up) → World S
 streams_world w ps ups = record w { gate = record w.gate { streams = ups }; to_host = ps }
 
--- what is known of the wire to the host, the calls and the streams after the submit
-pub record AfterWait {S : Type 0} (m : Meaning S) (w : World S) (j : Shared) (ps : List (ℕ × RedirPacket)) (calls : Calls) (ups : List (Option Up)) : Type 0 where
+-- what is known of the wire to the host, the ids of starts and stops and the streams after the submit
+pub record AfterWait {S : Type 0} (m : Meaning S) (w : World S) (j : Shared) (ps : List (ℕ × RedirPacket)) (stream_ids : StreamIds) (ups : List (Option Up)) : Type 0 where
   pub tagged : Each (TaggedOfKind ups) j.back
-  pub calls_in : Each (λ (p : ℕ × RedirPacket). CallIsIn (called_endpoint p.1)) ps
+  pub streams_in : Each (λ (p : ℕ × RedirPacket). StreamIsIn (stream_endpoint p.1)) ps
   pub line : half_line j.half ++ lines ps ≡ at_hosts j.coming
-  pub controls : Controls calls ps j.back
+  pub controls : Controls stream_ids ps j.back
   pub fenced-is : Fenced w.gate.fence j.fenced ps j.back
   pub asked : w.host.guest.first ≡ false → Each (λ (p : ℕ × RedirPacket). IsAsking p.1) ps
   pub cancels : CancelsFit j.held ps j.coming
@@ -46,10 +46,10 @@ pub record AfterWait {S : Type 0} (m : Meaning S) (w : World S) (j : Shared) (ps
   pub fits : UpsFit ups
 
 -- with other packets held
-pub after-held : {S : Type 0} (m : Meaning S) (w : World S) (j : Shared) (ps : List (ℕ × RedirPacket)) (calls : Calls) (ups : List (Option Up)) (ep : ℕ) (packets : List StreamPacket) → IsIn ep → AfterWait m w j ps calls ups → AfterWait m w j ps calls (hold ep packets ups)
-after-held m w j ps calls ups ep packets h a = record {
+pub after-held : {S : Type 0} (m : Meaning S) (w : World S) (j : Shared) (ps : List (ℕ × RedirPacket)) (stream_ids : StreamIds) (ups : List (Option Up)) (ep : ℕ) (packets : List StreamPacket) → IsIn ep → AfterWait m w j ps stream_ids ups → AfterWait m w j ps stream_ids (hold ep packets ups)
+after-held m w j ps stream_ids ups ep packets h a = record {
   tagged = tagged-rows ups (hold ep packets ups) rows j.back a.tagged;
-  calls_in = a.calls_in;
+  streams_in = a.streams_in;
   line = a.line;
   controls = a.controls;
   fenced-is = a.fenced-is;
@@ -88,14 +88,14 @@ debts-waiter st r row (p ∷ ps) =
 
 -- ---- all together
 
-pub waits-related : {S : Type 0} (m : Meaning S) (w : World S) (j : Shared) (r : Request) (row : EpRow) → Related m w j → w.gate.imported ≡ true → w.gate.lost ≡ false → AfterWait m w j (waits_world w r row).to_host (waits_world w r row).gate.calls (waits_world w r row).gate.streams → Related m (waits_world w r row) j
+pub waits-related : {S : Type 0} (m : Meaning S) (w : World S) (j : Shared) (r : Request) (row : EpRow) → Related m w j → w.gate.imported ≡ true → w.gate.lost ≡ false → AfterWait m w j (waits_world w r row).to_host (waits_world w r row).gate.stream_ids (waits_world w r row).gate.streams → Related m (waits_world w r row) j
 waits-related {S = S} m w j r row rel imported there a = record {
   line = record {
     held = rel.line.held;
     half = rel.line.half;
     coming = a.line;
     loads = rel.line.loads;
-    calls_in = a.calls_in;
+    streams_in = a.streams_in;
     cancels = a.cancels;
     behind = rel.line.behind;
   };

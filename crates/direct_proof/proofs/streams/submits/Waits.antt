@@ -27,7 +27,7 @@ use Rattle.gate_history.specs.write.Packets.{starts}
 use Rattle.gate_history.specs.step.Meaning.{meaning, mark_as, refused, by_stream, accepts, accepted_as, submission, drawn_for, verdict_of, waiting}
 use Rattle.gate_history.specs.step.Machine.{live_after}
 use Rattle.gate_history.specs.write.Output.{fresh}
-use Rattle.gate_history.specs.state.Calls.{called}
+use Rattle.gate_history.specs.state.StreamIds.{stream_ids_after}
 use Rattle.gate_history.specs.write.Notes.{notes_of, is_by_answer}
 use Rattle.gate_history.specs.declared.note.Note.{Note}
 use Rattle.gate_history.specs.declared.note.Note.TheVariants as note
@@ -89,7 +89,7 @@ waits_world w r row = record w {
     items = suc w.gate.items;
     live = stay_by r.transfer.ep (fill_for w.gate r row).fillings (with_waiter w.gate r row);
     streams = hold r.transfer.ep (fill_for w.gate r row).left (raise (record { ep = r.transfer.ep; row = row; held = [] }) w.gate.streams);
-    calls = called (sent_for w.gate r row) w.gate.calls;
+    stream_ids = stream_ids_after (sent_for w.gate r row) w.gate.stream_ids;
     last = last_of w.gate.last (next_ids w.gate (length (starts (stream_at w.gate.streams r.transfer.ep) r.transfer.ep row)));
   };
   to_host = w.to_host ++ sent_for w.gate r row;

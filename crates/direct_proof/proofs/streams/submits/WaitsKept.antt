@@ -18,7 +18,7 @@ use Rattle.gate_history.specs.declared.verdict.Verdict.TheVariants.{Stream}
 use Rattle.gate_history.specs.client.Verdict.{verdict, changes}
 use Rattle.gate_history.specs.host.Fillings.{Fill}
 use Rattle.gate_history.specs.state.Flight.{wide_bulk}
-use Rattle.gate_history.specs.state.Calls.{Calls, called, started}
+use Rattle.gate_history.specs.state.StreamIds.{StreamIds, stream_ids_after, started}
 use Rattle.gate_history.specs.step.Marks.{Submission}
 use Rattle.gate_history.specs.client.Submits.{Pending}
 use Rattle.gate_history.specs.write.Output.{fresh}
@@ -27,7 +27,7 @@ use Rattle.gate_history.specs.write.Packets.{starts, start_packet}
 use Rattle.gate_history.specs.step.Meaning.{mark_as, by_stream, verdict_of}
 use Rattle.gate_history.specs.state.Ups.{Up, stream_at, stream_of, hold, raise, held_of}
 use Rattle.gate_history.proofs.lemmas.Lists.{list_any-map}
-use Rattle.gate_history.proofs.lemmas.state.Calls.{start-calls}
+use Rattle.gate_history.proofs.lemmas.state.StreamIds.{start-stream_ids}
 use Rattle.direct_proof.proofs.shared.New.{next_id}
 use Rattle.direct_device.specs.Direct.{Live, Direct, is_number, way_if}
 use Rattle.direct_device.specs.Acting.{Submit, Answer, made_of}
@@ -93,7 +93,7 @@ module _ {S : Type 0} (m : Meaning S) (w : World S) (j : Shared) (place : ℕ) (
 
   -- what the two cases have in common
   module _ (row : EpRow) (kept : by_stream (stream_at w.gate.streams ep) (Stream first) ≡ Stream row) (ups : List (Option Up)) (raise-is : raise (record { ep = ep; row = row; held = [] }) w.gate.streams ≡ ups)
-      (after : AfterWait m w j (w.to_host ++ sent_for w.gate r row) (called (sent_for w.gate r row) w.gate.calls) ups) (full : Holds ups ep row.max_packet (held_of (stream_at w.gate.streams ep)))
+      (after : AfterWait m w j (w.to_host ++ sent_for w.gate r row) (stream_ids_after (sent_for w.gate r row) w.gate.stream_ids) ups) (full : Holds ups ep row.max_packet (held_of (stream_at w.gate.streams ep)))
       (ways : (e : ℕ) → way_if (stream_of ups e) (way_of (stream_of w.gate.streams e) e j.back) ≡ way_of (stream_of ups e) e j.back) where
     abbrev f : Fill
     f = fill_for w.gate r row
@@ -111,8 +111,8 @@ module _ {S : Type 0} (m : Meaning S) (w : World S) (j : Shared) (place : ℕ) (
 
     related : Related m (waits_world w r row) j
     related = waits-related m w j r row rel imported facts.here
-        (subst (λ (us : List (Option Up)). AfterWait m w j (w.to_host ++ sent_for w.gate r row) (called (sent_for w.gate r row) w.gate.calls) (hold ep f.left us)) (sym raise-is)
-        (after-held m w j (w.to_host ++ sent_for w.gate r row) (called (sent_for w.gate r row) w.gate.calls) ups ep f.left at after))
+        (subst (λ (us : List (Option Up)). AfterWait m w j (w.to_host ++ sent_for w.gate r row) (stream_ids_after (sent_for w.gate r row) w.gate.stream_ids) (hold ep f.left us)) (sym raise-is)
+        (after-held m w j (w.to_host ++ sent_for w.gate r row) (stream_ids_after (sent_for w.gate r row) w.gate.stream_ids) ups ep f.left at after))
 
     filled : DoesFill m (waited d r row) ep ps f
     filled = does-fill m (waited d r row) ep row.max_packet ps (held_of (stream_at w.gate.streams ep)) (inl imported) (sym (map-append live_of w.gate.live (fresh (waiter w.gate r row) ∷ []))) (differ-more w.gate r row (differ-of w.gate gate.sound) new)
@@ -147,9 +147,9 @@ module _ {S : Type 0} (m : Meaning S) (w : World S) (j : Shared) (place : ℕ) (
       sent : sent_for w.gate r up.row ≡ []
       sent = λ i. zip (next_ids w.gate (length (starts (here i) ep up.row))) (starts (here i) ep up.row)
 
-      after : AfterWait m w j (w.to_host ++ sent_for w.gate r up.row) (called (sent_for w.gate r up.row) w.gate.calls) w.gate.streams
-      after = subst (λ (l : List (ℕ × RedirPacket)). AfterWait m w j (w.to_host ++ l) (called l w.gate.calls) w.gate.streams) (sym sent)
-          (subst (λ (l : List (ℕ × RedirPacket)). AfterWait m w j l w.gate.calls w.gate.streams) (sym (append-nil w.to_host)) (after-kept m w j rel facts.here still.session))
+      after : AfterWait m w j (w.to_host ++ sent_for w.gate r up.row) (stream_ids_after (sent_for w.gate r up.row) w.gate.stream_ids) w.gate.streams
+      after = subst (λ (l : List (ℕ × RedirPacket)). AfterWait m w j (w.to_host ++ l) (stream_ids_after l w.gate.stream_ids) w.gate.streams) (sym sent)
+          (subst (λ (l : List (ℕ × RedirPacket)). AfterWait m w j l w.gate.stream_ids w.gate.streams) (sym (append-nil w.to_host)) (after-kept m w j rel facts.here still.session))
 
   -- one that is down
   abbrev up1 : Up
@@ -169,15 +169,15 @@ module _ {S : Type 0} (m : Meaning S) (w : World S) (j : Shared) (place : ℕ) (
       row-is : first ≡ row_of (m.table w.host.gadget) ep
       row-is = facts.row-is ∙ same-row
 
-      raised-fits : AfterWait m w j (w.to_host ++ (next_id w.gate, start_packet ep first) ∷ []) (started ep (next_id w.gate) w.gate.calls) (slice_set w.gate.streams (endpoint_index ep) (Some (record { ep = ep; row = first; held = [] })))
+      raised-fits : AfterWait m w j (w.to_host ++ (next_id w.gate, start_packet ep first) ∷ []) (started ep (next_id w.gate) w.gate.stream_ids) (slice_set w.gate.streams (endpoint_index ep) (Some (record { ep = ep; row = first; held = [] })))
       raised-fits = after-raised m w j ep (next_id w.gate) first rel still at facts.kind_is row-is down gate.long (id-free w.gate gate)
 
       sent : sent_for w.gate r first ≡ (next_id w.gate, start_packet ep first) ∷ []
       sent = λ i. zip (next_ids w.gate (length (starts (here i) ep first))) (starts (here i) ep first)
 
-      after : AfterWait m w j (w.to_host ++ sent_for w.gate r first) (called (sent_for w.gate r first) w.gate.calls) (slice_set w.gate.streams (endpoint_index ep) (Some (record { ep = ep; row = first; held = [] })))
-      after = subst (λ (l : List (ℕ × RedirPacket)). AfterWait m w j (w.to_host ++ l) (called l w.gate.calls) (slice_set w.gate.streams (endpoint_index ep) (Some (record { ep = ep; row = first; held = [] })))) (sym sent)
-          (subst (λ (c : Calls). AfterWait m w j (w.to_host ++ (next_id w.gate, start_packet ep first) ∷ []) c (slice_set w.gate.streams (endpoint_index ep) (Some (record { ep = ep; row = first; held = [] })))) (sym (start-calls (next_id w.gate) ep first w.gate.calls)) raised-fits)
+      after : AfterWait m w j (w.to_host ++ sent_for w.gate r first) (stream_ids_after (sent_for w.gate r first) w.gate.stream_ids) (slice_set w.gate.streams (endpoint_index ep) (Some (record { ep = ep; row = first; held = [] })))
+      after = subst (λ (l : List (ℕ × RedirPacket)). AfterWait m w j (w.to_host ++ l) (stream_ids_after l w.gate.stream_ids) (slice_set w.gate.streams (endpoint_index ep) (Some (record { ep = ep; row = first; held = [] })))) (sym sent)
+          (subst (λ (c : StreamIds). AfterWait m w j (w.to_host ++ (next_id w.gate, start_packet ep first) ∷ []) c (slice_set w.gate.streams (endpoint_index ep) (Some (record { ep = ep; row = first; held = [] })))) (sym (start-stream_ids (next_id w.gate) ep first w.gate.stream_ids)) raised-fits)
 
   pub keep-waits : Keeps m w j (move m w (ByClient (Asked place (Urb (urb.Submit s)))))
   keep-waits = by (stream_at w.gate.streams ep) refl

@@ -6,7 +6,7 @@ use Rattle.redir_data.specs.declared.packet.RedirPacket.{RedirPacket}
 use Rattle.direct_proof.specs.Requests.{Entry}
 use Rattle.direct_proof.specs.Tagged.{Tagged}
 use Rattle.direct_proof.specs.Stale.{Clean, asks, ends, is_stale}
-use Rattle.direct_proof.specs.Running.{Quits, Trails, StartsFit, runs_after, called_endpoint, passes}
+use Rattle.direct_proof.specs.Running.{Quits, Trails, StartsFit, runs_after, stream_endpoint, passes}
 use Rattle.direct_proof.specs.Cancels.{CancelsFit, moved, left, begins, is_cancel}
 use Rattle.direct_proof.proofs.streams.wires.Sorts.{runs-less, runs-same, is_for_endpoint}
 use Rattle.direct_proof.proofs.shared.Folds.{any-append, clash, not-both, or-assoc, or-false, or-left, or-none}
@@ -57,7 +57,7 @@ quits-off fence ep true ps h = quits-low fence ep ps h
 quits-off fence ep false ps h = h
 
 -- one packet more, of another endpoint
-pub quits-more : (fence : Option ℕ) (ep : ℕ) (r : Bool) (ps : List (ℕ × RedirPacket)) (q : ℕ × RedirPacket) → is_for_endpoint ep (called_endpoint q.1) ≡ false → Quits fence ep r ps → Quits fence ep r (ps ++ q ∷ [])
+pub quits-more : (fence : Option ℕ) (ep : ℕ) (r : Bool) (ps : List (ℕ × RedirPacket)) (q : ℕ × RedirPacket) → is_for_endpoint ep (stream_endpoint q.1) ≡ false → Quits fence ep r ps → Quits fence ep r (ps ++ q ∷ [])
 quits-more fence ep true [] q k h = absurd (not-both h)
 quits-more fence ep false [] q k h = ((λ e. absurd (not-both (sym e))), runs-same ep q.1 false k)
 quits-more fence ep r (p ∷ ps) q k h = (
@@ -81,17 +81,17 @@ passes-less down down' h (Some e) k = h e k
 
 pub trails-weaker : (fence : Option ℕ) (down down' : ℕ → Bool) → ((e : ℕ) → down' e ≡ true → down e ≡ true) → (ps : List (ℕ × RedirPacket)) → Trails fence down ps → Trails fence down' ps
 trails-weaker fence down down' w [] h = tt
-trails-weaker fence down down' w (p ∷ ps) h = ((λ e. h.0 (passes-less down down' w (called_endpoint p.1) e)), trails-weaker fence down down' w ps h.1)
+trails-weaker fence down down' w (p ∷ ps) h = ((λ e. h.0 (passes-less down down' w (stream_endpoint p.1) e)), trails-weaker fence down down' w ps h.1)
 
 pub trails-fence : (a b : Option ℕ) (down : ℕ → Bool) (ps : List (ℕ × RedirPacket)) → Each (λ p. asks a p ≡ asks b p) ps → Trails a down ps → Trails b down ps
 trails-fence a b down [] h k = tt
 trails-fence a b down (p ∷ ps) h k = ((λ e. sym (any-same (asks a) (asks b) (p ∷ ps) h) ∙ k.0 e), trails-fence a b down ps h.1 k.1)
 
-pub no-trails : (fence : Option ℕ) (down : ℕ → Bool) (ps : List (ℕ × RedirPacket)) → list_any (asks fence) ps ≡ false → Trails fence down ps → Each (λ (p : ℕ × RedirPacket). passes down (called_endpoint p.1) ≡ false) ps
+pub no-trails : (fence : Option ℕ) (down : ℕ → Bool) (ps : List (ℕ × RedirPacket)) → list_any (asks fence) ps ≡ false → Trails fence down ps → Each (λ (p : ℕ × RedirPacket). passes down (stream_endpoint p.1) ≡ false) ps
 no-trails fence down [] h k = tt
-no-trails fence down (p ∷ ps) h k = (go (passes down (called_endpoint p.1)) refl, no-trails fence down ps (or-none (asks fence p) (list_any (asks fence) ps) h).1 k.1)
+no-trails fence down (p ∷ ps) h k = (go (passes down (stream_endpoint p.1)) refl, no-trails fence down ps (or-none (asks fence p) (list_any (asks fence) ps) h).1 k.1)
   where
-    go : (b : Bool) → passes down (called_endpoint p.1) ≡ b → b ≡ false
+    go : (b : Bool) → passes down (stream_endpoint p.1) ≡ b → b ≡ false
     go true e = absurd (clash (list_any (asks fence) (p ∷ ps)) (k.0 e) h)
     go false e = refl
 

@@ -16,7 +16,7 @@ use Rattle.direct_device.specs.Direct.{way_if}
 use Rattle.direct_proof.specs.Requests.{Coming}
 use Rattle.direct_proof.specs.Tagged.{Tagged, Packed, Stated, on_wire, runs_in, ran_in, told, packets_in, is_kind}
 use Rattle.direct_proof.specs.Shared.{way_of}
-use Rattle.direct_proof.specs.Calls.{Fenced, statuses_on}
+use Rattle.direct_proof.specs.StreamIds.{Fenced, statuses_on}
 use Rattle.direct_proof.specs.Kinds.{OfKind}
 use Rattle.direct_proof.proofs.shared.Backs.{told-append}
 use Rattle.direct_proof.proofs.shared.WireBack.{runs_in-append, packets_in-append}

@@ -16,11 +16,11 @@ use Rattle.direct_proof.specs.Tagged.{Tagged}
 use Rattle.direct_proof.specs.Shared.{lines, in_line, half_line, at_hosts}
 use Rattle.direct_proof.specs.Stale.{asks, is_fence}
 use Rattle.direct_proof.specs.Cancels.{any_change, is_change}
-use Rattle.direct_proof.specs.Calls.{Fenced, calls_on, call_id}
+use Rattle.direct_proof.specs.StreamIds.{Fenced, stream_ids_on, stream_id}
 use Rattle.direct_proof.proofs.streams.wires.Sorts.{line_changes, form_changes, asks-parts}
 use Rattle.direct_proof.proofs.shared.Folds.{not-both, or-left, or-right, any-append}
 use Rattle.direct_proof.proofs.streams.wires.Folds.{or-either}
-use Rattle.gate_history.proofs.lemmas.state.Calls.{times-append}
+use Rattle.gate_history.proofs.lemmas.state.StreamIds.{times-append}
 
 -- ---- changes
 
@@ -72,18 +72,18 @@ coming-changes (e ∷ es) h = go (coming-changes es) (or-either (list_any line_c
 
 abbrev pub Stops : Option ℕ → List (ℕ × RedirPacket) → Type 0
 Stops None ps = ⊥
-Stops (Some fence) ps = 1 ≤ times fence (calls_on ps)
+Stops (Some fence) ps = 1 ≤ times fence (stream_ids_on ps)
 
-stops-here : (fence : Option ℕ) (q : ℕ × RedirPacket) (ps : List (ℕ × RedirPacket)) → is_fence fence q.0 ≡ true → call_id q ≡ q.0 ∷ [] → Stops fence (q ∷ ps)
+stops-here : (fence : Option ℕ) (q : ℕ × RedirPacket) (ps : List (ℕ × RedirPacket)) → is_fence fence q.0 ≡ true → stream_id q ≡ q.0 ∷ [] → Stops fence (q ∷ ps)
 stops-here None q ps h k = absurd (not-both (sym h))
 stops-here (Some f) q ps h k =
-    let a = times-append f (call_id q) (calls_on ps) in
-    let b : times f (call_id q) ≡ 1 = ap (times f) k ∙ (λ i. cond (h i) 1 0 + 0) in
+    let a = times-append f (stream_id q) (stream_ids_on ps) in
+    let b : times f (stream_id q) ≡ 1 = ap (times f) k ∙ (λ i. cond (h i) 1 0 + 0) in
     omega (arith, a, b)
 
 stops-later : (fence : Option ℕ) (q : ℕ × RedirPacket) (ps : List (ℕ × RedirPacket)) → Stops fence ps → Stops fence (q ∷ ps)
 stops-later None q ps h = h
-stops-later (Some f) q ps h = let a = times-append f (call_id q) (calls_on ps) in omega (arith, a, h)
+stops-later (Some f) q ps h = let a = times-append f (stream_id q) (stream_ids_on ps) in omega (arith, a, h)
 
 pub asked-by : (fence : Option ℕ) (ps : List (ℕ × RedirPacket)) → list_any (asks fence) ps ≡ true → (list_any line_changes (lines ps) ≡ true) ⊎ Stops fence ps
 asked-by fence [] h = absurd (not-both (sym h))
@@ -92,7 +92,7 @@ asked-by fence (q ∷ ps) h = go (asked-by fence ps) (or-either (asks fence q) (
     lined : Bool
     lined = list_any line_changes (lines ps)
 
-    in-front : (list_any line_changes (in_line q) ≡ true) ⊎ ((is_fence fence q.0 ≡ true) × (call_id q ≡ q.0 ∷ [])) → (list_any line_changes (lines (q ∷ ps)) ≡ true) ⊎ Stops fence (q ∷ ps)
+    in-front : (list_any line_changes (in_line q) ≡ true) ⊎ ((is_fence fence q.0 ≡ true) × (stream_id q ≡ q.0 ∷ [])) → (list_any line_changes (lines (q ∷ ps)) ≡ true) ⊎ Stops fence (q ∷ ps)
     in-front (inl k) = inl (any-append line_changes (in_line q) (lines ps) ∙ or-left (list_any line_changes (in_line q)) (list_any line_changes (lines ps)) k)
     in-front (inr k) = inr (stops-here fence q ps k.0 k.1)
 

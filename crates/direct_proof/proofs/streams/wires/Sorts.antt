@@ -9,8 +9,8 @@ use Rattle.redir_host.specs.declared.request.Form.TheVariants as form
 use Rattle.redir_host.specs.guest.Line.{Waiting as InLine, Reset, Waits}
 use Rattle.direct_proof.specs.Shared.{in_line}
 use Rattle.direct_proof.specs.Stale.{asks, is_fence}
-use Rattle.direct_proof.specs.Running.{runs_after, called_endpoint, started_kind}
-use Rattle.direct_proof.specs.Calls.{call_id}
+use Rattle.direct_proof.specs.Running.{runs_after, stream_endpoint, started_kind}
+use Rattle.direct_proof.specs.StreamIds.{stream_id}
 use Rattle.direct_proof.specs.Cancels.{begins, is_cancel}
 
 -- ---- what stands in line
@@ -28,7 +28,7 @@ no : false ≡ true → ⊥
 no e = cc
 
 -- what asks is a change that is put in line, or the fence's stop
-pub asks-parts : (fence : Option ℕ) (q : ℕ × RedirPacket) → asks fence q ≡ true → (list_any line_changes (in_line q) ≡ true) ⊎ ((is_fence fence q.0 ≡ true) × (call_id q ≡ q.0 ∷ []))
+pub asks-parts : (fence : Option ℕ) (q : ℕ × RedirPacket) → asks fence q ≡ true → (list_any line_changes (in_line q) ≡ true) ⊎ ((is_fence fence q.0 ≡ true) × (stream_id q ≡ q.0 ∷ []))
 asks-parts fence (id, Plain plain.Reset) h = inl refl
 asks-parts fence (id, Plain (plain.SetConfiguration c)) h = inl refl
 asks-parts fence (id, Plain (plain.SetAlt i a)) h = inl refl
@@ -40,26 +40,26 @@ asks-parts fence (id, Carrying d) h = absurd (no h)
 -- ---- starts and stops
 
 -- a start or stop puts nothing in line, is no cancel, and asks as the fence's stop alone
-pub record IsCall (q : ℕ × RedirPacket) : Type 0 where
+pub record IsSwitch (q : ℕ × RedirPacket) : Type 0 where
   pub endpoint : ℕ
-  pub at : called_endpoint q.1 ≡ Some endpoint
-  pub id : call_id q ≡ q.0 ∷ []
+  pub at : stream_endpoint q.1 ≡ Some endpoint
+  pub id : stream_id q ≡ q.0 ∷ []
   pub line : in_line q ≡ []
   pub first : begins q.1 ≡ false
   pub no_cancel : is_cancel q.1 ≡ false
   pub no_change : asks None q ≡ false
 
-abbrev pub Calls_or : Option ℕ → ℕ × RedirPacket → Type 0
-Calls_or None q = (call_id q ≡ []) × (started_kind q.1 ≡ None)
-Calls_or (Some e) q = IsCall q
+abbrev pub Switches_or : Option ℕ → ℕ × RedirPacket → Type 0
+Switches_or None q = (stream_id q ≡ []) × (started_kind q.1 ≡ None)
+Switches_or (Some e) q = IsSwitch q
 
-pub is-call : (q : ℕ × RedirPacket) → Calls_or (called_endpoint q.1) q
-is-call (id, Plain (plain.StartIso e n k)) = record { endpoint = e; at = refl; id = refl; line = refl; first = refl; no_cancel = refl; no_change = refl }
-is-call (id, Plain (plain.StopIso e)) = record { endpoint = e; at = refl; id = refl; line = refl; first = refl; no_cancel = refl; no_change = refl }
-is-call (id, Plain (plain.StartInterrupt e)) = record { endpoint = e; at = refl; id = refl; line = refl; first = refl; no_cancel = refl; no_change = refl }
-is-call (id, Plain (plain.StopInterrupt e)) = record { endpoint = e; at = refl; id = refl; line = refl; first = refl; no_cancel = refl; no_change = refl }
-is-call (id, Plain _) = (refl, refl)
-is-call (id, Carrying d) = (refl, refl)
+pub is-switch : (q : ℕ × RedirPacket) → Switches_or (stream_endpoint q.1) q
+is-switch (id, Plain (plain.StartIso e n k)) = record { endpoint = e; at = refl; id = refl; line = refl; first = refl; no_cancel = refl; no_change = refl }
+is-switch (id, Plain (plain.StopIso e)) = record { endpoint = e; at = refl; id = refl; line = refl; first = refl; no_cancel = refl; no_change = refl }
+is-switch (id, Plain (plain.StartInterrupt e)) = record { endpoint = e; at = refl; id = refl; line = refl; first = refl; no_cancel = refl; no_change = refl }
+is-switch (id, Plain (plain.StopInterrupt e)) = record { endpoint = e; at = refl; id = refl; line = refl; first = refl; no_cancel = refl; no_change = refl }
+is-switch (id, Plain _) = (refl, refl)
+is-switch (id, Carrying d) = (refl, refl)
 
 started : (b : Bool) → cond b true true ≡ false → cond b true false ≡ false
 started true h = h
@@ -83,7 +83,7 @@ abbrev pub is_for_endpoint : ℕ → Option ℕ → Bool
 is_for_endpoint ep None = false
 is_for_endpoint ep (Some e) = e == ep
 
-pub runs-same : (ep : ℕ) (p : RedirPacket) (r : Bool) → is_for_endpoint ep (called_endpoint p) ≡ false → runs_after ep p r ≡ r
+pub runs-same : (ep : ℕ) (p : RedirPacket) (r : Bool) → is_for_endpoint ep (stream_endpoint p) ≡ false → runs_after ep p r ≡ r
 runs-same ep (Plain (plain.StartIso e n k)) r h = ap (λ (b : Bool). cond b true r) h
 runs-same ep (Plain (plain.StopIso e)) r h = ap (λ (b : Bool). cond b false r) h
 runs-same ep (Plain (plain.StartInterrupt e)) r h = ap (λ (b : Bool). cond b true r) h

@@ -24,7 +24,7 @@ use Rattle.gate_history.specs.step.Marks.{Submission, Effect, Opens}
 use Rattle.gate_history.specs.client.Submits.{Pending, ByStatus, at_once, ends, is_touched}
 use Rattle.gate_history.specs.state.Ids.{last_of}
 use Rattle.gate_history.specs.state.Ups.{lower, is_ended}
-use Rattle.gate_history.specs.state.Calls.{called}
+use Rattle.gate_history.specs.state.StreamIds.{stream_ids_after}
 use Rattle.gate_history.specs.state.State.{State}
 use Rattle.gate_history.specs.write.Packets.{packets_of}
 use Rattle.gate_history.specs.step.Meaning.{mark_as, drawn_for, submission}
@@ -109,7 +109,7 @@ module _ (st : State) (sound : IsSound st) (q : Request) (r : Route) where
       new ≡ record old {
         lives = record { live = filter (λ l. not (touched_by r l)) old.lives.live ++ row (fresh change) ∷ []; abandoned = old.lives.abandoned };
         streams = lower (is_ended (Some r)) old.streams;
-        calls = called (zip (drawn_for st q (Routed r)) (packets_of st.streams (Routed r) q)) old.calls;
+        stream_ids = stream_ids_after (zip (drawn_for st q (Routed r)) (packets_of st.streams (Routed r) q)) old.stream_ids;
         last = last_of old.last (drawn_for st q (Routed r));
         answered = capped (old.answered + length (filter (touched_by r) old.lives.live));
       } →

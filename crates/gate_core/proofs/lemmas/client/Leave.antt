@@ -20,12 +20,12 @@ use Rattle.gate_history.specs.state.Sides.{refused_at, leaves, is_loss, closes_h
 use Rattle.gate_history.specs.client.Submits.{Pending, is_answered}
 use Rattle.std.proofs.lemmas.Grind.{flat_map-append}
 use Rattle.redir_data.specs.declared.packet.RedirPacket.{RedirPacket}
-use Rattle.gate_parts.specs.declared.state.calls.Called.{Called}
+use Rattle.gate_parts.specs.declared.state.stream_ids.SentIds.{SentIds}
 use Rattle.gate_history.specs.state.Ups.{no_streams, is_ended, moved_streams}
 use Rattle.gate_history.specs.write.Packets.{stops, asked_packets}
-use Rattle.gate_history.specs.state.Calls.{called, moved_fence}
+use Rattle.gate_history.specs.state.StreamIds.{stream_ids_after, moved_fence}
 use Rattle.gate_history.specs.state.Ids.{last_of}
-use Rattle.gate_core.specs.inner.Calls.{HasParted}
+use Rattle.gate_core.specs.inner.SentIds.{HasParted}
 use Rattle.gate_history.specs.state.State.{State, submits}
 use Rattle.gate_history.specs.client.Verdict.{is_wire, goes_by_id}
 use Rattle.gate_history.specs.step.Meaning.{mark_as, drawn_by}
@@ -79,7 +79,7 @@ module _ (st : State) (e : Effect) (over : is_quiet e ≡ false) (gone : leaves 
   left-answers = (λ i. o.silent i ++ answered st e) ∙ leaving-answered st e gone
 
   -- what is kept, sent and told
-  pub does-leave : (c : Called) (old new : Kept) (out : Outputs) (host_new : List ℕ) (notes_new : List Note) → Holds old st → old.answered ≤ 2 ^ 64 - 1 → old.unlinked ≤ 2 ^ 64 - 1 → HasParted st e c →
+  pub does-leave : (c : SentIds) (old new : Kept) (out : Outputs) (host_new : List ℕ) (notes_new : List Note) → Holds old st → old.answered ≤ 2 ^ 64 - 1 → old.unlinked ≤ 2 ^ 64 - 1 → HasParted st e c →
       new ≡ record (left_by c old) { client_over = turned refuses_client ends_client e old.client_over } →
       host_new ≡ out.to_host ++ (flat_map (cancel_bytes old.caps) old.lives.live ++ flat_map (host_packet_bytes old.caps) (zip (drawn_by st e) (asked_packets st.streams e))) →
       notes_new ≡ out.notes ++ (when (not old.client_over) note.ClientGone ++ refusal_notes (refused_at e)) →
@@ -97,7 +97,7 @@ module _ (st : State) (e : Effect) (over : is_quiet e ≡ false) (gone : leaves 
         client_over = turned refuses_client ends_client e old.client_over;
         host_over = cond (sym lost.1 i) true old.host_over;
         streams = cond (sym gone i || is_loss e) no_streams (moved_streams e old.streams);
-        calls = (parted.calls ∙ ap (called asking) (sym h.calls)) i;
+        stream_ids = (parted.stream_ids ∙ ap (stream_ids_after asking) (sym h.stream_ids)) i;
         fence = (parted.fence ∙ (λ j. cond (sym gone j) (last_or (sym h.fence j) (drawn_by st e)) (cond (is_loss e) None (moved_fence e (sym h.fence j))))) i;
         last = (parted.last ∙ ap (λ (n : ℕ). last_of n (drawn_by st e)) (sym h.last)) i;
         answered = (capped-same old.answered answered_fits ∙ ap (λ (ps : List ClientPacket). capped (old.answered + length (filter is_ret_submit ps))) (sym left-answers)) i;

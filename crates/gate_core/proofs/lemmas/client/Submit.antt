@@ -17,7 +17,7 @@ use Rattle.gate_history.specs.step.Marks.{Submission, Opens}
 use Rattle.gate_history.specs.client.Submits.{Pending, ByStatus, at_once, is_touched, ends}
 use Rattle.gate_history.specs.state.Ids.{last_of}
 use Rattle.gate_history.specs.state.Ups.{opened_streams}
-use Rattle.gate_history.specs.state.Calls.{called}
+use Rattle.gate_history.specs.state.StreamIds.{stream_ids_after}
 use Rattle.gate_history.specs.state.State.{State}
 use Rattle.gate_history.specs.write.Packets.{packets_of}
 use Rattle.gate_history.specs.step.Meaning.{mark_as, drawn_for}
@@ -66,7 +66,7 @@ module _ (st : State) (s : Submission) (placed : s.place ≡ st.items) (sound : 
       new ≡ record old {
         lives = record { live = old.lives.live ++ map row more; abandoned = old.lives.abandoned };
         streams = opened_streams s.verdict s.request.transfer.ep old.streams;
-        calls = called (zip (drawn_for st s.request s.verdict) (packets_of st.streams s.verdict s.request)) old.calls;
+        stream_ids = stream_ids_after (zip (drawn_for st s.request s.verdict) (packets_of st.streams s.verdict s.request)) old.stream_ids;
         last = last_of old.last (drawn_for st s.request s.verdict);
         answered = capped (old.answered + length (filter is_ret_submit (map Urb (answers_at s None (at_once s.verdict)))));
       } →

@@ -25,7 +25,7 @@ use Rattle.gate_history.specs.step.Marks.{Submission, Effect, Waits}
 use Rattle.gate_history.specs.client.Submits.{Pending, waits_at, packets_end, own_end}
 use Rattle.gate_history.specs.state.Ups.{Up, stream_at, held_of, hold, raise}
 use Rattle.gate_history.specs.write.Packets.{starts}
-use Rattle.gate_history.specs.state.Calls.{Calls, called}
+use Rattle.gate_history.specs.state.StreamIds.{StreamIds, stream_ids_after}
 use Rattle.gate_history.specs.state.Ids.{last_of}
 use Rattle.gate_history.specs.state.State.{State, next_ids}
 use Rattle.gate_history.specs.state.Sound.{IsSound}
@@ -159,20 +159,20 @@ nothing : (max_packet : ℕ) (rs : List Request) → fill max_packet rs [] ≡ n
 nothing max_packet [] = refl
 nothing max_packet (r ∷ rs) = ap (λ cut. filled_by r.number [] cut (fill max_packet rs)) (nothing-cut max_packet r)
 
-pub does-start : (st : State) (sound : IsSound st) (r : Request) (told : EpRow) (old new : Kept) (calls_new : Calls) (last_new : ℕ) (out : Outputs) (host_new : List ℕ) (notes_new : List Note) → Holds old st → IsKept old →
+pub does-start : (st : State) (sound : IsSound st) (r : Request) (told : EpRow) (old new : Kept) (stream_ids_new : StreamIds) (last_new : ℕ) (out : Outputs) (host_new : List ℕ) (notes_new : List Note) → Holds old st → IsKept old →
     list_any (has_number r.number) old.lives.live ≡ false → stream_at old.streams r.transfer.ep ≡ None →
     new ≡ record old {
       lives = record { live = old.lives.live ++ row_for r (live_kind.Stream r.transfer.ep told.interface) 0 ∷ []; abandoned = old.lives.abandoned };
       streams = raise (record { ep = r.transfer.ep; row = told; held = [] }) old.streams;
-      calls = calls_new;
+      stream_ids = stream_ids_new;
       last = last_new;
     } →
-    calls_new ≡ called (zip (next_ids st (length (starts (stream_at st.streams r.transfer.ep) r.transfer.ep told))) (starts (stream_at st.streams r.transfer.ep) r.transfer.ep told)) old.calls →
+    stream_ids_new ≡ stream_ids_after (zip (next_ids st (length (starts (stream_at st.streams r.transfer.ep) r.transfer.ep told))) (starts (stream_at st.streams r.transfer.ep) r.transfer.ep told)) old.stream_ids →
     last_new ≡ last_of old.last (next_ids st (length (starts (stream_at st.streams r.transfer.ep) r.transfer.ep told))) →
     host_new ≡ out.to_host ++ flat_map (host_packet_bytes st.agreed) (zip (next_ids st (length (starts (stream_at st.streams r.transfer.ep) r.transfer.ep told))) (starts (stream_at st.streams r.transfer.ep) r.transfer.ep told)) →
     notes_new ≡ out.notes ++ note.Submitted r.number 0 ∷ [] →
     Does st (mark_as st (accepts st r (Stream told)) None) old new out (record out { to_host = host_new; notes = notes_new })
-does-start st sound r told old new calls_new last_new out host_new notes_new h k free at is calls-is last-is host notes =
+does-start st sound r told old new stream_ids_new last_new out host_new notes_new h k free at is stream_ids-is last-is host notes =
     let there : stream_at st.streams r.transfer.ep ≡ None = ap (λ (ups : List (Option Up)). stream_at ups r.transfer.ep) (sym h.streams) ∙ at in
     let up : Up = record { ep = r.transfer.ep; row = told; held = [] } in
     let rows = old.lives.live ++ row (fresh (s st sound r told [])) ∷ [] in
@@ -185,7 +185,7 @@ does-start st sound r told old new calls_new last_new out host_new notes_new h k
     (is ∙ (λ i. record old {
       lives = record { live = without_firsts (length (sym none i).fillings) (waits_for r.transfer.ep) rows; abandoned = old.lives.abandoned };
       streams = (sym (raised-empty old.streams up refl at) ∙ ap (λ (ps : List StreamPacket). hold r.transfer.ep ps (raise up old.streams)) (sym left)) i;
-      calls = calls-is i;
+      stream_ids = stream_ids-is i;
       last = last-is i;
       answered = (capped-same old.answered k.answered_fits ∙ ap (λ (x : Fill). capped (old.answered + length x.fillings)) (sym none)) i;
     }))

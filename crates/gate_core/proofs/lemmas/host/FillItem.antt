@@ -26,7 +26,7 @@ use Rattle.gate_history.specs.client.Submits.{Pending, ByClient, ByLoss, own_end
 use Rattle.gate_history.specs.state.Ids.{last_of}
 use Rattle.gate_history.specs.state.Ups.{Up, stream_at, hold, moved_streams}
 use Rattle.gate_history.specs.write.Packets.{asked_packets}
-use Rattle.gate_history.specs.state.Calls.{asking, called, moved_fence}
+use Rattle.gate_history.specs.state.StreamIds.{asking, stream_ids_after, moved_fence}
 use Rattle.gate_history.specs.state.State.{State}
 use Rattle.gate_history.specs.step.Meaning.{mark_as, drawn_by}
 use Rattle.gate_history.specs.write.Answers.{answers_at}
@@ -99,7 +99,7 @@ module _ (st : State) (e : Effect) (max_packet ep : ℕ) (packets : List StreamP
       new ≡ record old {
         lives = record { live = without_firsts (length fs) (waits_for ep) rows; abandoned = old.lives.abandoned };
         streams = moved_streams e old.streams;
-        calls = called (zip (drawn_by st e) (asked_packets st.streams e)) old.calls;
+        stream_ids = stream_ids_after (zip (drawn_by st e) (asked_packets st.streams e)) old.stream_ids;
         last = last_of old.last (drawn_by st e);
         answered = capped (old.answered + length fs);
       } →
@@ -115,7 +115,7 @@ module _ (st : State) (e : Effect) (max_packet ep : ℕ) (packets : List StreamP
         imported = sym (l.imported_same old.imported) i;
         lost = sym (l.lost_same old.lost) i;
         streams = moved_streams e old.streams;
-        calls = called (asking st.streams (mark_as st e None)) old.calls;
+        stream_ids = stream_ids_after (asking st.streams (mark_as st e None)) old.stream_ids;
         fence = sym (l.no_fence old.fence) i;
         last = last_of old.last (drawn_by st e);
         answered = capped (old.answered + length fs);
@@ -158,7 +158,7 @@ module _ (st : State) (e : Effect) (max_packet ep : ℕ) (packets : List StreamP
       ∙ (λ j. record old {
         lives = record { live = without_firsts (length (filled j).fillings) (waits_for ep) rows; abandoned = left-same j };
         streams = streams-are j;
-        calls = called (zip (sym no_ids j) (asked_packets st.streams e)) old.calls;
+        stream_ids = stream_ids_after (zip (sym no_ids j) (asked_packets st.streams e)) old.stream_ids;
         last = last_of old.last (sym no_ids j);
         answered = capped (old.answered + length (filled j).fillings);
       }))

@@ -21,7 +21,7 @@ use Rattle.gate_history.specs.client.Submits.{Pending, ByLoss, ends, is_answered
 use Rattle.gate_history.specs.state.Ids.{last_of}
 use Rattle.gate_history.specs.state.Ups.{no_streams, is_ended, moved_streams}
 use Rattle.gate_history.specs.write.Packets.{stops, asked_packets}
-use Rattle.gate_history.specs.state.Calls.{called, moved_fence}
+use Rattle.gate_history.specs.state.StreamIds.{stream_ids_after, moved_fence}
 use Rattle.gate_history.specs.state.State.{State, submits, next_ids}
 use Rattle.gate_history.specs.client.Verdict.{is_wire, goes_by_id}
 use Rattle.gate_history.specs.step.Meaning.{mark_as, drawn_by}
@@ -130,7 +130,7 @@ module _ (st : State) (e : Effect) (told : Option Fact) (over : is_quiet e ≡ f
         client_over = cond (sym sides.1 i) true (cond (sym sides.0 i) false old.client_over);
         host_over = turned closes_host (λ e. false) e old.host_over;
         streams = cond (sym stays i || sym loss i) no_streams (moved_streams e old.streams);
-        calls = called (zip (sym no-ids i) (sym no-packets i)) old.calls;
+        stream_ids = stream_ids_after (zip (sym no-ids i) (sym no-packets i)) old.stream_ids;
         fence = cond (sym stays i) (last_or old.fence (drawn_by st e)) (cond (sym loss i) None (moved_fence e old.fence));
         last = last_of old.last (sym no-ids i);
         answered = capped (old.answered + sym done i);

@@ -14,7 +14,7 @@ use Rattle.usb_base.specs.Number.{capped}
 use Rattle.gate_history.specs.step.Marks.{Effect, StreamTold}
 use Rattle.gate_history.specs.client.Submits.{Pending, ByStatus, ends, waits_at}
 use Rattle.gate_history.specs.state.Ups.{lower_at}
-use Rattle.gate_history.specs.state.Calls.{lifted}
+use Rattle.gate_history.specs.state.StreamIds.{lifted}
 use Rattle.gate_history.specs.state.State.{State}
 use Rattle.gate_history.specs.step.Meaning.{mark_as}
 use Rattle.gate_history.specs.state.Sound.{IsSound}

@@ -15,13 +15,13 @@ use Rattle.gate_history.specs.step.Marks.{Submission, Effect}
 use Rattle.gate_history.specs.client.Submits.{Pending}
 use Rattle.gate_history.specs.state.Flight.{wide_ids, ids_of}
 use Rattle.redir_data.specs.declared.packet.RedirPacket.{RedirPacket}
-use Rattle.gate_parts.specs.declared.state.calls.Called.{Called}
+use Rattle.gate_parts.specs.declared.state.stream_ids.SentIds.{SentIds}
 use Rattle.gate_history.specs.state.Ups.{is_ended}
-use Rattle.gate_history.specs.state.Calls.{called, call_ids}
+use Rattle.gate_history.specs.state.StreamIds.{stream_ids_after, ids_of_streams}
 use Rattle.gate_history.specs.step.Meaning.{drawn_by}
 use Rattle.gate_history.specs.state.State.{State, flying, next_ids, is_number}
 use Rattle.gate_parts.specs.state.Ids.{row_ids}
-use Rattle.gate_core.specs.inner.Calls.{flying_in, ids_after, with_ids, stops_of, called_of, after_stops, bytes_of, HasParted}
+use Rattle.gate_core.specs.inner.SentIds.{flying_in, ids_after, with_ids, stops_of, sent_ids_of, after_stops, bytes_of, HasParted}
 use Rattle.gate_history.specs.write.Bytes.{host_packet_bytes}
 use Rattle.gate_parts.specs.state.Rows.{kind_of, row, unmarked, left_row, cancel_bytes}
 use Rattle.gate_core.specs.inner.Holds.{Holds}
@@ -54,7 +54,7 @@ ids-unmarked (l ∷ ls) = same-ids (is_answered_by_id l) l _ _ (ids-unmarked ls)
 
 pub flying-rows : (t : Kept) (st : State) → Holds t st → flying_in t ≡ flying st
 flying-rows t st h =
-    (λ i. ((ap row_ids h.live ∙ ids-live st.live) i ++ (sym (ids-unmarked t.lives.abandoned) ∙ ap row_ids h.abandoned ∙ ids-left st.abandoned) i) ++ call_ids (h.calls i))
+    (λ i. ((ap row_ids h.live ∙ ids-live st.live) i ++ (sym (ids-unmarked t.lives.abandoned) ∙ ap row_ids h.abandoned ∙ ids-left st.abandoned) i) ++ ids_of_streams (h.stream_ids i))
 
 -- ---- what is drawn and sent of what is kept is that of the state
 
@@ -72,14 +72,14 @@ module _ (t : Kept) (st : State) (h : Holds t st) where
   stops-are by = ap (stops (is_ended by)) h.streams
 
   -- with its client gone
-  pub parts-are : (e : Effect) (c : Called) → asked_packets st.streams e ≡ stops (is_ended None) st.streams → c ≡ after_stops t (called_of t) (stops_of t None) → HasParted st e c
+  pub parts-are : (e : Effect) (c : SentIds) → asked_packets st.streams e ≡ stops (is_ended None) st.streams → c ≡ after_stops t (sent_ids_of t) (stops_of t None) → HasParted st e c
   parts-are e c asked stopped =
       let same : stops_of t None ≡ asked_packets st.streams e = stops-are None ∙ sym asked in
       let ids : ids_after t t.last (length (stops_of t None)) ≡ drawn_by st e = ids-are (stops_of t None) (asked_packets st.streams e) same in
       record {
-        calls = ap (λ (c : Called). c.calls) stopped ∙ (λ i. called (asked-are (stops_of t None) (asked_packets st.streams e) same i) (h.calls i));
-        last = ap (λ (c : Called). c.last) stopped ∙ (λ i. last_of (h.last i) (ids i));
-        fence = ap (λ (c : Called). c.fence) stopped ∙ (λ i. last_or (h.fence i) (ids i));
+        stream_ids = ap (λ (c : SentIds). c.stream_ids) stopped ∙ (λ i. stream_ids_after (asked-are (stops_of t None) (asked_packets st.streams e) same i) (h.stream_ids i));
+        last = ap (λ (c : SentIds). c.last) stopped ∙ (λ i. last_of (h.last i) (ids i));
+        fence = ap (λ (c : SentIds). c.fence) stopped ∙ (λ i. last_or (h.fence i) (ids i));
       }
 
   pub parts-sent : (e : Effect) → asked_packets st.streams e ≡ stops (is_ended None) st.streams → with_ids t t.last (stops_of t None) ≡ zip (drawn_by st e) (asked_packets st.streams e)

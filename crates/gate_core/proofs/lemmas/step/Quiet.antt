@@ -22,7 +22,7 @@ use Rattle.gate_history.specs.client.Submits.{Pending, opened, is_answered, aban
 use Rattle.gate_history.specs.state.Ids.{last_of}
 use Rattle.gate_history.specs.state.Ups.{no_streams, is_ended, moved_streams, streams_after}
 use Rattle.gate_history.specs.write.Packets.{stops, asked_packets}
-use Rattle.gate_history.specs.state.Calls.{called, asking, moved_fence, fence_after}
+use Rattle.gate_history.specs.state.StreamIds.{stream_ids_after, asking, moved_fence, fence_after}
 use Rattle.gate_history.specs.state.State.{State, submits, next_ids}
 use Rattle.gate_history.specs.client.Verdict.{is_wire, goes_by_id}
 use Rattle.gate_history.specs.step.Meaning.{mark_as, drawn_by}
@@ -51,7 +51,7 @@ stepped st m rows left old = record old {
   client_over = turned refuses_client ends_client m.what old.client_over;
   host_over = turned closes_host (λ e. false) m.what old.host_over;
   streams = streams_after m.what old.streams;
-  calls = called (asking st.streams m) old.calls;
+  stream_ids = stream_ids_after (asking st.streams m) old.stream_ids;
   fence = fence_after m.what m.drawn old.fence;
   last = last_of old.last m.drawn;
   answered = capped (old.answered + length (filter is_ret_submit (to_client st m)));
@@ -76,7 +76,7 @@ does-step st m old new rows left out_old out_new h is rows-are left-are client h
     client_over = ap (λ (k : Kept). k.client_over) is ∙ ap (turned refuses_client ends_client m.what) h.client_over;
     host_over = ap (λ (k : Kept). k.host_over) is ∙ ap (turned closes_host (λ e. false) m.what) h.host_over;
     streams = ap (λ (k : Kept). k.streams) is ∙ ap (streams_after m.what) h.streams;
-    calls = ap (λ (k : Kept). k.calls) is ∙ ap (called (asking st.streams m)) h.calls;
+    stream_ids = ap (λ (k : Kept). k.stream_ids) is ∙ ap (stream_ids_after (asking st.streams m)) h.stream_ids;
     fence = ap (λ (k : Kept). k.fence) is ∙ ap (fence_after m.what m.drawn) h.fence;
     last = ap (λ (k : Kept). k.last) is ∙ ap (λ (n : ℕ). last_of n m.drawn) h.last;
     live = ap (λ (k : Kept). k.lives.live) is ∙ rows-are;
@@ -126,7 +126,7 @@ moved st e rows left done won old = record old {
   imported = turned imports leaves e old.imported;
   lost = turned is_loss imports e old.lost;
   streams = moved_streams e old.streams;
-  calls = called (asking st.streams (mark_as st e None)) old.calls;
+  stream_ids = stream_ids_after (asking st.streams (mark_as st e None)) old.stream_ids;
   fence = moved_fence e old.fence;
   last = last_of old.last (drawn_by st e);
   answered = capped (old.answered + done);
@@ -243,7 +243,7 @@ module _ (st : State) (e : Effect) (quiet : is_quiet e ≡ true) (s : IsSilent s
       Does st (mark_as st e None) old new out_old out_new
   does-silent old new rows done won out_old out_new h dropped_fits is rows-are done-is won-is untold undropped client host notes =
       does-quiet st e quiet old new rows old.lives.abandoned done won out_old out_new h dropped_fits
-      (is ∙ (λ i. record (moved_alone e rows done won old) { calls = called (sym none-asked i) old.calls; last = last_of old.last (sym no-ids i) }))
+      (is ∙ (λ i. record (moved_alone e rows done won old) { stream_ids = stream_ids_after (sym none-asked i) old.stream_ids; last = last_of old.last (sym no-ids i) }))
       rows-are (h.abandoned ∙ none-answered e st.abandoned s.answers_none) (done-is ∙ counted is_ret_submit s.no_answer) (won-is ∙ counted is_won_unlink s.none_won) undropped client
       (host ∙ ap (λ (ps : List (ℕ × RedirPacket)). out_old.to_host ++ flat_map (host_packet_bytes st.agreed) ps)
       (sym (append-nil (map cancel (filter (cancels e) st.live))) ∙ (λ i. map cancel (filter (cancels e) st.live) ++ sym none-asked i)))

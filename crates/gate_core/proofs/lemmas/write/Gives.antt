@@ -24,7 +24,7 @@ use Rattle.gate_history.specs.client.Submits.{Pending}
 use Rattle.gate_history.specs.state.Ids.{greatest}
 use Rattle.gate_history.specs.state.Flight.{wide_ids}
 use Rattle.gate_history.specs.write.Packets.{asked_packets}
-use Rattle.gate_history.specs.state.Calls.{asking}
+use Rattle.gate_history.specs.state.StreamIds.{asking}
 use Rattle.gate_history.specs.state.State.{State, flying, has_number}
 use Rattle.gate_history.specs.step.Meaning.{mark_as, drawn_by, refused, importable, imported_as, asked_meaning, accepted_as}
 use Rattle.gate_history.specs.write.Answers.{lost_answer}

@@ -9,18 +9,18 @@ use Rattle.gate_core.specs.declared.state.kept.Kept.{Kept}
 use Rattle.gate_parts.specs.declared.write.outputs.Outputs.{Outputs}
 use Rattle.gate_history.specs.declared.note.Note.{Note}
 use Rattle.gate_history.specs.state.Ups.{Up}
-use Rattle.gate_parts.specs.declared.state.calls.Called.{Called}
+use Rattle.gate_parts.specs.declared.state.stream_ids.SentIds.{SentIds}
 use Rattle.gate_history.specs.state.Ids.{greatest, last_of}
 use Rattle.gate_history.specs.state.Flight.{wide_ids}
-use Rattle.gate_history.specs.state.Calls.{called}
+use Rattle.gate_history.specs.state.StreamIds.{stream_ids_after}
 use Rattle.gate_history.specs.write.Packets.{stop_of, stops}
 use Rattle.gate_history.specs.write.Bytes.{host_packet_bytes}
 use Rattle.gate_parts.specs.write.Extends.{Extends}
 use Rattle.gate_parts.specs.write.Outputs.{HasSome}
 use Rattle.gate_core.specs.inner.Holds.{StopsShort}
-use Rattle.gate_core.specs.inner.Calls.{flying_in, ids_after, with_ids, after_stops, bytes_of}
+use Rattle.gate_core.specs.inner.SentIds.{flying_in, ids_after, with_ids, after_stops, bytes_of}
 use Rattle.gate_history.proofs.lemmas.Lists.{Each}
-use Rattle.gate_history.proofs.lemmas.state.Calls.{IsSilent, draws-append, zip-append, last-append, last_or-append, called-append, called-silent}
+use Rattle.gate_history.proofs.lemmas.state.StreamIds.{IsSilent, draws-append, zip-append, last-append, last_or-append, stream_ids_after-append, stream_ids_after-silent}
 
 module _ (t : Kept) where
   pub last-more : (last : ℕ) (ps qs : List RedirPacket) →
@@ -37,21 +37,21 @@ module _ (t : Kept) where
       ap (flat_map (host_packet_bytes t.caps)) (with-more last ps qs)
       ∙ flat_map-append (host_packet_bytes t.caps) (with_ids t last ps) (with_ids t (last_of last (ids_after t last (length ps))) qs)
 
-  pub stops-more : (c : Called) (ps qs : List RedirPacket) → after_stops t c (ps ++ qs) ≡ after_stops t (after_stops t c ps) qs
+  pub stops-more : (c : SentIds) (ps qs : List RedirPacket) → after_stops t c (ps ++ qs) ≡ after_stops t (after_stops t c ps) qs
   stops-more c ps qs =
       let later : ℕ = last_of c.last (ids_after t c.last (length ps)) in
       λ i. record {
-        calls = (ap (λ l. called l c.calls) (with-more c.last ps qs) ∙ called-append (with_ids t c.last ps) (with_ids t later qs) c.calls) i;
+        stream_ids = (ap (λ l. stream_ids_after l c.stream_ids) (with-more c.last ps qs) ∙ stream_ids_after-append (with_ids t c.last ps) (with_ids t later qs) c.stream_ids) i;
         last = last-more c.last ps qs i;
         fence = (ap (last_or c.fence) (draws-append (greatest (wide_ids t.caps)) (flying_in t) c.last ps qs) ∙ last_or-append c.fence (ids_after t c.last (length ps)) (ids_after t later (length qs))) i;
       }
 
   -- those that neither start nor stop a stream are noted nowhere
-  pub calls-silent : (ps qs : List RedirPacket) → Each IsSilent qs → called (with_ids t t.last (ps ++ qs)) t.calls ≡ called (with_ids t t.last ps) t.calls
-  calls-silent ps qs silent =
+  pub stream_ids-silent : (ps qs : List RedirPacket) → Each IsSilent qs → stream_ids_after (with_ids t t.last (ps ++ qs)) t.stream_ids ≡ stream_ids_after (with_ids t t.last ps) t.stream_ids
+  stream_ids-silent ps qs silent =
       let later : ℕ = last_of t.last (ids_after t t.last (length ps)) in
-      ap (λ l. called l t.calls) (with-more t.last ps qs) ∙ called-append (with_ids t t.last ps) (with_ids t later qs) t.calls
-      ∙ called-silent (ids_after t later (length qs)) qs (called (with_ids t t.last ps) t.calls) silent
+      ap (λ l. stream_ids_after l t.stream_ids) (with-more t.last ps qs) ∙ stream_ids_after-append (with_ids t t.last ps) (with_ids t later qs) t.stream_ids
+      ∙ stream_ids_after-silent (ids_after t later (length qs)) qs (stream_ids_after (with_ids t t.last ps) t.stream_ids) silent
 
 -- the stops of one place more
 pub next-stops : (test : Up → Bool) (ups : List (Option Up)) (k : ℕ) (o : Option Up) → k < length ups → o ≡ get_or ups k o → stops test (take (k + 1) ups) ≡ stops test (take k ups) ++ stop_of test (get_or ups k o)

@@ -38,11 +38,11 @@ use Rattle.usb_base.specs.Endpoint.{endpoint_index, is_in_endpoint}
 use Rattle.usb_base.specs.Status.{is_success}
 use Rattle.redir_data.specs.declared.packet.RedirPacket.{RedirPacket}
 use Rattle.gate_history.specs.state.Ups.{Up, no_streams, stream_at, stream_of, unless, lower_at, hold, is_ended, opened_streams, moved_streams, streams_after, streams}
-use Rattle.gate_history.specs.state.Calls.{Calls, called, asking, calls, call_ids}
+use Rattle.gate_history.specs.state.StreamIds.{StreamIds, stream_ids_after, asking, stream_ids, ids_of_streams}
 use Rattle.gate_history.specs.declared.request.Request.{Request}
 use Rattle.gate_history.specs.client.Requests.{request_of}
 use Rattle.gate_history.specs.write.Packets.{HasRoute, wire_packet, starts, stops, iso_packets, route_packets, packets_of, asked_packets}
-use Rattle.gate_history.proofs.lemmas.state.Calls.{AreLong, few-ids, long-called, few-stops, few-starts, draws-append, zip-append, last-append, called-append, called-silent, wire-silent, route-silent, iso-silent, times-append, times-called, times-last}
+use Rattle.gate_history.proofs.lemmas.state.StreamIds.{AreLong, few-ids, long-stream_ids_after, few-stops, few-starts, draws-append, zip-append, last-append, stream_ids_after-append, stream_ids_after-silent, wire-silent, route-silent, iso-silent, times-append, times-stream_ids_after, times-last}
 use Rattle.gate_history.specs.step.Meaning.{verdict_of, by_stream, submission, accepted_as, accepts, arrives, told_meaning, meaning, drawn_for, drawn_by, mark_of}
 use Rattle.gate_history.specs.step.Past.{is_left_out, past}
 use Rattle.gate_history.proofs.lemmas.step.Aside.{HoldsAside, by-test, of-op, of-response}
@@ -101,11 +101,11 @@ pub record Sound (ms : List Mark) : Type 0 where
   pub going : Each (λ s. at_once s.verdict ≡ None) (live ms)
 
 flying-is : (first : ℕ) (ms : List Mark) → flying (state_of first ms) ≡ in_flight ms
-flying-is first ms = ap (λ (l : List Submission). ids_of l ++ ids_of (abandoned ms) ++ call_ids (calls ms)) (submits-is ms (live ms))
+flying-is first ms = ap (λ (l : List Submission). ids_of l ++ ids_of (abandoned ms) ++ ids_of_streams (stream_ids ms)) (submits-is ms (live ms))
 
-calls-long : (ms : List Mark) → AreLong (calls ms)
-calls-long [] = record { started = refl; stopped = refl }
-calls-long (m ∷ ms) = long-called (asking (streams ms) m) (calls ms) (calls-long ms)
+stream_ids-long : (ms : List Mark) → AreLong (stream_ids ms)
+stream_ids-long [] = record { started = refl; stopped = refl }
+stream_ids-long (m ∷ ms) = long-stream_ids_after (asking (streams ms) m) (stream_ids ms) (stream_ids-long ms)
 
 pub streams-long : (ms : List Mark) → length (streams ms) ≡ 32
 streams-long [] = refl
@@ -141,7 +141,7 @@ streams-long (m ∷ ms) = after-long m.what (streams ms) (streams-long ms)
 
 few-flying : (ms : List Mark) → Sound ms → length (in_flight ms) ≤ 8256
 few-flying ms s =
-    omega (arith, length-append (ids_of (live ms) ++ ids_of (abandoned ms)) (call_ids (calls ms)), length-append (ids_of (live ms)) (ids_of (abandoned ms)), length-ids (live ms), length-ids (abandoned ms), few-ids (calls ms) (calls-long ms), s.few, s.left)
+    omega (arith, length-append (ids_of (live ms) ++ ids_of (abandoned ms)) (ids_of_streams (stream_ids ms)), length-append (ids_of (live ms)) (ids_of (abandoned ms)), length-ids (live ms), length-ids (abandoned ms), few-ids (stream_ids ms) (stream_ids-long ms), s.few, s.left)
 
 large : (wide : Bool) → 4294967295 ≤ greatest wide
 large true = omega arith
@@ -222,8 +222,8 @@ few-route _ = omega arith
 record Adds (st : State) (e : Effect) : Type 0 where
   count : ℕ
   few : count ≤ 1025
-  adds : (q : ℕ) → times q (ids_of (filter (λ t. is_none (ends e t)) (opened e))) + times q (call_ids (called (zip (drawn_by st e) (asked_packets st.streams e)) st.calls))
-      ≤ times q (call_ids st.calls) + times q (next_ids st count)
+  adds : (q : ℕ) → times q (ids_of (filter (λ t. is_none (ends e t)) (opened e))) + times q (ids_of_streams (stream_ids_after (zip (drawn_by st e) (asked_packets st.streams e)) st.stream_ids))
+      ≤ times q (ids_of_streams st.stream_ids) + times q (next_ids st count)
 
 no-more : (st : State) (e : Effect) → opened e ≡ [] → asked_packets st.streams e ≡ [] → Adds st e
 no-more st e nil silent = record {
@@ -231,8 +231,8 @@ no-more st e nil silent = record {
   few = omega arith;
   adds = λ q.
       let a : times q (ids_of (filter (λ t. is_none (ends e t)) (opened e))) ≡ 0 = ap (λ (l : List Submission). times q (ids_of (filter (λ t. is_none (ends e t)) l))) nil in
-      let b : times q (call_ids (called (zip (drawn_by st e) (asked_packets st.streams e)) st.calls)) ≡ times q (call_ids st.calls) =
-      ap (λ (ps : List RedirPacket). times q (call_ids (called (zip (next_ids st (length ps)) ps) st.calls))) silent in
+      let b : times q (ids_of_streams (stream_ids_after (zip (drawn_by st e) (asked_packets st.streams e)) st.stream_ids)) ≡ times q (ids_of_streams st.stream_ids) =
+      ap (λ (ps : List RedirPacket). times q (ids_of_streams (stream_ids_after (zip (next_ids st (length ps)) ps) st.stream_ids))) silent in
       omega (arith, a, b);
 }
 
@@ -241,7 +241,7 @@ all-stops : (st : State) (e : Effect) → length st.streams ≡ 32 → ids_of (f
 all-stops st e long none are = record {
   count = length (asked_packets st.streams e);
   few = omega (arith, ap length are, few-stops (is_ended None) st.streams, long);
-  adds = λ q. omega (arith, ap (times q) none, times-called q (drawn_by st e) (asked_packets st.streams e) st.calls);
+  adds = λ q. omega (arith, ap (times q) none, times-stream_ids_after q (drawn_by st e) (asked_packets st.streams e) st.stream_ids);
 }
 
 side-stops : (st : State) (e : Effect) (b : Bool) → length st.streams ≡ 32 → opened e ≡ [] → asked_packets st.streams e ≡ cond b (stops (is_ended None) st.streams) [] → Adds st e
@@ -267,7 +267,7 @@ starts-more st e s row one by_id are = record {
   adds = λ q.
       let none : times q (ids_of (filter (λ t. is_none (ends e t)) (opened e))) ≡ times q (ids_of (filter (λ t. is_none (ends e t)) (s ∷ []))) = ap (λ (l : List Submission). times q (ids_of (filter (λ t. is_none (ends e t)) l))) one in
       let nobody : times q (ids_of (s ∷ [])) ≡ 0 = ap (times q) (none-by-id s by_id) in
-      omega (arith, none, nobody, one-kept e s q, times-called q (drawn_by st e) (asked_packets st.streams e) st.calls);
+      omega (arith, none, nobody, one-kept e s q, times-stream_ids_after q (drawn_by st e) (asked_packets st.streams e) st.stream_ids);
 }
 
 waits-more : (st : State) (s : Submission) (fill : Fill) (v : Verdict) → is_waiting v ≡ true → Adds st (Waits (record s { verdict = v }) fill)
@@ -288,8 +288,8 @@ opens-more st s (Wire pipe) long some drawn = record {
   adds = λ q.
       let id : s.id ≡ last_of 0 (next_ids st 1) = drawn (lives-on (eqb s.place s.place)) refl in
       let own : times q (s.id ∷ []) ≡ times q (next_ids st 1) = ap (λ (n : ℕ). times q (n ∷ [])) id in
-      let same : times q (call_ids (called (zip (next_ids st 1) (wire_packet pipe s.request.transfer ∷ [])) st.calls)) ≡ times q (call_ids st.calls) =
-      ap (λ (c : Calls). times q (call_ids c)) (called-silent (next_ids st 1) (wire_packet pipe s.request.transfer ∷ []) st.calls (wire-silent pipe s.request.transfer, tt)) in
+      let same : times q (ids_of_streams (stream_ids_after (zip (next_ids st 1) (wire_packet pipe s.request.transfer ∷ [])) st.stream_ids)) ≡ times q (ids_of_streams st.stream_ids) =
+      ap (λ (c : StreamIds). times q (ids_of_streams c)) (stream_ids_after-silent (next_ids st 1) (wire_packet pipe s.request.transfer ∷ []) st.stream_ids (wire-silent pipe s.request.transfer, tt)) in
       omega (arith, one-kept (Opens (record s { verdict = Wire pipe })) (record s { verdict = Wire pipe }) q, own, same);
 }
 opens-more st s (IsoOut row) long some drawn =
@@ -301,10 +301,10 @@ opens-more st s (IsoOut row) long some drawn =
       count = length start;
       few = omega (arith, few-starts (stream_at st.streams s.request.transfer.ep) s.request.transfer.ep row);
       adds = λ q.
-          let parts = ap (λ (ps : List (ℕ × RedirPacket)). times q (call_ids (called ps st.calls))) (zip-append m f st.last start isos)
-          ∙ ap (λ (c : Calls). times q (call_ids c)) (called-append (zip (next_ids st (length start)) start) (zip (draws m f (last_of st.last (next_ids st (length start))) (length isos)) isos) st.calls
-          ∙ called-silent (draws m f (last_of st.last (next_ids st (length start))) (length isos)) isos (called (zip (next_ids st (length start)) start) st.calls) (iso-silent s.request)) in
-          omega (arith, one-kept (Opens (record s { verdict = IsoOut row })) (record s { verdict = IsoOut row }) q, parts, times-called q (next_ids st (length start)) start st.calls);
+          let parts = ap (λ (ps : List (ℕ × RedirPacket)). times q (ids_of_streams (stream_ids_after ps st.stream_ids))) (zip-append m f st.last start isos)
+          ∙ ap (λ (c : StreamIds). times q (ids_of_streams c)) (stream_ids_after-append (zip (next_ids st (length start)) start) (zip (draws m f (last_of st.last (next_ids st (length start))) (length isos)) isos) st.stream_ids
+          ∙ stream_ids_after-silent (draws m f (last_of st.last (next_ids st (length start))) (length isos)) isos (stream_ids_after (zip (next_ids st (length start)) start) st.stream_ids) (iso-silent s.request)) in
+          omega (arith, one-kept (Opens (record s { verdict = IsoOut row })) (record s { verdict = IsoOut row }) q, parts, times-stream_ids_after q (next_ids st (length start)) start st.stream_ids);
     }
 opens-more st s (Routed r) long some drawn =
     let stopping = stops (is_ended (Some r)) st.streams in
@@ -318,14 +318,14 @@ opens-more st s (Routed r) long some drawn =
       few = omega (arith, length-append stopping asking, few-stops (is_ended (Some r)) st.streams, long, few-route r);
       adds = λ q.
           let all : next_ids st (length (stopping ++ asking)) ≡ first ++ later = draws-append m f st.last stopping asking in
-          let parts = ap (λ (ps : List (ℕ × RedirPacket)). times q (call_ids (called ps st.calls))) (zip-append m f st.last stopping asking)
-          ∙ ap (λ (c : Calls). times q (call_ids c)) (called-append (zip first stopping) (zip later asking) st.calls ∙ called-silent later asking (called (zip first stopping) st.calls) (route-silent r)) in
+          let parts = ap (λ (ps : List (ℕ × RedirPacket)). times q (ids_of_streams (stream_ids_after ps st.stream_ids))) (zip-append m f st.last stopping asking)
+          ∙ ap (λ (c : StreamIds). times q (ids_of_streams c)) (stream_ids_after-append (zip first stopping) (zip later asking) st.stream_ids ∙ stream_ids_after-silent later asking (stream_ids_after (zip first stopping) st.stream_ids) (route-silent r)) in
           let id : s.id ≡ last_of (last_of 0 first) later = drawn (lives-on (eqb s.place s.place)) refl ∙ ap (last_of 0) all ∙ last-append 0 first later in
           let own : times q (s.id ∷ []) ≡ times q (last_of (last_of 0 first) later ∷ []) = ap (λ (n : ℕ). times q (n ∷ [])) id in
           let long : length later ≡ length asking = length-draws m f (last_of st.last first) (length asking) in
           let last = times-last q (last_of 0 first) later (omega (arith, long, some)) in
           let both_parts : times q (next_ids st (length (stopping ++ asking))) ≡ times q first + times q later = ap (times q) all ∙ times-append q first later in
-          omega (arith, one-kept (Opens (record s { verdict = Routed r })) (record s { verdict = Routed r }) q, own, parts, times-called q first stopping st.calls, last, both_parts);
+          omega (arith, one-kept (Opens (record s { verdict = Routed r })) (record s { verdict = Routed r }) q, own, parts, times-stream_ids_after q first stopping st.stream_ids, last, both_parts);
     }
 
 more : (st : State) (e : Effect) → length st.streams ≡ 32 → IsOpening st e → Adds st e
@@ -351,16 +351,16 @@ more st (Disconnects id) long o = no-more st (Disconnects id) refl refl
 
 module _ (first : ℕ) (ms : List Mark) (m : Mark) (w : IsWell (m ∷ ms)) (o : IsOpening (state_of first ms) m.what) (d : m.drawn ≡ drawn_by (state_of first ms) m.what) (s : Sound ms) where
   -- at most those in flight, and some that were drawn
-  kept-once : (q n : ℕ) → n + times q (ids_of (filter (λ t. is_none (ends m.what t)) (opened m.what))) + times q (call_ids (calls (m ∷ ms))) ≤
-      times q (ids_of (live ms) ++ ids_of (abandoned ms)) + times q (ids_of (filter (λ t. is_none (ends m.what t)) (opened m.what))) + times q (call_ids (calls (m ∷ ms))) →
-      n + times q (ids_of (filter (λ t. is_none (ends m.what t)) (opened m.what))) + times q (call_ids (calls (m ∷ ms))) ≤ 1
+  kept-once : (q n : ℕ) → n + times q (ids_of (filter (λ t. is_none (ends m.what t)) (opened m.what))) + times q (ids_of_streams (stream_ids (m ∷ ms))) ≤
+      times q (ids_of (live ms) ++ ids_of (abandoned ms)) + times q (ids_of (filter (λ t. is_none (ends m.what t)) (opened m.what))) + times q (ids_of_streams (stream_ids (m ∷ ms))) →
+      n + times q (ids_of (filter (λ t. is_none (ends m.what t)) (opened m.what))) + times q (ids_of_streams (stream_ids (m ∷ ms))) ≤ 1
   kept-once q n few =
       let a = more (state_of first ms) m.what (streams-long ms) o in
       let fresh = fresh-ids first ms a.count s a.few in
-      let drawn : times q (call_ids (calls (m ∷ ms))) ≡ times q (call_ids (called (zip (drawn_by (state_of first ms) m.what) (asked_packets (streams ms) m.what)) (calls ms))) =
-      ap (λ (ids : List ℕ). times q (call_ids (called (zip ids (asked_packets (streams ms) m.what)) (calls ms)))) d in
+      let drawn : times q (ids_of_streams (stream_ids (m ∷ ms))) ≡ times q (ids_of_streams (stream_ids_after (zip (drawn_by (state_of first ms) m.what) (asked_packets (streams ms) m.what)) (stream_ids ms))) =
+      ap (λ (ids : List ℕ). times q (ids_of_streams (stream_ids_after (zip ids (asked_packets (streams ms) m.what)) (stream_ids ms)))) d in
       let same = ap (times q) (flying-is first ms) in
-      let parts = times-append q (ids_of (live ms) ++ ids_of (abandoned ms)) (call_ids (calls ms)) in
+      let parts = times-append q (ids_of (live ms) ++ ids_of (abandoned ms)) (ids_of_streams (stream_ids ms)) in
       still-once (greatest (wide_ids (state_of first ms).agreed)) q (flying (state_of first ms)) (next_ids (state_of first ms) a.count) _ fresh (omega (arith, same, s.once q)) (omega (arith, few, a.adds q, drawn, same, parts))
 
   keeps : Submission → Bool
@@ -396,7 +396,7 @@ module _ (first : ℕ) (ms : List Mark) (m : Mark) (w : IsWell (m ∷ ms)) (o : 
         gone = λ k. empty;
         once = λ q.
             let a = times-append q (ids_of (live ms)) (ids_of (abandoned ms)) in
-            let b = times-append q (ids_of (live (m ∷ ms)) ++ ids_of (abandoned (m ∷ ms))) (call_ids (calls (m ∷ ms))) in
+            let b = times-append q (ids_of (live (m ∷ ms)) ++ ids_of (abandoned (m ∷ ms))) (ids_of_streams (stream_ids (m ∷ ms))) in
             let b' = times-append q (ids_of (live (m ∷ ms))) (ids_of (abandoned (m ∷ ms))) in
             let c : times q (ids_of (live (m ∷ ms))) ≡ 0 = ap (λ (l : List Submission). times q (ids_of l)) empty in
             let d' : times q (ids_of (abandoned (m ∷ ms))) ≡ times q (ids_of (abandoned ms ++ filter (λ t. goes_by_id t.verdict) (live ms))) = ap (λ (l : List Submission). times q (ids_of l)) rest in
@@ -418,7 +418,7 @@ module _ (first : ℕ) (ms : List Mark) (m : Mark) (w : IsWell (m ∷ ms)) (o : 
         apart = λ k. rest;
         gone = λ k. empty;
         once = λ q.
-            let b = times-append q (ids_of (live (m ∷ ms)) ++ ids_of (abandoned (m ∷ ms))) (call_ids (calls (m ∷ ms))) in
+            let b = times-append q (ids_of (live (m ∷ ms)) ++ ids_of (abandoned (m ∷ ms))) (ids_of_streams (stream_ids (m ∷ ms))) in
             let b' = times-append q (ids_of (live (m ∷ ms))) (ids_of (abandoned (m ∷ ms))) in
             let c : times q (ids_of (live (m ∷ ms))) ≡ 0 = ap (λ (l : List Submission). times q (ids_of l)) empty in
             let d' : times q (ids_of (abandoned (m ∷ ms))) ≡ 0 = ap (λ (l : List Submission). times q (ids_of l)) rest in
@@ -484,7 +484,7 @@ module _ (first : ℕ) (ms : List Mark) (m : Mark) (w : IsWell (m ∷ ms)) (o : 
             ];
         once = λ q.
             let a = times-append q (ids_of (live ms)) (ids_of (abandoned ms)) in
-            let b = times-append q (ids_of (live (m ∷ ms)) ++ ids_of (abandoned (m ∷ ms))) (call_ids (calls (m ∷ ms))) in
+            let b = times-append q (ids_of (live (m ∷ ms)) ++ ids_of (abandoned (m ∷ ms))) (ids_of_streams (stream_ids (m ∷ ms))) in
             let b' = times-append q (ids_of (live (m ∷ ms))) (ids_of (abandoned (m ∷ ms))) in
             let c : times q (ids_of (live (m ∷ ms))) ≡ times q (ids_of (filter (λ t. is_none (ends m.what t)) (live ms) ++ filter (λ t. is_none (ends m.what t)) (opened m.what))) = ap (λ (l : List Submission). times q (ids_of l)) (kept ∙ parts) in
             let d' = times-ids q (filter (λ t. is_none (ends m.what t)) (live ms)) (filter (λ t. is_none (ends m.what t)) (opened m.what)) in

@@ -9,7 +9,7 @@ use Rattle.gate_history.specs.state.Ids.{times}
 use Rattle.gate_history.specs.client.Verdict.{goes_by_id}
 use Rattle.gate_history.specs.step.Marks.{Submission}
 use Rattle.gate_history.specs.client.Submits.{has_id, at_once, accepted, is_live, live, abandoned, pending}
-use Rattle.gate_history.specs.state.Calls.{calls, call_ids}
+use Rattle.gate_history.specs.state.StreamIds.{stream_ids, ids_of_streams}
 use Rattle.gate_history.specs.state.Flight.{ids_of}
 use Rattle.gate_history.specs.state.State.{state_of, submits, is_number}
 use Rattle.gate_history.specs.step.Past.{past}
@@ -18,7 +18,7 @@ use Rattle.gate_history.proofs.lemmas.Lists.{Each, Each-filter}
 use Rattle.gate_history.proofs.lemmas.step.Steps.{submits-is, placed}
 use Rattle.gate_history.proofs.lemmas.step.Runs.{well}
 use Rattle.gate_history.proofs.lemmas.client.Once.{few-numbered}
-use Rattle.gate_history.proofs.lemmas.state.Calls.{times-append}
+use Rattle.gate_history.proofs.lemmas.state.StreamIds.{times-append}
 use Rattle.gate_history.proofs.lemmas.state.Flights.{sound}
 
 swap : (a b : ℕ) → eqb a b ≡ eqb b a
@@ -53,7 +53,7 @@ state-sound first xs =
           let d = have-id id (live ms) in
           let e = have-id id (abandoned ms) in
           let f = times-append id (ids_of (live ms)) (ids_of (abandoned ms)) in
-          let g = times-append id (ids_of (live ms) ++ ids_of (abandoned ms)) (call_ids (calls ms)) in
+          let g = times-append id (ids_of (live ms) ++ ids_of (abandoned ms)) (ids_of_streams (stream_ids ms)) in
           omega (arith, a, b, c, d, e, f, g, s.once id);
       places = subst (Each (λ s. s.place < length ms)) (sym (submits-is ms (live ms))) (Each-filter (λ s. s.place < length ms) (is_live ms) (accepted ms) (placed ms (well first xs)));
       going = subst (Each (λ s. at_once s.verdict ≡ None)) (sym (submits-is ms (live ms))) s.going;

@@ -27,7 +27,7 @@ use Rattle.redir_data.specs.declared.packet.RedirPacket.{RedirPacket}
 use Rattle.redir_data.specs.declared.packet.RedirPacket.TheVariants.{Plain, Carrying}
 use Rattle.redir_data.specs.Sent.{CanBeRead}
 use Rattle.redir_data.proofs.Sent.{control_sent}
-use Rattle.gate_history.specs.state.Calls.{asking}
+use Rattle.gate_history.specs.state.StreamIds.{asking}
 use Rattle.gate_history.specs.state.Flight.{wide_ids, wide_bulk}
 use Rattle.gate_history.specs.state.Ids.{greatest, last_of, Fits}
 use Rattle.gate_history.specs.declared.item.Item.{Item}

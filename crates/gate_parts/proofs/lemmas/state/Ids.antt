@@ -10,9 +10,9 @@ use Rattle.unlink_race.specs.declared.live.Live.{Live}
 use Rattle.unlink_race.specs.Requests.{Requests}
 use Rattle.unlink_race.specs.Searches.{has_id, goes_by_id}
 use Rattle.gate_history.specs.state.Ids.{holds, greatest, Fits}
-use Rattle.gate_history.specs.state.Calls.{Calls, call_ids}
+use Rattle.gate_history.specs.state.StreamIds.{StreamIds, ids_of_streams}
 use Rattle.gate_parts.specs.state.Ids.{row_ids, ids_in, is_id, greatest_in, greatest_of}
-use Rattle.gate_history.proofs.lemmas.state.Calls.{some}
+use Rattle.gate_history.proofs.lemmas.state.StreamIds.{some}
 use Rattle.std.specs.Option.{option_to_list, unwrap_or}
 use Rattle.std.specs.Prelude.{fold}
 
@@ -59,14 +59,14 @@ holds-some : (id : ℕ) (l : List (Option ℕ)) → list_any (is_id id) l ≡ ho
 holds-some id [] = refl
 holds-some id (o ∷ l) = holds-one id o (list_any (is_id id) l) (some l) (holds-some id l)
 
-pub holds-calls : (id : ℕ) (c : Calls) → (list_any (is_id id) c.started || list_any (is_id id) c.stopped) ≡ holds (call_ids c) id
-holds-calls id c = (λ i. holds-some id c.started i || holds-some id c.stopped i) ∙ sym (list_any-append (eqb id) (some c.started) (some c.stopped))
+pub holds-stream_ids : (id : ℕ) (c : StreamIds) → (list_any (is_id id) c.started || list_any (is_id id) c.stopped) ≡ holds (ids_of_streams c) id
+holds-stream_ids id c = (λ i. holds-some id c.started i || holds-some id c.stopped i) ∙ sym (list_any-append (eqb id) (some c.started) (some c.stopped))
 
-pub holds-all : (id : ℕ) (r : Requests) (c : Calls) → ((list_any (has_id id) r.live || list_any (has_id id) r.abandoned) || holds (call_ids c) id) ≡ holds (ids_in r ++ call_ids c) id
-holds-all id r c = ap (λ (b : Bool). b || holds (call_ids c) id) (holds-in id r) ∙ sym (list_any-append (eqb id) (ids_in r) (call_ids c))
+pub holds-all : (id : ℕ) (r : Requests) (c : StreamIds) → ((list_any (has_id id) r.live || list_any (has_id id) r.abandoned) || holds (ids_of_streams c) id) ≡ holds (ids_in r ++ ids_of_streams c) id
+holds-all id r c = ap (λ (b : Bool). b || holds (ids_of_streams c) id) (holds-in id r) ∙ sym (list_any-append (eqb id) (ids_in r) (ids_of_streams c))
 
-pub few-all : (r : Requests) (c : Calls) → length (ids_in r ++ call_ids c) ≤ length r.live + length r.abandoned + length (call_ids c)
-few-all r c = omega (arith, length-append (ids_in r) (call_ids c), few-in r)
+pub few-all : (r : Requests) (c : StreamIds) → length (ids_in r ++ ids_of_streams c) ≤ length r.live + length r.abandoned + length (ids_of_streams c)
+few-all r c = omega (arith, length-append (ids_in r) (ids_of_streams c), few-in r)
 
 pub large : (wide : Bool) → 4294967295 ≤ greatest wide
 large true = omega arith
@@ -91,8 +91,8 @@ none-above id a (o ∷ l) above =
 above-them : (id greatest : ℕ) → greatest < id → leb id greatest ≡ false
 above-them id greatest above = grind (arith, nat_tests)
 
-pub none-called : (id greatest : ℕ) (c : Calls) → greatest ≡ greatest_of c.started c.stopped → greatest < id → leb id greatest ≡ holds (call_ids c) id
-none-called id greatest c is above =
+pub none-held : (id greatest : ℕ) (c : StreamIds) → greatest ≡ greatest_of c.started c.stopped → greatest < id → leb id greatest ≡ holds (ids_of_streams c) id
+none-held id greatest c is above =
     let started : greatest_in c.started < id = omega (arith, is, above) in
     let stopped : greatest_in c.stopped < id = omega (arith, is, above) in
-    above-them id greatest above ∙ (λ i. sym (none-above id 0 c.started started).1 i || sym (none-above id 0 c.stopped stopped).1 i) ∙ holds-calls id c
+    above-them id greatest above ∙ (λ i. sym (none-above id 0 c.started started).1 i || sym (none-above id 0 c.stopped stopped).1 i) ∙ holds-stream_ids id c

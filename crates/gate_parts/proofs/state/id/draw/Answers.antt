@@ -1,6 +1,6 @@
 use Rattle.std.proofs.Common.{◌<◌, ◌++◌, length, refl, sym, subst, ◌∙◌, arith}
 use Rattle.gate_history.specs.state.Ids.{Fits}
-use Rattle.gate_history.specs.state.Calls.{call_ids}
+use Rattle.gate_history.specs.state.StreamIds.{ids_of_streams}
 use Rattle.gate_parts.specs.state.Ids.{ids_in}
 use Rattle.gate_history.proofs.lemmas.state.Cycle.{after-fits}
 use Rattle.gate_parts.proofs.lemmas.state.Ids.{large, few-all, fits-wide}
@@ -9,17 +9,17 @@ use Rattle.gate_parts.proofs.state.id.draw.Goals as goal
 use Rattle.gate_parts.proofs.state.id.draw.Goals.{After-after-id-in-loop-id}
 
 -- more ids than are in flight
-room : (c : After-after-id-in-loop-id) → length (ids_in c.args.lives.now ++ call_ids c.args.calls.now) < c.greatest-greatest.result
-room c = let few = few-all c.args.lives.now c.args.calls.now in omega (arith, large c.args.wide, c.loop-id.invariant.most, c.requires)
+room : (c : After-after-id-in-loop-id) → length (ids_in c.args.lives.now ++ ids_of_streams c.args.stream_ids.now) < c.greatest-greatest.result
+room c = let few = few-all c.args.lives.now c.args.stream_ids.now in omega (arith, large c.args.wide, c.loop-id.invariant.most, c.requires)
 
 pub loop-id-smaller : goal.loop-id-smaller
 loop-id-smaller c =
-    let p = pass c.greatest-greatest.result (ids_in c.args.lives.now ++ call_ids c.args.calls.now) c.loop-id.id c.loop-id.invariant.fits (room c) (sym c.is_held.ensures ∙ c.loop-id-test.true) in
+    let p = pass c.greatest-greatest.result (ids_in c.args.lives.now ++ ids_of_streams c.args.stream_ids.now) c.loop-id.id c.loop-id.invariant.fits (room c) (sym c.is_held.ensures ∙ c.loop-id-test.true) in
     rw c.after-id-in-loop-id.ensures p.1
 
 pub loop-id-preserved : goal.loop-id-preserved
 loop-id-preserved c =
-    let p = pass c.greatest-greatest.result (ids_in c.args.lives.now ++ call_ids c.args.calls.now) c.loop-id.id c.loop-id.invariant.fits (room c) (sym c.is_held.ensures ∙ c.loop-id-test.true) in
+    let p = pass c.greatest-greatest.result (ids_in c.args.lives.now ++ ids_of_streams c.args.stream_ids.now) c.loop-id.id c.loop-id.invariant.fits (room c) (sym c.is_held.ensures ∙ c.loop-id-test.true) in
     record {
       most = c.loop-id.invariant.most;
       fits = rw c.after-id-in-loop-id.ensures (after-fits c.greatest-greatest.result c.loop-id.id (omega (arith, room c)));
@@ -37,7 +37,7 @@ loop-id-init c =
 
 pub returns-clause-value : goal.returns-clause-value
 returns-clause-value c =
-    sym (stop c.greatest-greatest.result (ids_in c.args.lives.now ++ call_ids c.args.calls.now) (length (ids_in c.args.lives.now ++ call_ids c.args.calls.now)) c.loop-id.id (sym c.is_held.ensures ∙ c.loop-id-test.false))
+    sym (stop c.greatest-greatest.result (ids_in c.args.lives.now ++ ids_of_streams c.args.stream_ids.now) (length (ids_in c.args.lives.now ++ ids_of_streams c.args.stream_ids.now)) c.loop-id.id (sym c.is_held.ensures ∙ c.loop-id-test.false))
     ∙ c.loop-id.invariant.same
 
 pub returns-clause-free : goal.returns-clause-free

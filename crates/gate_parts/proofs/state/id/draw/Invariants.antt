@@ -1,6 +1,6 @@
 use Rattle.std.proofs.Common.{◌≡◌, ◌++◌, length}
 use Rattle.gate_history.specs.state.Ids.{free_from, draw, greatest, Fits}
-use Rattle.gate_history.specs.state.Calls.{call_ids}
+use Rattle.gate_history.specs.state.StreamIds.{ids_of_streams}
 use Rattle.gate_parts.specs.state.Ids.{ids_in}
 use Rattle.gate_history.proofs.lemmas.state.Search.{passes}
 use Rattle.gate_parts.proofs.state.id.draw.Given as goal
@@ -10,8 +10,8 @@ abbrev pub invariant-loop-id : goal.invariant-loop-id
 invariant-loop-id l = record {
   most : l.greatest ≡ greatest l.wide;
   fits : Fits l.greatest l.id;
-  same : free_from l.greatest (ids_in l.lives ++ call_ids l.calls) (length (ids_in l.lives ++ call_ids l.calls)) l.id ≡ draw (greatest l.wide) (ids_in l.lives ++ call_ids l.calls) l.last;
+  same : free_from l.greatest (ids_in l.lives ++ ids_of_streams l.stream_ids) (length (ids_in l.lives ++ ids_of_streams l.stream_ids)) l.id ≡ draw (greatest l.wide) (ids_in l.lives ++ ids_of_streams l.stream_ids) l.last;
 }
 
 abbrev pub decreases-loop-id : goal.decreases-loop-id
-decreases-loop-id l = passes l.greatest (ids_in l.lives ++ call_ids l.calls) (length (ids_in l.lives ++ call_ids l.calls)) l.id
+decreases-loop-id l = passes l.greatest (ids_in l.lives ++ ids_of_streams l.stream_ids) (length (ids_in l.lives ++ ids_of_streams l.stream_ids)) l.id

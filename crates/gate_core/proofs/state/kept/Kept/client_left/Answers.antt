@@ -20,15 +20,15 @@ use Rattle.gate_core.proofs.state.kept.Kept.client_left.Goals as goal
 pub returns-clause-ok : goal.returns-clause-ok
 returns-clause-ok c st h =
     let old = c.args.self.now in
-    does-leave st (Ends Client) refl refl refl c.in_ok-called.called old _ c.args.out.now _ _ h c.requires.kept.answered_fits c.requires.kept.unlinked_fits
-    (parts-are old st h (Ends Client) c.in_ok-called.called refl c.in_ok-called.ensures.called)
+    does-leave st (Ends Client) refl refl refl c.in_ok-sent_ids.sent_ids old _ c.args.out.now _ _ h c.requires.kept.answered_fits c.requires.kept.unlinked_fits
+    (parts-are old st h (Ends Client) c.in_ok-sent_ids.sent_ids refl c.in_ok-sent_ids.ensures.sent_ids)
     (ap (λ (k : Kept). record k { client_over = false }) c.leave.ensures.left.is)
-    (leaving-sent old st h (Ends Client) refl c.args.out.now.to_host _ _ c.in_ok-write_cancels.ensures.ok c.in_ok-called.ensures.sent)
+    (leaving-sent old st h (Ends Client) refl c.args.out.now.to_host _ _ c.in_ok-write_cancels.ensures.ok c.in_ok-sent_ids.ensures.sent)
     (c.in_ok-tell_gone.ensures.ok ∙ ap (λ (ns : List Note). c.args.out.now.notes ++ ns) (sym (append-nil (when (not old.client_over) note.ClientGone))))
 
-pub returns-in_err-called-clause-err : goal.returns-in_err-called-clause-err
-returns-in_err-called-clause-err c = on-err c.from_residual-in_err-called.result _ (leaves-host c.args.self.now c.args.self.now c.args.out.now c.write_stops.new.to_host refl
-    (extends-after c.args.out.now.to_host c.write_cancels.new.to_host c.write_stops.new.to_host _ c.in_ok-write_cancels.ensures.ok c.in_err-called.ensures.err))
+pub returns-in_err-sent_ids-clause-err : goal.returns-in_err-sent_ids-clause-err
+returns-in_err-sent_ids-clause-err c = on-err c.from_residual-in_err-sent_ids.result _ (leaves-host c.args.self.now c.args.self.now c.args.out.now c.write_stops.new.to_host refl
+    (extends-after c.args.out.now.to_host c.write_cancels.new.to_host c.write_stops.new.to_host _ c.in_ok-write_cancels.ensures.ok c.in_err-sent_ids.ensures.err))
 
 pub returns-in_err-write_cancels-clause-wants : goal.returns-in_err-write_cancels-clause-wants
 returns-in_err-write_cancels-clause-wants c st h =
@@ -40,10 +40,10 @@ returns-in_err-write_cancels-clause-wants c st h =
       cancelled-some (cancels (Ends Client)) (leaving-cancels st (Ends Client) refl refl) st.live,
     )))
 
-pub returns-in_err-called-clause-wants : goal.returns-in_err-called-clause-wants
-returns-in_err-called-clause-wants c st h =
-    on-err c.from_residual-in_err-called.result _
-    (by-asked st (Ends Client) None (subst (λ (ps : List RedirPacket). 0 < length ps) (stops-are c.args.self.now st h None) c.in_err-called.ensures.wants))
+pub returns-in_err-sent_ids-clause-wants : goal.returns-in_err-sent_ids-clause-wants
+returns-in_err-sent_ids-clause-wants c st h =
+    on-err c.from_residual-in_err-sent_ids.result _
+    (by-asked st (Ends Client) None (subst (λ (ps : List RedirPacket). 0 < length ps) (stops-are c.args.self.now st h None) c.in_err-sent_ids.ensures.wants))
 
 pub returns-in_err-tell_gone-clause-wants : goal.returns-in_err-tell_gone-clause-wants
 returns-in_err-tell_gone-clause-wants c st h =
@@ -54,5 +54,5 @@ returns-in_err-write_cancels-clause-err c = on-err c.from_residual.result _ (lea
 
 pub returns-in_err-tell_gone-clause-err : goal.returns-in_err-tell_gone-clause-err
 returns-in_err-tell_gone-clause-err c = on-err c.from_residual-in_err-tell_gone.result _ (leaves-untold c.args.self.now c.args.out.now c.write_stops.new.to_host c.tell_gone.new.notes
-    (extends-after c.args.out.now.to_host c.write_cancels.new.to_host c.write_stops.new.to_host _ c.in_ok-write_cancels.ensures.ok (record { more = _; is = c.in_ok-called.ensures.sent }))
+    (extends-after c.args.out.now.to_host c.write_cancels.new.to_host c.write_stops.new.to_host _ c.in_ok-write_cancels.ensures.ok (record { more = _; is = c.in_ok-sent_ids.ensures.sent }))
     c.in_err-tell_gone.ensures.err)

@@ -13,7 +13,7 @@ use Rattle.gate_history.specs.step.Meaning.{submission}
 use Rattle.gate_history.specs.write.Output.{fresh}
 use Rattle.gate_history.specs.write.Bytes.{host_packet_bytes}
 use Rattle.gate_history.proofs.lemmas.client.Carried.{can_be_written}
-use Rattle.gate_history.proofs.lemmas.state.Calls.{called-silent, wire-silent}
+use Rattle.gate_history.proofs.lemmas.state.StreamIds.{stream_ids_after-silent, wire-silent}
 use Rattle.gate_core.proofs.lemmas.state.Ids.{draw-is}
 use Rattle.gate_core.proofs.lemmas.client.Submit.{does-open}
 use Rattle.gate_core.proofs.state.kept.Kept.send.Goals as goal
@@ -32,7 +32,7 @@ returns-clause-ok c st h sound =
     does-open st s refl sound (λ v. refl) old _ (fresh s ∷ []) _ _ h c.requires.kept.unlinked_fits c.requires.kept.dropped_fits refl refl refl refl
     (c.open.ensures.opened.is ∙ (λ i. record old {
       lives = record { live = old.lives.live ++ row_for r (live_kind.Wire r.transfer.ep (c.kind.ensures i)) (id i) ∷ []; abandoned = old.lives.abandoned };
-      calls = sym (called-silent (id i ∷ []) (wire_packet c.args.pipe r.transfer ∷ []) old.calls (wire-silent c.args.pipe r.transfer, tt)) i;
+      stream_ids = sym (stream_ids_after-silent (id i ∷ []) (wire_packet c.args.pipe r.transfer ∷ []) old.stream_ids (wire-silent c.args.pipe r.transfer, tt)) i;
       last = id i;
       answered = capped-same old.answered c.requires.kept.answered_fits i;
     }))

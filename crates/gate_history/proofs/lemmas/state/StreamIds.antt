@@ -16,7 +16,7 @@ use Rattle.control_route.specs.declared.route.Route.{Route}
 use Rattle.control_route.specs.declared.route.Route.TheVariants as route
 use Rattle.redir_data.specs.declared.packet.RedirData.TheVariants as data_packet
 use Rattle.gate_history.specs.state.Ups.{Up}
-use Rattle.gate_history.specs.state.Calls.{Calls, started, stopped, called_by, called, call_ids}
+use Rattle.gate_history.specs.state.StreamIds.{StreamIds, started, stopped, stream_ids_by, stream_ids_after, ids_of_streams}
 use Rattle.gate_history.specs.state.Ids.{draw, draws, last_of, times}
 use Rattle.gate_history.specs.declared.verdict.Pipe.{Pipe}
 use Rattle.gate_history.specs.declared.verdict.Pipe.TheVariants.{Control, Bulk, InterruptOut}
@@ -50,19 +50,19 @@ pub last_or-append : (o : Option ℕ) (xs ys : List ℕ) → last_or o (xs ++ ys
 last_or-append o [] ys = refl
 last_or-append o (x ∷ xs) ys = last_or-append (Some x) xs ys
 
-pub called-append : (xs ys : List (ℕ × RedirPacket)) (c : Calls) → called (xs ++ ys) c ≡ called ys (called xs c)
-called-append [] ys c = refl
-called-append (x ∷ xs) ys c = called-append xs ys (called_by x.0 x.1 c)
+pub stream_ids_after-append : (xs ys : List (ℕ × RedirPacket)) (c : StreamIds) → stream_ids_after (xs ++ ys) c ≡ stream_ids_after ys (stream_ids_after xs c)
+stream_ids_after-append [] ys c = refl
+stream_ids_after-append (x ∷ xs) ys c = stream_ids_after-append xs ys (stream_ids_by x.0 x.1 c)
 
 -- ---- packets that neither start nor stop a stream
 
 abbrev pub IsSilent : RedirPacket → Type 0
-IsSilent p = (id : ℕ) (c : Calls) → called_by id p c ≡ c
+IsSilent p = (id : ℕ) (c : StreamIds) → stream_ids_by id p c ≡ c
 
-pub called-silent : (ids : List ℕ) (ps : List RedirPacket) (c : Calls) → Each IsSilent ps → called (zip ids ps) c ≡ c
-called-silent [] ps c h = refl
-called-silent (id ∷ ids) [] c h = refl
-called-silent (id ∷ ids) (p ∷ ps) c h = ap (called (zip ids ps)) (h.0 id c) ∙ called-silent ids ps c h.1
+pub stream_ids_after-silent : (ids : List ℕ) (ps : List RedirPacket) (c : StreamIds) → Each IsSilent ps → stream_ids_after (zip ids ps) c ≡ c
+stream_ids_after-silent [] ps c h = refl
+stream_ids_after-silent (id ∷ ids) [] c h = refl
+stream_ids_after-silent (id ∷ ids) (p ∷ ps) c h = ap (stream_ids_after (zip ids ps)) (h.0 id c) ∙ stream_ids_after-silent ids ps c h.1
 
 pub wire-silent : (pipe : Pipe) (t : Transfer) → IsSilent (wire_packet pipe t)
 wire-silent Control t id c = refl
@@ -88,11 +88,11 @@ iso-silent r = isos-silent r.transfer.ep r.transfer.body r.descs
 
 -- ---- those that do
 
-pub start-calls : (id ep : ℕ) (row : EpRow) (c : Calls) → called_by id (start_packet ep row) c ≡ started ep id c
-start-calls id ep row c = elim (is_iso row.kind) as (λ b. called_by id (Plain (cond b (plain.StartIso ep 8 4) (plain.StartInterrupt ep))) c ≡ started ep id c) [ true ↦ refl | false ↦ refl ]
+pub start-stream_ids : (id ep : ℕ) (row : EpRow) (c : StreamIds) → stream_ids_by id (start_packet ep row) c ≡ started ep id c
+start-stream_ids id ep row c = elim (is_iso row.kind) as (λ b. stream_ids_by id (Plain (cond b (plain.StartIso ep 8 4) (plain.StartInterrupt ep))) c ≡ started ep id c) [ true ↦ refl | false ↦ refl ]
 
-pub stop-calls : (id : ℕ) (up : Up) (c : Calls) → called_by id (stop_packet up) c ≡ stopped up.ep id c
-stop-calls id up c = elim (is_iso up.row.kind) as (λ b. called_by id (Plain (cond b (plain.StopIso up.ep) (plain.StopInterrupt up.ep))) c ≡ stopped up.ep id c) [ true ↦ refl | false ↦ refl ]
+pub stop-stream_ids : (id : ℕ) (up : Up) (c : StreamIds) → stream_ids_by id (stop_packet up) c ≡ stopped up.ep id c
+stop-stream_ids id up c = elim (is_iso up.row.kind) as (λ b. stream_ids_by id (Plain (cond b (plain.StopIso up.ep) (plain.StopInterrupt up.ep))) c ≡ stopped up.ep id c) [ true ↦ refl | false ↦ refl ]
 
 -- ---- how many there are
 
@@ -104,20 +104,20 @@ few-some [] = omega arith
 few-some (None ∷ l) = omega (arith, few-some l)
 few-some (Some x ∷ l) = omega (arith, few-some l)
 
-pub record AreLong (c : Calls) : Type 0 where
+pub record AreLong (c : StreamIds) : Type 0 where
   pub started : length c.started ≡ 32
   pub stopped : length c.stopped ≡ 32
 
-pub few-ids : (c : Calls) → AreLong c → length (call_ids c) ≤ 64
+pub few-ids : (c : StreamIds) → AreLong c → length (ids_of_streams c) ≤ 64
 few-ids c long = omega (arith, length-append (some c.started) (some c.stopped), few-some c.started, few-some c.stopped, long.started, long.stopped)
 
-long-started : (ep id : ℕ) (c : Calls) → AreLong c → AreLong (started ep id c)
+long-started : (ep id : ℕ) (c : StreamIds) → AreLong c → AreLong (started ep id c)
 long-started ep id c long = record { started = length-set c.started (endpoint_index ep) (Some id) ∙ long.started; stopped = length-set c.stopped (endpoint_index ep) None ∙ long.stopped }
 
-long-stopped : (ep id : ℕ) (c : Calls) → AreLong c → AreLong (stopped ep id c)
+long-stopped : (ep id : ℕ) (c : StreamIds) → AreLong c → AreLong (stopped ep id c)
 long-stopped ep id c long = record { started = long.started; stopped = length-set c.stopped (endpoint_index ep) (Some id) ∙ long.stopped }
 
-long-by : (id : ℕ) (p : RedirPacket) (c : Calls) → AreLong c → AreLong (called_by id p c)
+long-by : (id : ℕ) (p : RedirPacket) (c : StreamIds) → AreLong c → AreLong (stream_ids_by id p c)
 long-by id (Plain (plain.StartIso endpoint pkts_per_urb no_urbs)) c long = long-started endpoint id c long
 long-by id (Plain (plain.StartInterrupt endpoint)) c long = long-started endpoint id c long
 long-by id (Plain (plain.StopIso endpoint)) c long = long-stopped endpoint id c long
@@ -125,9 +125,9 @@ long-by id (Plain (plain.StopInterrupt endpoint)) c long = long-stopped endpoint
 long-by id (Plain _) c long = long
 long-by id (Carrying d) c long = long
 
-pub long-called : (ps : List (ℕ × RedirPacket)) (c : Calls) → AreLong c → AreLong (called ps c)
-long-called [] c long = long
-long-called (p ∷ ps) c long = long-called ps (called_by p.0 p.1 c) (long-by p.0 p.1 c long)
+pub long-stream_ids_after : (ps : List (ℕ × RedirPacket)) (c : StreamIds) → AreLong c → AreLong (stream_ids_after ps c)
+long-stream_ids_after [] c long = long
+long-stream_ids_after (p ∷ ps) c long = long-stream_ids_after ps (stream_ids_by p.0 p.1 c) (long-by p.0 p.1 c long)
 
 few-stop_of : (test : Up → Bool) (o : Option Up) → length (stop_of test o) ≤ 1
 few-stop_of test None = omega arith
@@ -152,17 +152,17 @@ times-set q [] k o = omega arith
 times-set q (x ∷ l) zero o = omega (arith, times-append q (option_to_list o) (some l), times-append q (option_to_list x) (some l))
 times-set q (x ∷ l) (suc k) o = omega (arith, times-set q l k o, times-append q (option_to_list x) (some (set l k o)), times-append q (option_to_list x) (some l))
 
-times-started : (q ep id : ℕ) (c : Calls) → times q (call_ids (started ep id c)) ≤ times q (call_ids c) + times q (id ∷ [])
+times-started : (q ep id : ℕ) (c : StreamIds) → times q (ids_of_streams (started ep id c)) ≤ times q (ids_of_streams c) + times q (id ∷ [])
 times-started q ep id c =
     let k = endpoint_index ep in
     omega (arith, times-append q (some (set c.started k (Some id))) (some (set c.stopped k None)), times-append q (some c.started) (some c.stopped), times-set q c.started k (Some id), times-set q c.stopped k None)
 
-times-stopped : (q ep id : ℕ) (c : Calls) → times q (call_ids (stopped ep id c)) ≤ times q (call_ids c) + times q (id ∷ [])
+times-stopped : (q ep id : ℕ) (c : StreamIds) → times q (ids_of_streams (stopped ep id c)) ≤ times q (ids_of_streams c) + times q (id ∷ [])
 times-stopped q ep id c =
     let k = endpoint_index ep in
     omega (arith, times-append q (some c.started) (some (set c.stopped k (Some id))), times-append q (some c.started) (some c.stopped), times-set q c.stopped k (Some id))
 
-times-by : (q id : ℕ) (p : RedirPacket) (c : Calls) → times q (call_ids (called_by id p c)) ≤ times q (call_ids c) + times q (id ∷ [])
+times-by : (q id : ℕ) (p : RedirPacket) (c : StreamIds) → times q (ids_of_streams (stream_ids_by id p c)) ≤ times q (ids_of_streams c) + times q (id ∷ [])
 times-by q id (Plain (plain.StartIso endpoint pkts_per_urb no_urbs)) c = times-started q endpoint id c
 times-by q id (Plain (plain.StartInterrupt endpoint)) c = times-started q endpoint id c
 times-by q id (Plain (plain.StopIso endpoint)) c = times-stopped q endpoint id c
@@ -170,10 +170,10 @@ times-by q id (Plain (plain.StopInterrupt endpoint)) c = times-stopped q endpoin
 times-by q id (Plain _) c = omega arith
 times-by q id (Carrying d) c = omega arith
 
-pub times-called : (q : ℕ) (ids : List ℕ) (ps : List RedirPacket) (c : Calls) → times q (call_ids (called (zip ids ps) c)) ≤ times q (call_ids c) + times q ids
-times-called q [] ps c = omega arith
-times-called q (id ∷ ids) [] c = omega arith
-times-called q (id ∷ ids) (p ∷ ps) c = omega (arith, times-called q ids ps (called_by id p c), times-by q id p c)
+pub times-stream_ids_after : (q : ℕ) (ids : List ℕ) (ps : List RedirPacket) (c : StreamIds) → times q (ids_of_streams (stream_ids_after (zip ids ps) c)) ≤ times q (ids_of_streams c) + times q ids
+times-stream_ids_after q [] ps c = omega arith
+times-stream_ids_after q (id ∷ ids) [] c = omega arith
+times-stream_ids_after q (id ∷ ids) (p ∷ ps) c = omega (arith, times-stream_ids_after q ids ps (stream_ids_by id p c), times-by q id p c)
 
 pub times-last : (q before : ℕ) (ids : List ℕ) → 1 ≤ length ids → times q (last_of before ids ∷ []) ≤ times q ids
 times-last q before [] some = absurd (omega arith)

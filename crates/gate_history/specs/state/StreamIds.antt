@@ -14,41 +14,41 @@ use Rattle.gate_history.specs.state.Sides.{leaves, is_loss}
 use Rattle.gate_history.specs.state.Ups.{Up, streams}
 use Rattle.gate_history.specs.write.Packets.{asked_packets}
 
-pub record Calls : Type 0 where
+pub record StreamIds : Type 0 where
   pub started : List (Option ℕ)
   pub stopped : List (Option ℕ)
 
-abbrev pub no_calls : Calls
-no_calls = record { started = replicate ENDPOINTS None; stopped = replicate ENDPOINTS None }
+abbrev pub no_stream_ids : StreamIds
+no_stream_ids = record { started = replicate ENDPOINTS None; stopped = replicate ENDPOINTS None }
 
-abbrev pub started : ℕ → ℕ → Calls → Calls
+abbrev pub started : ℕ → ℕ → StreamIds → StreamIds
 started ep id c = record { started = slice_set c.started (endpoint_index ep) (Some id); stopped = slice_set c.stopped (endpoint_index ep) None }
 
-abbrev pub stopped : ℕ → ℕ → Calls → Calls
+abbrev pub stopped : ℕ → ℕ → StreamIds → StreamIds
 stopped ep id c = record { started = c.started; stopped = slice_set c.stopped (endpoint_index ep) (Some id) }
 
 -- by a packet that was sent with this id
-abbrev pub called_by : ℕ → RedirPacket → Calls → Calls
-called_by id (Plain (plain.StartIso endpoint pkts_per_urb no_urbs)) c = started endpoint id c
-called_by id (Plain (plain.StartInterrupt endpoint)) c = started endpoint id c
-called_by id (Plain (plain.StopIso endpoint)) c = stopped endpoint id c
-called_by id (Plain (plain.StopInterrupt endpoint)) c = stopped endpoint id c
-called_by id _ c = c
+abbrev pub stream_ids_by : ℕ → RedirPacket → StreamIds → StreamIds
+stream_ids_by id (Plain (plain.StartIso endpoint pkts_per_urb no_urbs)) c = started endpoint id c
+stream_ids_by id (Plain (plain.StartInterrupt endpoint)) c = started endpoint id c
+stream_ids_by id (Plain (plain.StopIso endpoint)) c = stopped endpoint id c
+stream_ids_by id (Plain (plain.StopInterrupt endpoint)) c = stopped endpoint id c
+stream_ids_by id _ c = c
 
 -- by several, the first that was sent first
-abbrev pub called : List (ℕ × RedirPacket) → Calls → Calls
-called ps c = fold (λ before p. called_by p.0 p.1 before) c ps
+abbrev pub stream_ids_after : List (ℕ × RedirPacket) → StreamIds → StreamIds
+stream_ids_after ps c = fold (λ before p. stream_ids_by p.0 p.1 before) c ps
 
 -- the packets of an item that have ids of their own
 abbrev pub asking : List (Option Up) → Mark → List (ℕ × RedirPacket)
 asking ups m = zip m.drawn (asked_packets ups m.what)
 
-abbrev pub calls : List Mark → Calls
-calls [] = no_calls
-calls (m ∷ ms) = called (asking (streams ms) m) (calls ms)
+abbrev pub stream_ids : List Mark → StreamIds
+stream_ids [] = no_stream_ids
+stream_ids (m ∷ ms) = stream_ids_after (asking (streams ms) m) (stream_ids ms)
 
-abbrev pub call_ids : Calls → List ℕ
-call_ids c = flat_map option_to_list c.started ++ flat_map option_to_list c.stopped
+abbrev pub ids_of_streams : StreamIds → List ℕ
+ids_of_streams c = flat_map option_to_list c.started ++ flat_map option_to_list c.stopped
 
 -- ---- the fence: the last stop that a client's leaving sent, until the host's word on it has come or the device is lost.
 -- What that client's streams still send comes before that word

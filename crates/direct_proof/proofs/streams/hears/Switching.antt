@@ -15,8 +15,8 @@ use Rattle.redir_host.specs.guest.Packets.{packet_move_by, runs_at, started, sto
 use Rattle.gate_history.proofs.lemmas.Lists.{Each-append, Each-filter}
 use Rattle.gate_history.specs.state.Ups.{Up, stream_of}
 use Rattle.direct_proof.specs.Tagged.{Stated, on_wire}
-use Rattle.direct_proof.specs.Kinds.{IsIn, OfKind, StartOfKind, CallIsIn}
-use Rattle.direct_proof.specs.Running.{CanStart, called_endpoint, started_kind, runs_after}
+use Rattle.direct_proof.specs.Kinds.{IsIn, OfKind, StartOfKind, StreamIsIn}
+use Rattle.direct_proof.specs.Running.{CanStart, stream_endpoint, started_kind, runs_after}
 
 -- ---- those that run
 
@@ -63,13 +63,13 @@ started-runs k ep e rs = last (stopped ep rs) ∙ (λ i. stopped-runs ep e rs i 
     by false true = refl
     by false false = refl
 
--- ---- a call
+-- ---- a start or a stop
 
-pub record HostCalls {S : Type 0} (m : Meaning S) (h : Host S) (ups : List (Option Up)) (q : ℕ × RedirPacket) : Type 0 where
+pub record HostSwitches {S : Type 0} (m : Meaning S) (h : Host S) (ups : List (Option Up)) (q : ℕ × RedirPacket) : Type 0 where
   pub kind : StreamKind
   pub ep : ℕ
   pub running : List Running
-  pub at : called_endpoint q.1 ≡ Some ep
+  pub at : stream_endpoint q.1 ≡ Some ep
   pub is_in : IsIn ep
   pub moved : packet_move_by m h q.0 q.1 ≡ replies (record h { running = running }) (on_wire (Stated kind q.0 ep 0))
   pub same : advanced h.guest q.1 ≡ h.guest
@@ -81,9 +81,9 @@ none-some : (e : ℕ) → None ≡ Some e → ⊥
 none-some e h = cc
 
 module _ {S : Type 0} (m : Meaning S) (h : Host S) (ups : List (Option Up)) (kinds : Each (λ (s : Running). OfKind (stream_of ups s.ep) s.kind) h.running) (ins : Each (λ (s : Running). IsIn s.ep) h.running) where
-  starting : (id ep : ℕ) (k : StreamKind) (p : RedirPacket) → called_endpoint p ≡ Some ep → IsIn ep → OfKind (stream_of ups ep) k →
+  starting : (id ep : ℕ) (k : StreamKind) (p : RedirPacket) → stream_endpoint p ≡ Some ep → IsIn ep → OfKind (stream_of ups ep) k →
       packet_move_by m h id p ≡ replies (record h { running = started k ep h.running }) (on_wire (Stated k id ep 0)) → advanced h.guest p ≡ h.guest →
-      ((e : ℕ) (r : Bool) → cond (ep == e) true r ≡ runs_after e p r) → HostCalls m h ups (id, p)
+      ((e : ℕ) (r : Bool) → cond (ep == e) true r ≡ runs_after e p r) → HostSwitches m h ups (id, p)
   starting id ep k p at is_in kind moved same runs = record {
     kind = k;
     ep = ep;
@@ -97,9 +97,9 @@ module _ {S : Type 0} (m : Meaning S) (h : Host S) (ups : List (Option Up)) (kin
     ins = Each-append (λ (s : Running). IsIn s.ep) (stopped ep h.running) (record { ep = ep; kind = k } ∷ []) (Each-filter (λ (s : Running). IsIn s.ep) (λ s. not (runs_at ep s)) h.running ins) (is_in, tt);
   }
 
-  stopping : (id ep : ℕ) (k : StreamKind) (p : RedirPacket) → called_endpoint p ≡ Some ep → IsIn ep →
+  stopping : (id ep : ℕ) (k : StreamKind) (p : RedirPacket) → stream_endpoint p ≡ Some ep → IsIn ep →
       packet_move_by m h id p ≡ replies (record h { running = stopped ep h.running }) (on_wire (Stated k id ep 0)) → advanced h.guest p ≡ h.guest →
-      ((e : ℕ) (r : Bool) → cond (ep == e) false r ≡ runs_after e p r) → HostCalls m h ups (id, p)
+      ((e : ℕ) (r : Bool) → cond (ep == e) false r ≡ runs_after e p r) → HostSwitches m h ups (id, p)
   stopping id ep k p at is_in moved same runs = record {
     kind = k;
     ep = ep;
@@ -113,10 +113,10 @@ module _ {S : Type 0} (m : Meaning S) (h : Host S) (ups : List (Option Up)) (kin
     ins = Each-filter (λ (s : Running). IsIn s.ep) (λ s. not (runs_at ep s)) h.running ins;
   }
 
-  pub host-calls : (q : ℕ × RedirPacket) (x : ℕ) → called_endpoint q.1 ≡ Some x → CallIsIn (called_endpoint q.1) → (changing : Bool) → CanStart (m.table h.gadget) changing (started_kind q.1) → StartOfKind ups (started_kind q.1) → HostCalls m h ups q
-  host-calls (id, Plain (plain.StartIso e n k)) x called at changing can kind = starting id e Iso (Plain (plain.StartIso e n k)) refl at kind (ap (λ (b : Bool). start_move b h id Iso e) can.1) refl (λ y r. refl)
-  host-calls (id, Plain (plain.StopIso e)) x called at changing can kind = stopping id e Iso (Plain (plain.StopIso e)) refl at refl refl (λ y r. refl)
-  host-calls (id, Plain (plain.StartInterrupt e)) x called at changing can kind = starting id e Interrupt (Plain (plain.StartInterrupt e)) refl at kind (ap (λ (b : Bool). start_move b h id Interrupt e) can.1) refl (λ y r. refl)
-  host-calls (id, Plain (plain.StopInterrupt e)) x called at changing can kind = stopping id e Interrupt (Plain (plain.StopInterrupt e)) refl at refl refl (λ y r. refl)
-  host-calls (id, Plain _) y called at changing can kind = absurd (none-some y called)
-  host-calls (id, Carrying d) y called at changing can kind = absurd (none-some y called)
+  pub host-switches : (q : ℕ × RedirPacket) (x : ℕ) → stream_endpoint q.1 ≡ Some x → StreamIsIn (stream_endpoint q.1) → (changing : Bool) → CanStart (m.table h.gadget) changing (started_kind q.1) → StartOfKind ups (started_kind q.1) → HostSwitches m h ups q
+  host-switches (id, Plain (plain.StartIso e n k)) x switched at changing can kind = starting id e Iso (Plain (plain.StartIso e n k)) refl at kind (ap (λ (b : Bool). start_move b h id Iso e) can.1) refl (λ y r. refl)
+  host-switches (id, Plain (plain.StopIso e)) x switched at changing can kind = stopping id e Iso (Plain (plain.StopIso e)) refl at refl refl (λ y r. refl)
+  host-switches (id, Plain (plain.StartInterrupt e)) x switched at changing can kind = starting id e Interrupt (Plain (plain.StartInterrupt e)) refl at kind (ap (λ (b : Bool). start_move b h id Interrupt e) can.1) refl (λ y r. refl)
+  host-switches (id, Plain (plain.StopInterrupt e)) x switched at changing can kind = stopping id e Interrupt (Plain (plain.StopInterrupt e)) refl at refl refl (λ y r. refl)
+  host-switches (id, Plain _) y switched at changing can kind = absurd (none-some y switched)
+  host-switches (id, Carrying d) y switched at changing can kind = absurd (none-some y switched)

@@ -7,24 +7,24 @@ use Rattle.redir_host.specs.declared.running.Running.{Running}
 use Rattle.redir_host.specs.step.Moves.{quiet as host_quiet}
 use Rattle.redir_host.specs.guest.Packets.{packet_move_by}
 use Rattle.gate_history.specs.state.Ids.{times}
-use Rattle.gate_history.proofs.lemmas.state.Calls.{times-append}
+use Rattle.gate_history.proofs.lemmas.state.StreamIds.{times-append}
 use Rattle.direct_run.specs.Moves.{World, HostReads}
 use Rattle.direct_proof.specs.Moves.{move, quiet, host_reads, host_takes}
 use Rattle.direct_proof.specs.Tagged.{Tagged, Stated, on_wire}
-use Rattle.direct_proof.specs.Calls.{Fenced, call_id, statuses_on, calls_on}
+use Rattle.direct_proof.specs.StreamIds.{Fenced, stream_id, statuses_on, stream_ids_on}
 use Rattle.direct_proof.specs.Stale.{is_fence}
 use Rattle.direct_proof.proofs.shared.Folds.{not-both}
 use Rattle.direct_proof.proofs.streams.fills.FillLists.{weight}
-use Rattle.direct_proof.proofs.streams.hears.Calling.{HostCalls}
+use Rattle.direct_proof.proofs.streams.hears.Switching.{HostSwitches}
 
 -- ---- what the move makes
 
-abbrev pub called_world : {S : Type 0} → World S → List (ℕ × RedirPacket) → List Running → ℕ × RedirPacket → World S
-called_world w ps running p = record w { to_host = ps; host = record w.host { running = running }; to_gate = w.to_gate ++ p ∷ [] }
+abbrev pub switched_world : {S : Type 0} → World S → List (ℕ × RedirPacket) → List Running → ℕ × RedirPacket → World S
+switched_world w ps running p = record w { to_host = ps; host = record w.host { running = running }; to_gate = w.to_gate ++ p ∷ [] }
 
-pub called-moved : {S : Type 0} (m : Meaning S) (w : World S) (q : ℕ × RedirPacket) (ps : List (ℕ × RedirPacket)) (c : HostCalls m w.host w.gate.streams q) → w.to_host ≡ q ∷ ps → w.host.unplugged ≡ false →
-    move m w HostReads ≡ quiet (called_world w ps c.running (on_wire (Stated c.kind q.0 c.ep 0)))
-called-moved {S = S} m w q ps c wire plugged =
+pub switched-moved : {S : Type 0} (m : Meaning S) (w : World S) (q : ℕ × RedirPacket) (ps : List (ℕ × RedirPacket)) (c : HostSwitches m w.host w.gate.streams q) → w.to_host ≡ q ∷ ps → w.host.unplugged ≡ false →
+    move m w HostReads ≡ quiet (switched_world w ps c.running (on_wire (Stated c.kind q.0 c.ep 0)))
+switched-moved {S = S} m w q ps c wire plugged =
     ap (host_reads m w) wire
     ∙ ap (host_takes (record w { to_host = ps })) (
     (λ i. cond (plugged i) (host_quiet (record w.host { guest = c.same i })) (packet_move_by m (record w.host { guest = c.same i }) q.0 q.1))
@@ -48,18 +48,18 @@ stays-clean false true true h = refl
 stays-clean false true false h = refl
 stays-clean false false x h = absurd (not-both (sym h))
 
-pub fenced-called : (fence : Option ℕ) (fenced : Bool) (q : ℕ × RedirPacket) (ps : List (ℕ × RedirPacket)) (back : List Tagged) (b : Tagged) → call_id q ≡ q.0 ∷ [] → statuses_on (back ++ b ∷ []) ≡ statuses_on back ++ q.0 ∷ [] →
-    ((id : ℕ) → times id (calls_on (q ∷ ps)) + times id (statuses_on back) ≤ 1) → Fenced fence fenced (q ∷ ps) back → Fenced fence (unfenced fence q.0 fenced) ps (back ++ b ∷ [])
-fenced-called None fenced q ps back b id stated once h = ap (λ (x : Bool). x && true) h
-fenced-called (Some f) fenced q ps back b id stated once h = by (f == q.0) refl
+pub fenced-switched : (fence : Option ℕ) (fenced : Bool) (q : ℕ × RedirPacket) (ps : List (ℕ × RedirPacket)) (back : List Tagged) (b : Tagged) → stream_id q ≡ q.0 ∷ [] → statuses_on (back ++ b ∷ []) ≡ statuses_on back ++ q.0 ∷ [] →
+    ((id : ℕ) → times id (stream_ids_on (q ∷ ps)) + times id (statuses_on back) ≤ 1) → Fenced fence fenced (q ∷ ps) back → Fenced fence (unfenced fence q.0 fenced) ps (back ++ b ∷ [])
+fenced-switched None fenced q ps back b id stated once h = ap (λ (x : Bool). x && true) h
+fenced-switched (Some f) fenced q ps back b id stated once h = by (f == q.0) refl
   where
-    here : times f (calls_on (q ∷ ps)) ≡ (cond (f == q.0) 1 0 + 0) + times f (calls_on ps)
-    here = times-append f (call_id q) (calls_on ps) ∙ ap (λ (l : List ℕ). times f l + times f (calls_on ps)) id
+    here : times f (stream_ids_on (q ∷ ps)) ≡ (cond (f == q.0) 1 0 + 0) + times f (stream_ids_on ps)
+    here = times-append f (stream_id q) (stream_ids_on ps) ∙ ap (λ (l : List ℕ). times f l + times f (stream_ids_on ps)) id
 
     more : times f (statuses_on (back ++ b ∷ [])) ≡ times f (statuses_on back) + (cond (f == q.0) 1 0 + 0)
     more = ap (times f) stated ∙ times-append f (statuses_on back) (q.0 ∷ [])
 
-    by : (x : Bool) → (f == q.0) ≡ x → (1 ≤ times f (calls_on ps) → (fenced && not (f == q.0)) ≡ true) × ((fenced && not (f == q.0)) ≡ true → times f (statuses_on (back ++ b ∷ [])) ≡ 0)
+    by : (x : Bool) → (f == q.0) ≡ x → (1 ≤ times f (stream_ids_on ps) → (fenced && not (f == q.0)) ≡ true) × ((fenced && not (f == q.0)) ≡ true → times f (statuses_on (back ++ b ∷ [])) ≡ 0)
     by true e = (
       (λ k. let o = once f in let z : weight (f == q.0) ≡ weight true = ap weight e in absurd (omega (arith, k, o, z, here))),
       (λ k. absurd (and-false fenced (sym k ∙ ap (λ (y : Bool). fenced && not y) e))),

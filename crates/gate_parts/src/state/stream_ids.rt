@@ -3,7 +3,7 @@
 ghost use Rattle.std.specs.Prelude.{◌≡◌, Some, None};
 ghost use Rattle.std.specs.List.{list_any};
 ghost use Rattle.gate_history.specs.state.Ids.{holds};
-ghost use Rattle.gate_history.specs.state.Calls.{no_calls, started, stopped, call_ids, lifted};
+ghost use Rattle.gate_history.specs.state.StreamIds.{no_stream_ids, started, stopped, ids_of_streams, lifted};
 ghost use Rattle.gate_parts.specs.state.Ids.{greatest_in, greatest_of, is_id};
 
 use std::marker::Model;
@@ -11,36 +11,36 @@ use usb_base::{ENDPOINTS, EpAddr};
 
 /// Of each endpoint's place in the table the id of its last start, and that of the last stop after it.
 #[derive(Clone, Copy)]
-pub struct Calls {
+pub struct StreamIds {
     started: [Option<u64>; ENDPOINTS],
     stopped: [Option<u64>; ENDPOINTS],
     /// The greatest of these ids, or 0: one that is drawn anew is mostly above it, and so is none of them.
     greatest: u64,
 }
 
-impl Model for Calls {
+impl Model for StreamIds {
     ghost use Rattle.std.specs.Prelude.{◌≡◌};
     ghost use Rattle.std.proofs.Common.{sym};
-    ghost use Rattle.gate_history.specs.state.Calls.{Calls as CallsView};
+    ghost use Rattle.gate_history.specs.state.StreamIds.{StreamIds as StreamIdsView};
     ghost use Rattle.gate_parts.specs.state.Ids.{greatest_of};
 
-    ghost Value = { CallsView };
+    ghost Value = { StreamIdsView };
 
-    ghost view = { λ calls. record { started = calls.started; stopped = calls.stopped } };
+    ghost view = { λ stream_ids. record { started = stream_ids.started; stopped = stream_ids.stopped } };
 
-    ghost invariant = { λ calls. calls.greatest ≡ greatest_of calls.started calls.stopped };
+    ghost invariant = { λ stream_ids. stream_ids.greatest ≡ greatest_of stream_ids.started stream_ids.stopped };
 
-    ghost inverse = { λ calls. record { started = calls.started; stopped = calls.stopped; greatest = greatest_of calls.started calls.stopped } };
+    ghost inverse = { λ stream_ids. record { started = stream_ids.started; stopped = stream_ids.stopped; greatest = greatest_of stream_ids.started stream_ids.stopped } };
 
-    ghost inverse_ok = { λ calls is i. record { started = calls.started; stopped = calls.stopped; greatest = sym is i } };
+    ghost inverse_ok = { λ stream_ids is i. record { started = stream_ids.started; stopped = stream_ids.stopped; greatest = sym is i } };
 }
 
-impl Calls {
+impl StreamIds {
     /// None was started.
-    pub fn none() -> Calls
-        ensures { result ≡ no_calls }
+    pub fn none() -> StreamIds
+        ensures { result ≡ no_stream_ids }
     {
-        Calls {
+        StreamIds {
             started: [None; ENDPOINTS],
             stopped: [None; ENDPOINTS],
             greatest: 0,
@@ -66,7 +66,7 @@ impl Calls {
 
     /// Whether an id is one of these.
     pub fn holds(&self, id: u64) -> bool
-        ensures { result ≡ holds (call_ids self.now) id }
+        ensures { result ≡ holds (ids_of_streams self.now) id }
     {
         id <= self.greatest && (any_is(&self.started, id) || any_is(&self.stopped, id))
     }
@@ -105,8 +105,8 @@ fn is_id(held: &Option<u64>, id: u64) -> bool
 
 /// What is kept once the packets that start or stop streams are sent.
 #[derive(Clone, Copy)]
-pub struct Called {
-    pub calls: Calls,
+pub struct SentIds {
+    pub stream_ids: StreamIds,
     /// The id that was drawn last.
     pub last: u64,
     /// The id of the last stop, where the client is gone.
