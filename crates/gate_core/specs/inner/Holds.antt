@@ -26,8 +26,7 @@ use Rattle.gate_history.specs.write.All.{is_ret_submit, is_won_unlink}
 use Rattle.gate_history.specs.write.Bytes.{client_bytes_of, host_bytes_of}
 use Rattle.gate_history.specs.step.Machine.{start, after}
 use Rattle.gate_history.specs.declared.request.Request.{Request}
-use Rattle.gate_core.specs.state.Kept.{ItemsKept}
-use Rattle.gate_core.specs.step.Stands.{IsOf}
+pub use Rattle.gate_core.specs.step.Stands.{Holds}
 use Rattle.gate_history.specs.write.Asked.{HasItsPackets}
 use Rattle.gate_parts.specs.state.Rows.{kind_of, IsFine, IsRead}
 use Rattle.gate_parts.specs.write.Extends.{Extends}
@@ -48,29 +47,6 @@ pub record IsKept (t : Kept) : Type 0 where
   pub answered_fits : t.answered ≤ 2 ^ 64 - 1
   pub unlinked_fits : t.unlinked ≤ 2 ^ 64 - 1
   pub dropped_fits : t.dropped ≤ 2 ^ 64 - 1
-
--- without its allocator
-abbrev pub items_of : Kept → ItemsKept
-items_of t = record {
-  facts = t.facts;
-  caps = t.caps;
-  imported = t.imported;
-  lost = t.lost;
-  client_over = t.client_over;
-  host_over = t.host_over;
-  streams = t.streams;
-  stream_ids = t.stream_ids;
-  fence = t.fence;
-  live = t.lives.live;
-  abandoned = t.lives.abandoned;
-  last = t.last;
-  answered = t.answered;
-  unlinked = t.unlinked;
-  dropped = t.dropped;
-}
-
-abbrev pub Holds : Kept → State → Type 0
-Holds t st = IsOf (items_of t) st
 
 -- nothing came yet
 pub record IsFirst (t : Kept) (first : ℕ) : Type 0 where

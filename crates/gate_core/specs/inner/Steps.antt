@@ -16,11 +16,10 @@ use Rattle.gate_history.specs.write.Bytes.{out_client, out_host}
 use Rattle.gate_core.specs.state.Kept.{GateKept}
 use Rattle.gate_core.specs.step.Stands.{Stands, Stops}
 use Rattle.gate_history.specs.Headline.{Gains}
-use Rattle.gate_core.specs.inner.Holds.{items_of}
 
--- what the gate keeps, without its allocators
+-- what the gate keeps, without the allocator
 abbrev pub kept_of : Inner → GateKept
-kept_of g = record { items = items_of g.translator; client = g.client; host = g.host; failed = is_some g.want }
+kept_of g = record { items = g.translator; client = g.client; host = g.host; failed = is_some g.want }
 
 abbrev pub raw_told : ℕ → Header × RedirPacket → RawItem
 raw_told place p = raw.Told place p.0 p.1

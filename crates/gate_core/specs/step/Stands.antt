@@ -16,7 +16,8 @@ use Rattle.gate_history.specs.write.Output.{to_client}
 use Rattle.gate_history.specs.write.Notes.{dropped}
 use Rattle.gate_history.specs.write.All.{all_of, is_ret_submit, is_won_unlink}
 use Rattle.gate_history.specs.write.Bytes.{out_client, out_host}
-use Rattle.gate_core.specs.state.Kept.{ItemsKept, GateKept}
+use Rattle.gate_core.specs.declared.state.kept.Kept.{Kept}
+use Rattle.gate_core.specs.state.Kept.{GateKept}
 use Rattle.gate_parts.specs.state.Rows.{row, left_row, unmarked}
 use Rattle.gate_history.specs.step.Wants.{IsHeld, FirstWants}
 use Rattle.gate_history.specs.step.Came.{asked, told}
@@ -29,7 +30,7 @@ HasFailed g = g.failed ≡ true
 -- ---- items
 
 -- what is kept is that of this state
-pub record IsOf (t : ItemsKept) (st : State) : Type 0 where
+pub record Holds (t : Kept) (st : State) : Type 0 where
   pub facts : t.facts ≡ st.facts
   pub caps : t.caps ≡ st.agreed
   pub imported : t.imported ≡ st.imported
@@ -40,12 +41,12 @@ pub record IsOf (t : ItemsKept) (st : State) : Type 0 where
   pub stream_ids : t.stream_ids ≡ st.stream_ids
   pub fence : t.fence ≡ st.fence
   pub last : t.last ≡ st.last
-  pub live : t.live ≡ map row st.live
-  pub abandoned : map unmarked t.abandoned ≡ map left_row st.abandoned
+  pub live : t.lives.live ≡ map row st.live
+  pub abandoned : map unmarked t.lives.abandoned ≡ map left_row st.abandoned
 
 -- it is that of the past of these items, and what they gave is counted
-pub record Translates (first : ℕ) (t : ItemsKept) (xs : List Item) : Type 0 where
-  pub state : IsOf t (state_of first (past first xs))
+pub record Translates (first : ℕ) (t : Kept) (xs : List Item) : Type 0 where
+  pub state : Holds t (state_of first (past first xs))
   pub answered : t.answered ≡ capped (length (filter is_ret_submit (all_of to_client first (past first xs))))
   pub unlinked : t.unlinked ≡ capped (length (filter is_won_unlink (all_of to_client first (past first xs))))
   pub dropped : t.dropped ≡ capped (length (all_of dropped first (past first xs)))

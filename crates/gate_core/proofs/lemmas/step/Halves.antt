@@ -22,7 +22,7 @@ use Rattle.gate_history.specs.state.State.{state_of}
 use Rattle.gate_parts.specs.declared.write.outputs.Outputs.{Outputs}
 use Rattle.gate_core.specs.declared.state.kept.Kept.{Kept as Translator}
 use Rattle.gate_core.specs.step.Stands.{Translates, StreamStands, HasAll}
-use Rattle.gate_core.specs.inner.Holds.{items_of, DoesNothing}
+use Rattle.gate_core.specs.inner.Holds.{DoesNothing}
 use Rattle.gate_core.specs.inner.Steps.{Sends}
 
 -- ---- what a side is
@@ -59,7 +59,7 @@ pub record IsSide {S P : Type 0} (first : ℕ) (h : Half S P) (r : Reader S P Re
   pub takes_is : (n : ℕ) (p : P) → takes p ≡ takes_memory (h.stream.packet n p)
   pub over_past : (xs ys : List Item) → past first xs ≡ past first ys → h.stream.over xs ≡ h.stream.over ys
   pub other_past : (xs ys : List Item) → past first xs ≡ past first ys → h.other_over xs ≡ h.other_over ys
-  pub over_is : (t : Translator) (xs : List Item) → Translates first (items_of t) xs → over_in t ≡ h.stream.over xs
+  pub over_is : (t : Translator) (xs : List Item) → Translates first t xs → over_in t ≡ h.stream.over xs
   pub came_packet : (xs : List Item) (n : ℕ) (p : P) → h.came (h.stream.packet n p ∷ xs) ≡ h.came xs ++ (n, p) ∷ []
   -- its items are left out where it is over
   pub out_packet : (xs : List Item) (n : ℕ) (p : P) → is_left_out (state_of first (past first xs)) (h.stream.packet n p) ≡ h.stream.over xs
@@ -78,7 +78,7 @@ pub record IsSide {S P : Type 0} (first : ℕ) (h : Half S P) (r : Reader S P Re
 -- behind these items, which its bytes have brought
 pub record IsAt {S P : Type 0} (first : ℕ) (h : Half S P) (kept : StreamView S) (t : Translator) (bytes : List ℕ) (before : List Item) : Type 0 where
   pub all : HasAll h.stream.reader h.stream.start kept bytes (h.came before) (h.stream.over before)
-  pub translates : Translates first (items_of t) before
+  pub translates : Translates first t before
 
 -- behind some items, and it goes on
 pub record GoesOn {S P : Type 0} (first : ℕ) (h : Half S P) (kept : StreamView S) (t : Translator) : Type 0 where
@@ -86,7 +86,7 @@ pub record GoesOn {S P : Type 0} (first : ℕ) (h : Half S P) (kept : StreamView
   pub bytes : List ℕ
   pub follows : Follows h.stream.reader h.stream.start kept bytes (h.came items)
   pub runs : h.stream.over items ≡ false
-  pub translates : Translates first (items_of t) items
+  pub translates : Translates first t items
 
 -- a packet that comes next, wherever it stands, is an item that the translator can take
 abbrev pub FitsNext : {S P : Type 0} → (ℕ → Half S P) → Reader S P Reason → (P → Bool) → (ℕ → P → RawItem) → Type 0
@@ -99,7 +99,7 @@ FitsNext {S = S} {P = P} half r takes raw_packet =
 -- all that the piece brought was taken or is left out
 pub record Finished {S P : Type 0} (first : ℕ) (h : Half S P) (kept : StreamView S) (t : Translator) (bytes piece : List ℕ) (before : List Item) (out_old out_new : Outputs) : Type 0 where
   pub all : HasAll h.stream.reader h.stream.start kept (bytes ++ piece) (h.came (onto (added h.stream bytes piece) before)) (h.stream.over (onto (added h.stream bytes piece) before))
-  pub translates : Translates first (items_of t) (onto (added h.stream bytes piece) before)
+  pub translates : Translates first t (onto (added h.stream bytes piece) before)
   pub sends : Sends first out_old out_new before (onto (added h.stream bytes piece) before)
   pub others_are : h.others (onto (added h.stream bytes piece) before) ≡ h.others before
   pub other_over : h.other_over (onto (added h.stream bytes piece) before) ≡ h.other_over before
@@ -112,7 +112,7 @@ pub record Halted {S P : Type 0} (first : ℕ) (h : Half S P) (kept : StreamView
   pub parts : added h.stream bytes piece ≡ taken ++ next ∷ behind
   pub wants : Wants first (onto taken before) next
   pub stands : StreamStands h.stream.reader h.stream.start kept (bytes ++ piece) (h.came (onto taken before)) (h.stream.over (onto taken before))
-  pub translates : Translates first (items_of t) (onto taken before)
+  pub translates : Translates first t (onto taken before)
   pub sends : Sends first out_old out_new before (onto taken before)
   pub others_are : h.others (onto taken before) ≡ h.others before
   pub other_over : h.other_over (onto taken before) ≡ h.other_over before

@@ -23,7 +23,7 @@ use Rattle.gate_history.specs.step.Past.{is_left_out, past}
 use Rattle.gate_history.specs.step.History.{onto}
 use Rattle.gate_history.specs.step.Wants.{Wants}
 use Rattle.gate_core.specs.step.Stands.{Translates, HasAll, IsLeftBy}
-use Rattle.gate_core.specs.inner.Holds.{items_of, DoesNothing}
+use Rattle.gate_core.specs.inner.Holds.{DoesNothing}
 use Rattle.gate_history.specs.step.Fits.{IsItem, ItemFits}
 use Rattle.gate_core.specs.declared.step.taker.ItemTaker.{ItemTaker}
 use Rattle.gate_core.specs.inner.Steps.{Sends}
@@ -94,13 +94,13 @@ pub record Taking {S P : Type 0} (first : ℕ) (h : Half S P) (kept : StreamView
   pub taken : List Item
   pub stream : Taken h.stream kept bytes piece (h.came before) taken
   pub over_is : kept.over ≡ h.stream.over (onto taken before)
-  pub translates : Translates first (items_of t) (onto taken before)
+  pub translates : Translates first t (onto taken before)
   pub sends : Sends first out_old out_new before (onto taken before)
   pub others_are : h.others (onto taken before) ≡ h.others before
   pub other_over : h.other_over (onto taken before) ≡ h.other_over before
 
 pub taking-first : {S P : Type 0} (first : ℕ) (d : Side S P first) (old new : StreamView S) (t : Translator) (bytes piece : List ℕ) (before : List Item) (out : Outputs) → AreBytes piece →
-    HasAll d.half.stream.reader d.half.stream.start old bytes (d.half.came before) (d.half.stream.over before) → Translates first (items_of t) before → new ≡ after_piece old piece → Puts d.half.stream.reader piece old new →
+    HasAll d.half.stream.reader d.half.stream.start old bytes (d.half.came before) (d.half.stream.over before) → Translates first t before → new ≡ after_piece old piece → Puts d.half.stream.reader piece old new →
     Taking first d.half new t bytes piece before out out
 taking-first first d old new t bytes piece before out are all translates is puts = record {
   taken = [];
@@ -146,7 +146,7 @@ taking-one first d old new t u bytes piece before out_old out out_new item x k r
       taken = k.taken ++ x ∷ [];
       stream = taken-ended d.half.stream new bytes piece (d.half.came before) (k.taken ++ x ∷ []) stream (d.flag u);
       over_is = ended-over new (d.flag u) (d.half.stream.over (x ∷ xs)) (d.laws.over_is u (x ∷ xs) translates) (going xs) ∙ ap d.half.stream.over (sym behind);
-      translates = subst (Translates first (items_of u)) (sym behind) translates;
+      translates = subst (Translates first u) (sym behind) translates;
       sends = subst (Sends first out_old out_new before) (sym behind)
           (sends-item first t u before xs x out_old out out_new k.sends taken does);
       others_are = ap d.half.others behind ∙ others xs ∙ k.others_are;
@@ -190,7 +190,7 @@ finished-going {S = S} {P = P} first d takes old new t bytes piece before out_ol
     (subst (HasAll d.half.stream.reader d.half.stream.start new (bytes ++ piece) (d.half.came before ++ a.more)) (sym over) a.all) in
     record {
       all = subst (λ (l : List Item). HasAll d.half.stream.reader d.half.stream.start new (bytes ++ piece) (d.half.came l) (d.half.stream.over l)) (sym same) all;
-      translates = subst (Translates first (items_of t)) (sym same) k.translates;
+      translates = subst (Translates first t) (sym same) k.translates;
       sends = subst (Sends first out_old out_new before) (sym same) k.sends;
       others_are = ap d.half.others same ∙ k.others_are;
       other_over = ap d.half.other_over same ∙ k.other_over;
@@ -256,7 +256,7 @@ lacks-more first d memory a b (Ok (Some i)) takes = tt
 lacks-more first d memory a b (Err e) takes = tt
 
 wants-by : {S P : Type 0} (first : ℕ) (d : Side S P first) (memory : Memory) (a b : ItemTaker) (xs : List Item) (answer : Result (Option (ℕ × P)) ReadError) (x : Item) →
-    IsNextBy d.half.stream d.takes answer x → TakesAnswer (taking_of d) answer (Err memory) a b → Translates first (items_of a.translator.now) xs → d.half.stream.over xs ≡ false → Wants first xs x
+    IsNextBy d.half.stream d.takes answer x → TakesAnswer (taking_of d) answer (Err memory) a b → Translates first a.translator.now xs → d.half.stream.over xs ≡ false → Wants first xs x
 wants-by first d memory a b xs (Ok None) x is takes translates over = absurd is
 wants-by {P = P} first d memory a b xs (Ok (Some i)) x is takes translates over =
     subst (Wants first xs) (sym is.2) (record {
@@ -296,7 +296,7 @@ halted {S = S} {P = P} first d old new memory a b bytes piece before out_old ans
         ended = λ ends. absurd (true≢false (sym ends ∙ over));
         none = stuck.none;
       };
-      translates = subst (λ (t : Translator). Translates first (items_of t) xs) (sym nothing.same) k.translates;
+      translates = subst (λ (t : Translator). Translates first t xs) (sym nothing.same) k.translates;
       sends = subst (λ (o : Outputs). Sends first out_old o before xs) (sym nothing.outputs) k.sends;
       others_are = k.others_are;
       other_over = k.other_over;

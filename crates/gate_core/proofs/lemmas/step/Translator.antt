@@ -20,7 +20,7 @@ use Rattle.gate_history.specs.write.Bytes.{host_packet_bytes, gateway_hello, cli
 use Rattle.gate_history.specs.step.Machine.{after, step}
 use Rattle.gate_core.specs.step.Stands.{Translates}
 use Rattle.gate_history.specs.Headline.{Gains}
-use Rattle.gate_core.specs.inner.Holds.{items_of, Holds, Does}
+use Rattle.gate_core.specs.inner.Holds.{Holds, Does}
 use Rattle.gate_core.specs.inner.Steps.{Sends}
 use Rattle.gate_history.proofs.lemmas.step.Runs.{state-run}
 
@@ -40,7 +40,7 @@ pub sends-none : (first : ℕ) (out : Outputs) (h : List Item) → Sends first o
 sends-none first out h = record { client = gains-none out.to_client _; host = gains-none out.to_host _; told = gains-none out.notes _ }
 
 -- what depends on the past alone
-pub translates-past : (first : ℕ) (t : Translator) (xs ys : List Item) → past first ys ≡ past first xs → Translates first (items_of t) xs → Translates first (items_of t) ys
+pub translates-past : (first : ℕ) (t : Translator) (xs ys : List Item) → past first ys ≡ past first xs → Translates first t xs → Translates first t ys
 translates-past first t xs ys same h = record {
   state = subst (λ (ms : List Mark). Holds t (state_of first ms)) (sym same) h.state;
   answered = h.answered ∙ ap (λ (ms : List Mark). capped (length (filter is_ret_submit (all_of to_client first ms)))) (sym same);
@@ -86,9 +86,9 @@ dropped-more first ms m old new e f =
     let b = dropped (state_of first ms) m in
     capped-past old (length a) (length b) new e f ∙ ap capped (sym (length-append a b))
 
-pub translates-item : (first : ℕ) (old new : Translator) (xs : List Item) (x : Item) (out_old out_new : Outputs) → Translates first (items_of old) xs →
+pub translates-item : (first : ℕ) (old new : Translator) (xs : List Item) (x : Item) (out_old out_new : Outputs) → Translates first old xs →
     is_left_out (state_of first (past first xs)) x ≡ false →
-    Does (state_of first (past first xs)) (mark_of (state_of first (past first xs)) x) old new out_old out_new → Translates first (items_of new) (x ∷ xs)
+    Does (state_of first (past first xs)) (mark_of (state_of first (past first xs)) x) old new out_old out_new → Translates first new (x ∷ xs)
 translates-item first old new xs x out_old out_new t taken does =
     let ms = past first xs in
     let m = mark_of (state_of first ms) x in
