@@ -1,3 +1,2 @@
 -- What is sent and told.
-pub mod Extends
 pub mod Outputs

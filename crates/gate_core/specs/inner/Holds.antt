@@ -29,7 +29,7 @@ use Rattle.gate_history.specs.declared.request.Request.{Request}
 pub use Rattle.gate_core.specs.step.Stands.{Holds}
 use Rattle.gate_history.specs.write.Asked.{HasItsPackets}
 use Rattle.gate_parts.specs.state.Rows.{kind_of, IsFine, IsRead}
-use Rattle.gate_parts.specs.write.Extends.{Extends}
+use Rattle.packet_stream.specs.Writes.{Begins}
 
 -- ---- standing for a state
 
@@ -74,9 +74,9 @@ pub record DoesNothing (old new : Kept) (out_old out_new : Outputs) : Type 0 whe
 -- for want of memory what is kept stands, and the outputs may have the first of what was to be sent and told
 pub record StopsShort (old new : Kept) (out_old out_new : Outputs) : Type 0 where
   pub same : new ≡ old
-  pub client : Extends out_old.to_client out_new.to_client
-  pub host : Extends out_old.to_host out_new.to_host
-  pub notes : Extends out_old.notes out_new.notes
+  pub client : Begins out_old.to_client out_new.to_client
+  pub host : Begins out_old.to_host out_new.to_host
+  pub notes : Begins out_old.notes out_new.notes
 
 -- ---- all requests ended
 

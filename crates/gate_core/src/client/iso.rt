@@ -13,7 +13,7 @@ ghost use Rattle.gate_history.specs.write.Asked.{HasItsPackets};
 ghost use Rattle.gate_history.specs.client.Carried.{IsLaid};
 ghost use Rattle.gate_core.specs.inner.SentIds.{ids_after, starts_of, sent_ids_of, after_starts, bytes_of};
 ghost use Rattle.gate_core.specs.inner.Holds.{IsKept, Holds, Does, StopsShort};
-ghost use Rattle.gate_parts.specs.write.Extends.{Extends};
+ghost use Rattle.packet_stream.specs.Writes.{Begins};
 
 use crate::state::kept::Kept;
 use gate_history::{Note, Request};
@@ -88,7 +88,7 @@ impl Kept {
         requires laid { IsLaid request.now }
         ensures sent { OnOk result (to_host.new ≡ to_host.old ++ bytes_of self.now last (iso_packets request.now)) }
         ensures last { IfOk result (λ id. id ≡ last_of last (ids_after self.now last (length (iso_packets request.now)))) }
-        ensures err { OnErr result (Extends to_host.old to_host.new) }
+        ensures err { OnErr result (Begins to_host.old to_host.new) }
     {
         let body = request.transfer.body.as_slice();
         let mut last = last;

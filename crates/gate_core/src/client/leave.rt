@@ -13,7 +13,7 @@ ghost use Rattle.gate_history.specs.step.Meaning.{mark_as};
 ghost use Rattle.gate_history.specs.write.Notes.{when};
 ghost use Rattle.gate_history.specs.step.Wants.{GivesSome};
 ghost use Rattle.gate_core.specs.inner.Holds.{IsKept, Holds, Does, StopsShort, HasLeft};
-ghost use Rattle.gate_parts.specs.write.Extends.{Extends};
+ghost use Rattle.packet_stream.specs.Writes.{Begins};
 ghost use Rattle.gate_parts.specs.state.Rows.{cancel_bytes, is_cancelled_row};
 
 use crate::state::kept::Kept;
@@ -26,7 +26,7 @@ impl Kept {
     pub fn write_cancels(&self, to_host: &mut Bytes) -> Result<(), Memory>
         requires { IsKept self.now }
         ensures ok { OnOk result (to_host.new ≡ to_host.old ++ flat_map (cancel_bytes self.now.caps) self.now.lives.live) }
-        ensures err { OnErr result (Extends to_host.old to_host.new) }
+        ensures err { OnErr result (Begins to_host.old to_host.new) }
         ensures wants { OnErr result (0 < length (filter is_cancelled_row self.now.lives.live)) }
     {
         for place in 0..self.lives.len() {

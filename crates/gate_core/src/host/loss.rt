@@ -13,7 +13,7 @@ ghost use Rattle.gate_history.specs.step.Meaning.{mark_as};
 ghost use Rattle.gate_history.specs.write.Notes.{when};
 ghost use Rattle.gate_history.specs.step.Wants.{GivesSome};
 ghost use Rattle.gate_core.specs.inner.Holds.{IsKept, Holds, Does, StopsShort, HasLost};
-ghost use Rattle.gate_parts.specs.write.Extends.{Extends};
+ghost use Rattle.packet_stream.specs.Writes.{Begins};
 ghost use Rattle.gate_parts.specs.state.Rows.{lost_bytes, is_asked_back};
 
 use crate::state::kept::Kept;
@@ -28,7 +28,7 @@ impl Kept {
         requires { IsKept self.now }
         ensures ok { OnOk result (to_client.new ≡ to_client.old ++ flat_map lost_bytes self.now.lives.live) }
         ensures count { IfOk result (λ unlinked. unlinked ≡ length (filter is_asked_back self.now.lives.live)) }
-        ensures err { OnErr result (Extends to_client.old to_client.new) }
+        ensures err { OnErr result (Begins to_client.old to_client.new) }
         ensures wants { OnErr result (0 < length self.now.lives.live) }
     {
         let mut unlinked = 0;

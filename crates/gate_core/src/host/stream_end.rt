@@ -7,7 +7,7 @@ ghost use Rattle.unlink_race.specs.Searches.{ended_by};
 ghost use Rattle.gate_parts.specs.state.Rows.{ended_bytes};
 ghost use Rattle.gate_core.specs.inner.StreamEnd.{HasDropped, is_told, status_bytes, HasStreamEnd};
 ghost use Rattle.gate_core.specs.inner.Holds.{IsKept};
-ghost use Rattle.gate_parts.specs.write.Extends.{Extends};
+ghost use Rattle.packet_stream.specs.Writes.{Begins};
 
 use crate::state::kept::Kept;
 use gate_parts::write_end_of;
@@ -24,7 +24,7 @@ impl Kept {
     ) -> Result<(), Memory>
         requires { IsKept self.now }
         ensures ok { OnOk result (to_client.new ≡ to_client.old ++ flat_map (ended_bytes end.now status) self.now.lives.live) }
-        ensures err { OnErr result (Extends to_client.old to_client.new) }
+        ensures err { OnErr result (Begins to_client.old to_client.new) }
         ensures wants { OnErr result (0 < length (filter (ended_by end.now) self.now.lives.live)) }
     {
         for place in 0..self.lives.len() {
@@ -59,7 +59,7 @@ impl Kept {
         ensures ended { OnOk result (HasStreamEnd endpoint status self.old self.new) }
         ensures sent { OnOk result (to_client.new ≡ to_client.old ++ flat_map (status_bytes endpoint status) self.old.lives.live) }
         ensures same { OnErr result (self.new ≡ self.old) }
-        ensures err { OnErr result (Extends to_client.old to_client.new) }
+        ensures err { OnErr result (Begins to_client.old to_client.new) }
         ensures wants { OnErr result (0 < length (filter (is_told endpoint status) self.old.lives.live)) }
     {
         if status.is_success() {

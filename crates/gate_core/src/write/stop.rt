@@ -5,7 +5,7 @@ ghost use Rattle.gate_history.specs.state.Ups.{is_ended};
 ghost use Rattle.gate_history.specs.write.Packets.{stop_of};
 ghost use Rattle.gate_core.specs.inner.SentIds.{stops_of, sent_ids_of, after_stops, bytes_of};
 ghost use Rattle.gate_core.specs.inner.Holds.{IsKept};
-ghost use Rattle.gate_parts.specs.write.Extends.{Extends};
+ghost use Rattle.packet_stream.specs.Writes.{Begins};
 
 use crate::state::kept::Kept;
 use control_route::Route;
@@ -31,7 +31,7 @@ impl Kept {
         requires { IsKept self.now }
         ensures sent { OnOk result (to_host.new ≡ to_host.old ++ bytes_of self.now self.now.last (stops_of self.now by)) }
         ensures sent_ids { IfOk result (λ sent_ids. sent_ids ≡ after_stops self.now (sent_ids_of self.now) (stops_of self.now by)) }
-        ensures err { OnErr result (Extends to_host.old to_host.new) }
+        ensures err { OnErr result (Begins to_host.old to_host.new) }
         ensures wants { OnErr result (0 < length (stops_of self.now by)) }
     {
         let mut sent_ids = self.sent_ids();

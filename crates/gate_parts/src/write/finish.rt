@@ -11,7 +11,7 @@ ghost use Rattle.usbip_urb.specs.declared.client.ClientPacket.TheVariants.{Urb};
 ghost use Rattle.gate_history.specs.declared.note.Note.TheVariants.{Answered};
 ghost use Rattle.gate_history.specs.host.Responses.{told_outcome};
 ghost use Rattle.gate_parts.specs.host.Responses.{response_view, IsAnswer, IsCounted, has_won};
-ghost use Rattle.gate_parts.specs.write.Extends.{Extends};
+ghost use Rattle.packet_stream.specs.Writes.{Begins};
 ghost use Rattle.unlink_race.specs.Endings.{ending_of};
 ghost use Rattle.unlink_race.specs.Searches.{ended_by};
 ghost use Rattle.gate_parts.specs.write.Outputs.{with_answers};
@@ -119,7 +119,7 @@ pub fn write_completed(
     ensures counted { (s : Submission) → row_of s live.now.unlinker ≡ live.now
         → IfOk result (λ ending. IsCounted (map Urb (answers_by s (told_outcome s.request s.verdict (response_view response)) live.now.unlinker)) (has_won ending)) }
     ensures err { OnErr result (out.new ≡ record out.old { notes = out.new.notes }) }
-    ensures err_notes { OnErr result (Extends out.old.notes out.new.notes) }
+    ensures err_notes { OnErr result (Begins out.old.notes out.new.notes) }
 {
     let outcome = told_outcome(alloc, gets(&live.kind), live.wanted, response)?;
     out.notes.push(Note::Answered {

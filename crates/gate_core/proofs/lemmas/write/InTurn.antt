@@ -15,7 +15,7 @@ use Rattle.gate_history.specs.state.Flight.{wide_ids}
 use Rattle.gate_history.specs.state.StreamIds.{stream_ids_after}
 use Rattle.gate_history.specs.write.Packets.{stop_of, stops}
 use Rattle.gate_history.specs.write.Bytes.{host_packet_bytes}
-use Rattle.gate_parts.specs.write.Extends.{Extends}
+use Rattle.packet_stream.specs.Writes.{Begins}
 use Rattle.gate_parts.specs.write.Outputs.{HasSome}
 use Rattle.gate_core.specs.inner.Holds.{StopsShort}
 use Rattle.gate_core.specs.inner.SentIds.{flying_in, ids_after, with_ids, after_stops, bytes_of}
@@ -62,8 +62,8 @@ next-stops test ups k o here is =
 
 -- ---- bytes that were put behind others
 
-pub extends-after : {A : Type 0} (old mid new more : List A) → mid ≡ old ++ more → Extends mid new → Extends old new
-extends-after {A = A} old mid new more is e = record { more = more ++ e.more; is = e.is ∙ ap (λ (l : List A). l ++ e.more) is ∙ append_assoc old more e.more }
+pub begins-after : {A : Type 0} (old mid new more : List A) → mid ≡ old ++ more → Begins mid new → Begins old new
+begins-after {A = A} old mid new more is e = record { more = more ++ e.more; is = e.is ∙ ap (λ (l : List A). l ++ e.more) is ∙ append_assoc old more e.more }
 
 -- what holds holds of a failure
 pub on-err : {A E : Type 0} (r : Result A E) (P : Type 0) → P → OnErr r P
@@ -80,7 +80,7 @@ leaves-some old new out out_new same some = record {
   notes = record { more = some.notes; is = ap (λ (o : Outputs). o.notes) some.is };
 }
 
-pub leaves-client : (old new : Kept) (out : Outputs) (client_new : List ℕ) → new ≡ old → Extends out.to_client client_new → StopsShort old new out (record out { to_client = client_new })
+pub leaves-client : (old new : Kept) (out : Outputs) (client_new : List ℕ) → new ≡ old → Begins out.to_client client_new → StopsShort old new out (record out { to_client = client_new })
 leaves-client old new out client_new same written = record {
   same = same;
   client = written;
@@ -88,7 +88,7 @@ leaves-client old new out client_new same written = record {
   notes = record { more = []; is = sym (append-nil out.notes) };
 }
 
-pub leaves-host : (old new : Kept) (out : Outputs) (host_new : List ℕ) → new ≡ old → Extends out.to_host host_new → StopsShort old new out (record out { to_host = host_new })
+pub leaves-host : (old new : Kept) (out : Outputs) (host_new : List ℕ) → new ≡ old → Begins out.to_host host_new → StopsShort old new out (record out { to_host = host_new })
 leaves-host old new out host_new same written = record {
   same = same;
   client = record { more = []; is = sym (append-nil out.to_client) };
@@ -97,7 +97,7 @@ leaves-host old new out host_new same written = record {
 }
 
 -- or behind bytes to the host, as a note is told
-pub leaves-untold : (old : Kept) (out : Outputs) (host_new : List ℕ) (notes_new : List Note) → Extends out.to_host host_new → notes_new ≡ out.notes →
+pub leaves-untold : (old : Kept) (out : Outputs) (host_new : List ℕ) (notes_new : List Note) → Begins out.to_host host_new → notes_new ≡ out.notes →
     StopsShort old old out (record out { to_host = host_new; notes = notes_new })
 leaves-untold old out host_new notes_new written untold = record {
   same = refl;

@@ -8,7 +8,7 @@ use Rattle.gate_history.specs.step.Marks.{Ends}
 use Rattle.gate_history.specs.write.Notes.{when}
 use Rattle.gate_core.proofs.lemmas.client.Leave.{leaving-cancels, does-leave}
 use Rattle.gate_core.proofs.lemmas.state.Ids.{parts-are, leaving-sent, stops-are}
-use Rattle.gate_core.proofs.lemmas.write.InTurn.{extends-after, on-err, leaves-host, leaves-untold}
+use Rattle.gate_core.proofs.lemmas.write.InTurn.{begins-after, on-err, leaves-host, leaves-untold}
 use Rattle.std.specs.Prelude.{filter}
 use Rattle.unlink_race.specs.declared.live.Live.{Live}
 use Rattle.redir_data.specs.declared.packet.RedirPacket.{RedirPacket}
@@ -28,7 +28,7 @@ returns-clause-ok c st h =
 
 pub returns-in_err-sent_ids-clause-err : goal.returns-in_err-sent_ids-clause-err
 returns-in_err-sent_ids-clause-err c = on-err c.from_residual-in_err-sent_ids.result _ (leaves-host c.args.self.now c.args.self.now c.args.out.now c.write_stops.new.to_host refl
-    (extends-after c.args.out.now.to_host c.write_cancels.new.to_host c.write_stops.new.to_host _ c.in_ok-write_cancels.ensures.ok c.in_err-sent_ids.ensures.err))
+    (begins-after c.args.out.now.to_host c.write_cancels.new.to_host c.write_stops.new.to_host _ c.in_ok-write_cancels.ensures.ok c.in_err-sent_ids.ensures.err))
 
 pub returns-in_err-write_cancels-clause-wants : goal.returns-in_err-write_cancels-clause-wants
 returns-in_err-write_cancels-clause-wants c st h =
@@ -54,5 +54,5 @@ returns-in_err-write_cancels-clause-err c = on-err c.from_residual.result _ (lea
 
 pub returns-in_err-tell_gone-clause-err : goal.returns-in_err-tell_gone-clause-err
 returns-in_err-tell_gone-clause-err c = on-err c.from_residual-in_err-tell_gone.result _ (leaves-untold c.args.self.now c.args.out.now c.write_stops.new.to_host c.tell_gone.new.notes
-    (extends-after c.args.out.now.to_host c.write_cancels.new.to_host c.write_stops.new.to_host _ c.in_ok-write_cancels.ensures.ok (record { more = _; is = c.in_ok-sent_ids.ensures.sent }))
+    (begins-after c.args.out.now.to_host c.write_cancels.new.to_host c.write_stops.new.to_host _ c.in_ok-write_cancels.ensures.ok (record { more = _; is = c.in_ok-sent_ids.ensures.sent }))
     c.in_err-tell_gone.ensures.err)

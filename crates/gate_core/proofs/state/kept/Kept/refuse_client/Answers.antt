@@ -7,7 +7,7 @@ use Rattle.gate_history.specs.step.Marks.{Refuses}
 use Rattle.gate_history.specs.write.Notes.{when}
 use Rattle.gate_core.proofs.lemmas.client.Leave.{leaving-asked, does-leave}
 use Rattle.gate_core.proofs.lemmas.state.Ids.{parts-are, leaving-sent}
-use Rattle.gate_core.proofs.lemmas.write.InTurn.{extends-after, on-err, leaves-host, leaves-untold}
+use Rattle.gate_core.proofs.lemmas.write.InTurn.{begins-after, on-err, leaves-host, leaves-untold}
 use Rattle.gate_core.proofs.state.kept.Kept.refuse_client.Goals as goal
 
 pub returns-clause-ok : goal.returns-clause-ok
@@ -27,12 +27,12 @@ returns-clause-ok c st h going =
 
 pub returns-in_err-sent_ids-clause-err : goal.returns-in_err-sent_ids-clause-err
 returns-in_err-sent_ids-clause-err c = on-err c.from_residual-in_err-sent_ids.result _ (leaves-host c.args.self.now c.args.self.now c.args.out.now c.write_stops.new.to_host refl
-    (extends-after c.args.out.now.to_host c.write_cancels.new.to_host c.write_stops.new.to_host _ c.in_ok-write_cancels.ensures.ok c.in_err-sent_ids.ensures.err))
+    (begins-after c.args.out.now.to_host c.write_cancels.new.to_host c.write_stops.new.to_host _ c.in_ok-write_cancels.ensures.ok c.in_err-sent_ids.ensures.err))
 
 pub returns-in_err-write_cancels-clause-err : goal.returns-in_err-write_cancels-clause-err
 returns-in_err-write_cancels-clause-err c = on-err c.from_residual.result _ (leaves-host c.args.self.now c.args.self.now c.args.out.now c.write_cancels.new.to_host refl c.in_err-write_cancels.ensures.err)
 
 pub returns-in_err-push-clause-err : goal.returns-in_err-push-clause-err
 returns-in_err-push-clause-err c = on-err c.from_residual-in_err-push.result _ (leaves-untold c.args.self.now c.args.out.now c.write_stops.new.to_host c.push.new.self
-    (extends-after c.args.out.now.to_host c.write_cancels.new.to_host c.write_stops.new.to_host _ c.in_ok-write_cancels.ensures.ok (record { more = _; is = c.in_ok-sent_ids.ensures.sent }))
+    (begins-after c.args.out.now.to_host c.write_cancels.new.to_host c.write_stops.new.to_host _ c.in_ok-write_cancels.ensures.ok (record { more = _; is = c.in_ok-sent_ids.ensures.sent }))
     c.in_err-push.ensures.err)

@@ -18,7 +18,7 @@ use Rattle.gate_history.specs.write.Bytes.{host_packet_bytes}
 use Rattle.gate_core.specs.inner.SentIds.{ids_after, with_ids, starts_of, sent_ids_of, after_starts, bytes_of}
 use Rattle.gate_history.proofs.lemmas.state.StreamIds.{iso-silent}
 use Rattle.gate_core.proofs.lemmas.state.Ids.{ids-are, asked-are}
-use Rattle.gate_core.proofs.lemmas.write.InTurn.{last-more, bytes-more, stream_ids-silent, extends-after, on-err}
+use Rattle.gate_core.proofs.lemmas.write.InTurn.{last-more, bytes-more, stream_ids-silent, begins-after, on-err}
 use Rattle.gate_core.proofs.lemmas.step.Steady.{one-reply}
 use Rattle.gate_core.proofs.lemmas.client.Submit.{does-open}
 use Rattle.gate_core.proofs.state.kept.Kept.send_iso.Goals as goal
@@ -56,7 +56,7 @@ pub returns-in_err-last-clause-err : goal.returns-in_err-last-clause-err
 returns-in_err-last-clause-err c = on-err c.from_residual-in_err-last.result _ (record {
   same = refl;
   client = record { more = []; is = sym (append-nil c.args.out.now.to_client) };
-  host = extends-after c.args.out.now.to_host c.write_start.new.to_host c.write_packets.new.to_host _ c.in_ok-sent_ids.ensures.sent c.in_err-last.ensures.err;
+  host = begins-after c.args.out.now.to_host c.write_start.new.to_host c.write_packets.new.to_host _ c.in_ok-sent_ids.ensures.sent c.in_err-last.ensures.err;
   notes = record { more = note.Submitted c.args.request.now.number 0 ∷ []; is = c.in_ok-push.ensures.ok };
 })
 
@@ -64,6 +64,6 @@ pub returns-in_err-write_all_sent-clause-err : goal.returns-in_err-write_all_sen
 returns-in_err-write_all_sent-clause-err c = on-err c.from_residual-in_err-write_all_sent.result _ (record {
   same = refl;
   client = record { more = []; is = c.in_err-write_all_sent.ensures.err ∙ sym (append-nil c.args.out.now.to_client) };
-  host = extends-after c.args.out.now.to_host c.write_start.new.to_host c.write_packets.new.to_host _ c.in_ok-sent_ids.ensures.sent (record { more = bytes_of c.args.self.now c.in_ok-sent_ids.sent_ids.last (iso_packets c.args.request.now); is = c.in_ok-last.ensures.sent });
+  host = begins-after c.args.out.now.to_host c.write_start.new.to_host c.write_packets.new.to_host _ c.in_ok-sent_ids.ensures.sent (record { more = bytes_of c.args.self.now c.in_ok-sent_ids.sent_ids.last (iso_packets c.args.request.now); is = c.in_ok-last.ensures.sent });
   notes = record { more = note.Submitted c.args.request.now.number 0 ∷ []; is = c.in_ok-push.ensures.ok };
 })

@@ -26,7 +26,7 @@ use Rattle.gate_parts.specs.state.Rows.{ended_bytes, row_for}
 use Rattle.gate_history.proofs.lemmas.state.StreamIds.{last-any, route-silent}
 use Rattle.gate_history.proofs.lemmas.state.Draws.{length-draws}
 use Rattle.gate_core.proofs.lemmas.state.Ids.{ids-are, asked-are, stops-are}
-use Rattle.gate_core.proofs.lemmas.write.InTurn.{last-more, bytes-more, stream_ids-silent, extends-after, on-err, leaves-client}
+use Rattle.gate_core.proofs.lemmas.write.InTurn.{last-more, bytes-more, stream_ids-silent, begins-after, on-err, leaves-client}
 use Rattle.gate_core.proofs.lemmas.client.Change.{does-change}
 use Rattle.gate_core.proofs.state.kept.Kept.send_route.Goals as goal
 
@@ -111,6 +111,6 @@ pub returns-in_err-push-clause-err : goal.returns-in_err-push-clause-err
 returns-in_err-push-clause-err c = on-err c.from_residual-in_err-push.result _ (record {
   same = refl;
   client = record { more = flat_map (ended_bytes (Change c.args.route) ESHUTDOWN) c.args.self.now.lives.live; is = c.in_ok-write_ends.ensures.ok };
-  host = extends-after c.args.out.now.to_host c.write_stops.new.to_host c.ask_route.new.to_host _ c.in_ok-sent_ids.ensures.sent (record { more = bytes_of c.args.self.now c.in_ok-sent_ids.sent_ids.last (route_packets c.args.route); is = c.in_ok-id.ensures.sent });
+  host = begins-after c.args.out.now.to_host c.write_stops.new.to_host c.ask_route.new.to_host _ c.in_ok-sent_ids.ensures.sent (record { more = bytes_of c.args.self.now c.in_ok-sent_ids.sent_ids.last (route_packets c.args.route); is = c.in_ok-id.ensures.sent });
   notes = record { more = []; is = c.in_err-push.ensures.err ∙ sym (append-nil c.args.out.now.notes) };
 })
