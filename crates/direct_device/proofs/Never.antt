@@ -32,7 +32,7 @@ use Rattle.disk_gadget.specs.Reports.{status_bytes}
 use Rattle.disk_gadget.specs.Turns as turns
 use Rattle.disk_gadget.specs.Turns.{Turn}
 use Rattle.disk_gadget.specs.Wrappers.{wrapper_of}
-use Rattle.gate_history.specs.write.Answers.{is_cancelled}
+use Rattle.gate_history.specs.client.Ends.{is_cancelled}
 use Rattle.direct_device.specs.Performed.{NeverCancels}
 
 abbrev IsDone : Outcome → Type 0

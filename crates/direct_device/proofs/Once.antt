@@ -8,8 +8,7 @@ use Rattle.gate_history.specs.declared.request.Request.{Request}
 use Rattle.gate_history.specs.declared.verdict.Verdict.{Verdict}
 use Rattle.gate_history.specs.declared.verdict.Verdict.TheVariants.{Wire, Routed, Stream}
 use Rattle.gate_history.specs.client.Verdict.{goes_by_id}
-use Rattle.gate_history.specs.client.Submits.{is_waiting}
-use Rattle.gate_history.specs.write.Answers.{is_cancelled}
+use Rattle.gate_history.specs.client.Ends.{is_waiting, is_cancelled}
 use Rattle.direct_device.specs.Direct.{Live, Waiting, Ran, Direct, number, is_number}
 use Rattle.direct_device.specs.Acting.{Deed, Import, Submit, Perform}
 use Rattle.direct_device.proofs.Counts.{count}

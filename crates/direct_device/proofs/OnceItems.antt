@@ -13,8 +13,7 @@ use Rattle.gate_history.specs.declared.errno.TheConstants.{ESHUTDOWN}
 use Rattle.gate_history.specs.host.Fillings.{Given}
 use Rattle.gate_history.specs.declared.verdict.Verdict.TheVariants.{Now}
 use Rattle.gate_history.specs.client.Verdict.{verdict, goes_by_id, changes}
-use Rattle.gate_history.specs.client.Submits.{is_waiting}
-use Rattle.gate_history.specs.write.Answers.{is_cancelled}
+use Rattle.gate_history.specs.client.Ends.{is_waiting, is_cancelled}
 use Rattle.gate_history.specs.step.Meaning.{by_stream}
 use Rattle.gate_history.specs.state.Ups.{Up, no_streams, stream_at, stream_of}
 use Rattle.direct_device.specs.Direct.{Live, Waiting, Ran, Direct, no_way, number, is_number, normal_of, seen_of, is_at, without_first, change_in, cancelled}

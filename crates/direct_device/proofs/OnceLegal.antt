@@ -6,7 +6,7 @@ use Rattle.std.proofs.lemmas.Bool.{eqb-true}
 use Rattle.model_device.specs.Meaning.{Meaning}
 use Rattle.gate_history.proofs.lemmas.Lists.{Each, both, Each-weaker}
 use Rattle.gate_history.specs.client.Verdict.{goes_by_id}
-use Rattle.gate_history.specs.client.Submits.{is_waiting}
+use Rattle.gate_history.specs.client.Ends.{is_waiting}
 use Rattle.direct_device.specs.Direct.{Live, Waiting, Ran, Direct, first_direct, number, is_number, is_at, normal_of}
 use Rattle.direct_device.specs.Acting.{Deed, Perform, Answer, Gone, act}
 use Rattle.direct_device.specs.Legal.{CanAnswerBy, IsAllowed, AreAllowed, acts}

@@ -15,8 +15,7 @@ use Rattle.gate_history.specs.declared.request.Request.{Request}
 use Rattle.gate_history.specs.declared.verdict.Verdict.{Verdict}
 use Rattle.gate_history.specs.declared.verdict.Verdict.TheVariants.{Routed}
 use Rattle.gate_history.specs.client.Verdict.{goes_by_id}
-use Rattle.gate_history.specs.client.Submits.{is_waiting}
-use Rattle.gate_history.specs.write.Answers.{is_cancelled}
+use Rattle.gate_history.specs.client.Ends.{is_waiting, is_cancelled}
 use Rattle.gate_history.specs.write.Packets.{no_setup}
 use Rattle.direct_device.specs.Direct.{Live, Waiting, Ran, number, is_number, is_at, without_first, cancelled, seen_by}
 use Rattle.direct_device.specs.Acting.{Perform, is_taken, asked_back, marked, is_cancelled_by, without_number}

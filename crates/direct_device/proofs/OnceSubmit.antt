@@ -9,7 +9,7 @@ use Rattle.gate_history.specs.declared.errno.TheConstants.{ESHUTDOWN}
 use Rattle.gate_history.specs.declared.verdict.Verdict.{Verdict}
 use Rattle.gate_history.specs.declared.verdict.Verdict.TheVariants.{Now, Wire, Routed, IsoOut, Stream}
 use Rattle.gate_history.specs.client.Verdict.{goes_by_id}
-use Rattle.gate_history.specs.client.Submits.{is_waiting, is_touched as ends_by_change}
+use Rattle.gate_history.specs.client.Ends.{is_waiting, is_touched as ends_by_change}
 use Rattle.gate_history.specs.state.Ups.{Up}
 use Rattle.gate_history.specs.step.Meaning.{by_stream}
 use Rattle.direct_device.specs.Direct.{Load, Live, Waiting, Ran, number}

@@ -15,8 +15,8 @@ use Rattle.gate_history.specs.step.Marks.{Submission}
 use Rattle.gate_history.specs.declared.request.Request.{Request}
 use Rattle.gate_history.specs.client.Verdict.{is_wire, goes_by_id, none_of}
 use Rattle.gate_history.specs.host.Fillings.{Given, Transferred, Isochronous}
-use Rattle.gate_history.specs.client.Submits.{is_waiting}
-use Rattle.gate_history.specs.write.Answers.{fails_if_short, is_cancelled, ret_unlink, answers_by, with_outcome, with_given}
+use Rattle.gate_history.specs.client.Ends.{is_waiting, is_cancelled, answers_by}
+use Rattle.gate_history.specs.write.Answers.{fails_if_short, ret_unlink, with_outcome, with_given}
 use Rattle.direct_device.specs.Direct.{Load, Live, Ran, Direct, first_direct, as_submission, number, is_number}
 use Rattle.direct_device.specs.Acting.{Deed, Import, Submit, Unlink, Perform, Cancel, Answer, Offer, Arrive, Gone, ClientGone, answers_of, is_taken, is_target, unlink_answers, filled_answers, ran_answers, cut_for}
 use Rattle.direct_device.specs.Legal.{IsAllowed, acts}

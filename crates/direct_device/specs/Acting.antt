@@ -18,10 +18,10 @@ use Rattle.gate_history.specs.declared.verdict.Verdict.TheVariants.{Now, IsoOut}
 use Rattle.gate_history.specs.client.Verdict.{verdict, is_wire, goes_by_id, changes}
 use Rattle.gate_history.specs.declared.errno.TheConstants.{ECONNRESET, ESHUTDOWN}
 use Rattle.gate_history.specs.host.Fillings.{Given, cut_of}
-use Rattle.gate_history.specs.client.Submits.{is_waiting, is_touched as ends_by_change}
+use Rattle.gate_history.specs.client.Ends.{is_waiting, is_touched as ends_by_change, answers_by, lost_answer}
 use Rattle.gate_history.specs.state.Ups.{Up, no_streams, stream_at, stream_of, hold, opened_streams}
 use Rattle.gate_history.specs.step.Meaning.{by_stream}
-use Rattle.gate_history.specs.write.Answers.{ret_unlink, without_packets, with_given, answers_by, lost_answer}
+use Rattle.gate_history.specs.write.Answers.{ret_unlink, without_packets, with_given}
 use Rattle.direct_device.specs.Direct.{Load, Live, Waiting, Ran, Direct, no_way, as_submission, number, is_number, normal_of, seen_of, change_in, cancelled, is_at, without_first, way_by, with_way}
 
 -- an item of a trace; of a submit, what it asks

@@ -5,7 +5,7 @@ use Rattle.usb_base.specs.declared.transfer.StreamPacket.{StreamPacket}
 use Rattle.usbip_urb.specs.declared.packet.UrbPacket.{UrbPacket}
 use Rattle.model_device.specs.Meaning.{Meaning}
 use Rattle.gate_history.specs.declared.request.Request.{Request}
-use Rattle.gate_history.specs.client.Submits.{is_waiting, waits_at}
+use Rattle.gate_history.specs.client.Ends.{is_waiting, waits_at}
 use Rattle.gate_history.specs.state.Ups.{Up, stream_of}
 use Rattle.direct_run.specs.declared.item.Item.{Item}
 use Rattle.direct_run.specs.declared.item.Item.TheVariants as item

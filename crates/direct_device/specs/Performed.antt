@@ -9,7 +9,7 @@ use Rattle.usbip_urb.specs.declared.packet.UrbPacket.{UrbPacket}
 use Rattle.usbip_urb.specs.declared.packet.UrbPacket.TheVariants as urb
 use Rattle.model_device.specs.Meaning.{Meaning}
 use Rattle.gate_history.specs.client.Verdict.{goes_by_id}
-use Rattle.gate_history.specs.write.Answers.{is_cancelled}
+use Rattle.gate_history.specs.client.Ends.{is_cancelled}
 use Rattle.direct_device.specs.Direct.{Live, Direct, first_direct, number, is_number}
 use Rattle.direct_device.specs.Acting.{Deed, Submit, Unlink, Perform, Answer, Gone, answers}
 use Rattle.direct_device.specs.Legal.{AreAllowed, acts}

@@ -24,7 +24,8 @@ use Rattle.gate_history.specs.write.Output.{present, to_client, to_host}
 use Rattle.gate_history.specs.step.Past.{is_left_out}
 use Rattle.gate_history.specs.state.Sides.{is_loss, leaves}
 use Rattle.gate_history.specs.state.State.{State}
-use Rattle.gate_history.specs.client.Submits.{ends, opened}
+use Rattle.gate_history.specs.client.Submits.{opened}
+use Rattle.gate_history.specs.client.Ends.{ends}
 use Rattle.direct_run.specs.Moves.{ByClient, GateReads, HostReads, Move, Offers, Performs, Unplugs, World, first_world}
 use Rattle.direct_run.specs.Noted.{named, number_in, queue_byte}
 use Rattle.direct_run.specs.declared.submitted.Submitted.{Submitted}

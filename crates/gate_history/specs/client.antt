@@ -2,6 +2,7 @@
 pub mod Requests
 pub mod Verdict
 pub mod Carried
+pub mod Ends
 pub mod Submits
 pub mod Replies
 pub mod Turns

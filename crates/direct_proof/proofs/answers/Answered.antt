@@ -9,10 +9,10 @@ use Rattle.model_device.specs.Meaning.{Meaning}
 use Rattle.gate_history.specs.declared.item.Item.{Item as GateItem}
 use Rattle.gate_history.specs.declared.item.Item.TheVariants.{Told}
 use Rattle.gate_history.specs.step.Marks.{Answers, Mark}
-use Rattle.gate_history.specs.client.Submits.{Pending, has_id, is_waiting}
+use Rattle.gate_history.specs.client.Submits.{Pending}
+use Rattle.gate_history.specs.client.Ends.{has_id, is_waiting, answers_by}
 use Rattle.gate_history.specs.state.State.{State, submits}
 use Rattle.gate_history.specs.step.Meaning.{mark_as, told_by}
-use Rattle.gate_history.specs.write.Answers.{answers_by}
 use Rattle.gate_history.specs.state.Ups.{Up, stream_of}
 use Rattle.direct_run.specs.Moves.{World, GateReads}
 use Rattle.direct_device.specs.Direct.{Load, Live, Ran, Direct, number, is_number, seen_of, as_submission}

@@ -21,13 +21,13 @@ use Rattle.gate_history.specs.declared.verdict.Pipe.TheVariants.{Control, Bulk, 
 use Rattle.gate_history.specs.declared.verdict.Verdict.{Verdict}
 use Rattle.gate_history.specs.declared.verdict.Verdict.TheVariants.{Now, Wire, Routed, IsoOut, Stream}
 use Rattle.gate_history.specs.step.Marks.{Submission, Effect, Answers, Mark}
-use Rattle.gate_history.specs.client.Submits.{Pending, ByAnswer, has_id, ends, is_waiting}
+use Rattle.gate_history.specs.client.Submits.{Pending}
+use Rattle.gate_history.specs.client.Ends.{ByAnswer, has_id, ends, is_waiting, answers_at, answers_by}
 use Rattle.gate_history.specs.state.State.{State, submits}
 use Rattle.gate_history.specs.host.Responses.{Response, Data, Status, response_of, answer_kind, told_outcome, outcome}
 use Rattle.gate_history.specs.step.Meaning.{meaning, answered_as, answer_to, by_response, by_arrival}
 use Rattle.gate_history.specs.step.Machine.{live_after}
 use Rattle.gate_history.specs.write.Output.{present, to_client}
-use Rattle.gate_history.specs.write.Answers.{answers_at, answers_by}
 use Rattle.gate_history.specs.write.Notes.{is_by_answer}
 use Rattle.gate_history.proofs.lemmas.Lists.{every, Each, filter-same, filter-map, flat_map-same, flat_map-filter}
 use Rattle.gate_history.proofs.lemmas.step.NoCancel.{asks-none}

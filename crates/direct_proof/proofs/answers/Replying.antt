@@ -5,14 +5,14 @@ use Rattle.usbip_urb.specs.declared.client.ClientPacket.TheVariants.{Urb}
 use Rattle.redir_data.specs.declared.packet.RedirPacket.{RedirPacket}
 use Rattle.model_device.specs.Meaning.{Meaning}
 use Rattle.gate_history.specs.step.Marks.{Submission, Fact, Effect, Answers, Mark}
-use Rattle.gate_history.specs.client.Submits.{Pending, has_id}
+use Rattle.gate_history.specs.client.Submits.{Pending}
+use Rattle.gate_history.specs.client.Ends.{has_id, answers_by}
 use Rattle.gate_history.specs.state.State.{State, submits}
 use Rattle.gate_history.specs.state.Sound.{IsSound}
 use Rattle.gate_history.specs.state.Ups.{stream_of}
 use Rattle.gate_history.specs.step.Machine.{live_after}
 use Rattle.gate_history.specs.step.Meaning.{fact_of}
 use Rattle.gate_history.specs.state.Facts.{tell}
-use Rattle.gate_history.specs.write.Answers.{answers_by}
 use Rattle.gate_history.proofs.lemmas.Lists.{filter-map, Each-filter}
 use Rattle.gate_history.proofs.lemmas.step.NoCancel.{none-cancelled, stays-uncancelled}
 use Rattle.direct_run.specs.declared.submitted.Submitted.{Submitted}

@@ -19,7 +19,8 @@ use Rattle.gate_history.specs.declared.item.Item.TheVariants.{Asked, ClientWrong
 use Rattle.gate_history.specs.step.Meaning.{verdict_of}
 use Rattle.gate_history.specs.client.Requests.{request_of}
 use Rattle.gate_history.specs.state.State.{State, has_number}
-use Rattle.gate_history.specs.client.Submits.{Pending, is_touched}
+use Rattle.gate_history.specs.client.Submits.{Pending}
+use Rattle.gate_history.specs.client.Ends.{is_touched}
 use Rattle.gate_history.specs.state.Ups.{Up}
 use Rattle.gate_history.specs.declared.verdict.Verdict.{Verdict}
 use Rattle.gate_history.specs.declared.verdict.Verdict.TheVariants.{Routed, Stream}

@@ -11,7 +11,8 @@ use Rattle.redir_host.specs.device.Performing.{told_performed_by}
 use Rattle.gate_history.specs.declared.request.Request.{Request}
 use Rattle.gate_history.specs.step.Marks.{Submission, Effect, Imports, Unlinks, Arrives, Mark}
 use Rattle.gate_history.specs.state.Sides.{leaves, is_loss}
-use Rattle.gate_history.specs.client.Submits.{Pending, opened, ends}
+use Rattle.gate_history.specs.client.Submits.{Pending, opened}
+use Rattle.gate_history.specs.client.Ends.{ends}
 use Rattle.gate_history.specs.state.State.{State}
 use Rattle.gate_history.specs.write.Output.{present}
 use Rattle.gate_history.specs.write.Notes.{is_by_answer}

@@ -15,7 +15,8 @@ use Rattle.gate_history.specs.write.Output.{present, cancels, cancel}
 use Rattle.gate_history.specs.write.Packets.{stops}
 use Rattle.gate_history.specs.state.Sides.{refused_at, leaves, is_loss, refuses_client, ends_client, turned}
 use Rattle.gate_history.specs.state.State.{State, submits, next_ids}
-use Rattle.gate_history.specs.client.Submits.{Pending, ByClient, ByLoss, is_answered, ends, own_end}
+use Rattle.gate_history.specs.client.Submits.{Pending, is_answered}
+use Rattle.gate_history.specs.client.Ends.{ByClient, ByLoss, ends, own_end}
 use Rattle.gate_history.specs.state.Ups.{no_streams, is_ended, moved_streams}
 use Rattle.gate_history.specs.client.Verdict.{goes_by_id}
 use Rattle.gate_history.specs.declared.note.Note.{Note}

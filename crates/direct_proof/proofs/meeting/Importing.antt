@@ -11,7 +11,8 @@ use Rattle.redir_data.specs.declared.packet.RedirPacket.{RedirPacket}
 use Rattle.model_device.specs.Meaning.{Meaning}
 use Rattle.gate_history.specs.declared.item.Item.TheVariants.{Asked}
 use Rattle.gate_history.specs.step.Marks.{Replies, Imports}
-use Rattle.gate_history.specs.client.Submits.{Pending, ends}
+use Rattle.gate_history.specs.client.Submits.{Pending}
+use Rattle.gate_history.specs.client.Ends.{ends}
 use Rattle.gate_history.specs.client.Replies.{list_reply, import_reply, failed_import, is_exported}
 use Rattle.gate_history.specs.write.Output.{present}
 use Rattle.gate_history.specs.client.Verdict.{none_of}

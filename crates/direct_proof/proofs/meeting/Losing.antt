@@ -11,8 +11,8 @@ use Rattle.redir_data.specs.declared.packet.RedirPacket.TheVariants.{Plain}
 use Rattle.model_device.specs.Meaning.{Meaning}
 use Rattle.redir_host.specs.guest.Line.{Waiting as InLine}
 use Rattle.gate_history.specs.step.Marks.{Submission, Effect, Disconnects}
-use Rattle.gate_history.specs.client.Submits.{Pending, ends}
-use Rattle.gate_history.specs.write.Answers.{answers_at, lost_answer}
+use Rattle.gate_history.specs.client.Submits.{Pending}
+use Rattle.gate_history.specs.client.Ends.{ends, answers_at, lost_answer}
 use Rattle.gate_history.specs.write.Output.{present, acknowledgements}
 use Rattle.gate_history.specs.write.Notes as notes
 use Rattle.gate_history.specs.state.Facts.{no_facts}

@@ -5,7 +5,8 @@ use Rattle.usbip_urb.specs.declared.client.ClientPacket.TheVariants.{Urb}
 use Rattle.redir_wire.specs.declared.packet.Caps.{Caps}
 use Rattle.redir_data.specs.declared.packet.RedirPacket.{RedirPacket}
 use Rattle.gate_history.specs.step.Marks.{Fact, Idle, Agrees}
-use Rattle.gate_history.specs.client.Submits.{Pending, ends}
+use Rattle.gate_history.specs.client.Submits.{Pending}
+use Rattle.gate_history.specs.client.Ends.{ends}
 use Rattle.gate_history.specs.write.Output.{present}
 use Rattle.gate_history.specs.state.State.{State}
 use Rattle.gate_history.specs.step.Machine.{live_after}

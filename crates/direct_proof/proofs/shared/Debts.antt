@@ -6,7 +6,8 @@ use Rattle.gate_history.specs.declared.verdict.Verdict.{Verdict}
 use Rattle.gate_history.specs.declared.verdict.Verdict.TheVariants.{Wire, Routed}
 use Rattle.gate_history.specs.client.Verdict.{goes_by_id}
 use Rattle.gate_history.specs.step.Marks.{Submission}
-use Rattle.gate_history.specs.client.Submits.{Pending, has_id, is_waiting}
+use Rattle.gate_history.specs.client.Submits.{Pending}
+use Rattle.gate_history.specs.client.Ends.{has_id, is_waiting}
 use Rattle.gate_history.specs.state.State.{State, submits, is_number as is_numbered}
 use Rattle.gate_history.specs.state.Sound.{IsSound}
 use Rattle.gate_history.proofs.lemmas.Lists.{every, both, filter-same, filter-twice, filter-map}

@@ -7,14 +7,14 @@ use Rattle.usbip_urb.specs.declared.client.ClientPacket.{ClientPacket}
 use Rattle.usbip_urb.specs.declared.client.ClientPacket.TheVariants.{Op, Urb}
 use Rattle.usbip_urb.specs.declared.packet.UrbPacket.{UrbPacket}
 use Rattle.model_device.specs.Meaning.{Meaning}
-use Rattle.gate_history.specs.write.Answers.{answers_at}
+use Rattle.gate_history.specs.client.Ends.{answers_at, ends}
 use Rattle.gate_history.specs.step.Machine.{after}
 use Rattle.gate_history.specs.step.Marks.{Mark}
 use Rattle.gate_history.specs.write.Output.{fresh, to_client}
 use Rattle.gate_history.specs.state.Sides.{imports, leaves, refuses_client, ends_client}
 use Rattle.gate_history.specs.state.Sound.{IsSound}
 use Rattle.gate_history.specs.state.State.{State}
-use Rattle.gate_history.specs.client.Submits.{ends, opened}
+use Rattle.gate_history.specs.client.Submits.{opened}
 use Rattle.direct_device.specs.Direct.{Direct}
 use Rattle.direct_device.specs.Legal.{all_answers}
 use Rattle.direct_proof.specs.Moves.{deeds_of}

@@ -9,7 +9,8 @@ use Rattle.gate_history.specs.declared.note.Note.{Note}
 use Rattle.gate_history.specs.declared.note.Note.TheVariants as note
 use Rattle.gate_history.specs.step.Marks.{Effect, Imports, Ends, Refuses, Mark}
 use Rattle.gate_history.specs.state.Sides.{is_client, refused_at, leaves, is_loss, closes_host, host_over}
-use Rattle.gate_history.specs.client.Submits.{Pending, ends}
+use Rattle.gate_history.specs.client.Submits.{Pending}
+use Rattle.gate_history.specs.client.Ends.{ends}
 use Rattle.gate_history.specs.state.State.{State, state_of}
 use Rattle.gate_history.specs.write.Output.{present}
 use Rattle.gate_history.specs.write.Notes.{when, came_notes, submit_notes, answer_notes, refusal_notes, is_by_answer, notes_of}

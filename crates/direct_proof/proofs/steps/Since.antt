@@ -14,7 +14,8 @@ use Rattle.gate_history.specs.write.Notes.{is_by_answer}
 use Rattle.gate_history.specs.write.Output.{present}
 use Rattle.gate_history.specs.state.Sides.{imports, is_loss, leaves}
 use Rattle.gate_history.specs.state.State.{State}
-use Rattle.gate_history.specs.client.Submits.{Pending, ends, opened}
+use Rattle.gate_history.specs.client.Submits.{Pending, opened}
+use Rattle.gate_history.specs.client.Ends.{ends}
 use Rattle.direct_run.specs.declared.submitted.Submitted.{Submitted}
 use Rattle.direct_device.specs.Acting.{Deed, Import, Submit, Unlink, Perform, Cancel, Answer, Offer, Arrive, Gone, ClientGone, act, answers}
 use Rattle.direct_device.specs.Direct.{Direct}

@@ -11,7 +11,8 @@ use Rattle.gate_history.specs.client.Requests.{request_of}
 use Rattle.gate_history.specs.declared.verdict.Verdict.{Verdict}
 use Rattle.gate_history.specs.client.Verdict.{goes_by_id}
 use Rattle.gate_history.specs.step.Marks.{Submission, Effect, Opens, Mark}
-use Rattle.gate_history.specs.client.Submits.{Pending, is_touched}
+use Rattle.gate_history.specs.client.Submits.{Pending}
+use Rattle.gate_history.specs.client.Ends.{is_touched}
 use Rattle.gate_history.specs.state.StreamIds.{stream_ids_after}
 use Rattle.gate_history.specs.state.State.{State, submits, is_number as is_numbered, change_waits}
 use Rattle.gate_history.specs.state.Sound.{IsSound}

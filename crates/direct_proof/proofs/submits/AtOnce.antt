@@ -16,13 +16,14 @@ use Rattle.gate_history.specs.declared.item.Item.TheVariants.{Asked}
 use Rattle.gate_history.specs.declared.verdict.Verdict.{Verdict}
 use Rattle.gate_history.specs.declared.verdict.Verdict.TheVariants.{Now}
 use Rattle.gate_history.specs.step.Marks.{Submission, Effect, Opens}
-use Rattle.gate_history.specs.client.Submits.{Pending, ends, at_once, ByStatus}
+use Rattle.gate_history.specs.client.Submits.{Pending}
+use Rattle.gate_history.specs.client.Ends.{ends, at_once, ByStatus, answers_at}
 use Rattle.gate_history.specs.state.Ups.{Up, stream_at, stream_of}
 use Rattle.gate_history.specs.state.State.{State, has_number, is_number as is_numbered}
 use Rattle.gate_history.specs.step.Machine.{live_after}
 use Rattle.gate_history.specs.step.Meaning.{meaning, mark_as, mark_of, refused, submission, accepted_as, accepts, drawn_for, by_stream, verdict_of}
 use Rattle.gate_history.specs.write.Output.{fresh, present}
-use Rattle.gate_history.specs.write.Answers.{answers_at, without_packets}
+use Rattle.gate_history.specs.write.Answers.{without_packets}
 use Rattle.gate_history.specs.write.Notes.{is_by_answer}
 use Rattle.gate_history.specs.declared.note.Note.TheVariants as note
 use Rattle.gate_history.specs.declared.errno.TheConstants.{ESHUTDOWN}

@@ -13,7 +13,8 @@ use Rattle.gate_history.specs.client.Requests.{request_of}
 use Rattle.gate_history.specs.declared.item.Item.TheVariants.{Asked}
 use Rattle.gate_history.specs.declared.verdict.Verdict.{Verdict}
 use Rattle.gate_history.specs.step.Marks.{Submission, Effect, Opens}
-use Rattle.gate_history.specs.client.Submits.{Pending, ends, at_once, ByStatus, is_touched}
+use Rattle.gate_history.specs.client.Submits.{Pending}
+use Rattle.gate_history.specs.client.Ends.{ends, at_once, ByStatus, is_touched, answers_at}
 use Rattle.gate_history.specs.state.Ids.{last_of}
 use Rattle.gate_history.specs.declared.errno.TheConstants.{ESHUTDOWN}
 use Rattle.gate_history.specs.state.StreamIds.{asking}
@@ -23,7 +24,7 @@ use Rattle.gate_history.specs.write.Packets.{packets_of}
 use Rattle.gate_history.specs.step.Meaning.{meaning, mark_as, refused, submission, accepted_as, accepts, drawn_for, verdict_of}
 use Rattle.gate_history.specs.step.Machine.{live_after}
 use Rattle.gate_history.specs.write.Output.{fresh, present, to_client, to_host}
-use Rattle.gate_history.specs.write.Answers.{answers_at, without_packets}
+use Rattle.gate_history.specs.write.Answers.{without_packets}
 use Rattle.gate_history.specs.write.Notes.{notes_of, is_by_answer}
 use Rattle.gate_history.specs.declared.note.Note.TheVariants as note
 use Rattle.gate_history.proofs.lemmas.Lists.{Each, Each-append, Each-weaker, filter-same, filter-all, filter-none, flat_map-same, flat_map-none}

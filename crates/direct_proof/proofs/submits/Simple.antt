@@ -15,7 +15,8 @@ use Rattle.gate_history.specs.declared.verdict.Verdict.{Verdict}
 use Rattle.gate_history.specs.declared.verdict.Verdict.TheVariants.{Wire, Routed, Stream}
 use Rattle.gate_history.specs.client.Verdict.{goes_by_id}
 use Rattle.gate_history.specs.step.Marks.{Submission, Opens}
-use Rattle.gate_history.specs.client.Submits.{Pending, at_once, is_touched}
+use Rattle.gate_history.specs.client.Submits.{Pending}
+use Rattle.gate_history.specs.client.Ends.{at_once, is_touched}
 use Rattle.gate_history.specs.state.Ids.{last_of, draw, greatest}
 use Rattle.gate_history.specs.state.Flight.{wide_ids}
 use Rattle.gate_history.specs.state.StreamIds.{StreamIds, stream_ids_by, stream_ids_after, asking}

@@ -12,7 +12,8 @@ use Rattle.redir_host.specs.declared.request.Request.{Request as HostRequest}
 use Rattle.redir_host.specs.guest.Line.{Waiting as InLine}
 use Rattle.gate_history.specs.declared.item.Item.TheVariants.{Asked}
 use Rattle.gate_history.specs.step.Marks.{Submission, Mark}
-use Rattle.gate_history.specs.client.Submits.{Pending, is_waiting}
+use Rattle.gate_history.specs.client.Submits.{Pending}
+use Rattle.gate_history.specs.client.Ends.{is_waiting}
 use Rattle.gate_history.specs.write.Output.{cancels, cancel, is_taken as gate_taken}
 use Rattle.gate_history.specs.state.State.{State, submits, is_number as is_numbered}
 use Rattle.gate_history.specs.state.Sound.{IsSound}

@@ -8,8 +8,9 @@ use Rattle.gate_history.specs.declared.verdict.Verdict.{Verdict}
 use Rattle.gate_history.specs.declared.verdict.Verdict.TheVariants.{Wire, Routed}
 use Rattle.gate_history.specs.client.Verdict.{goes_by_id}
 use Rattle.gate_history.specs.step.Marks.{Submission, Effect, Unlinks}
-use Rattle.gate_history.specs.client.Submits.{Pending, is_waiting, ends, ByUnlink}
-use Rattle.gate_history.specs.write.Answers.{ret_unlink, answers_at}
+use Rattle.gate_history.specs.client.Submits.{Pending}
+use Rattle.gate_history.specs.client.Ends.{is_waiting, ends, ByUnlink, answers_at}
+use Rattle.gate_history.specs.write.Answers.{ret_unlink}
 use Rattle.gate_history.specs.declared.errno.TheConstants.{ECONNRESET}
 use Rattle.gate_history.specs.write.Output.{is_target as gate_target, is_taken as gate_taken, cancels, cancel, to_host, to_client, present}
 use Rattle.gate_history.specs.write.Notes.{is_by_answer, notes_of}

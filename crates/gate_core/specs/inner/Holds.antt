@@ -18,7 +18,7 @@ use Rattle.gate_history.specs.state.Ups.{no_streams}
 use Rattle.gate_history.specs.declared.verdict.Verdict.{Verdict}
 use Rattle.gate_history.specs.client.Verdict.{goes_by_id as goes_by_id_of}
 use Rattle.gate_history.specs.write.Packets.{HasRoute}
-use Rattle.gate_history.specs.client.Submits.{is_waiting}
+use Rattle.gate_history.specs.client.Ends.{is_waiting}
 use Rattle.gate_history.specs.state.State.{State}
 use Rattle.gate_history.specs.write.Output.{to_client}
 use Rattle.gate_history.specs.write.Notes.{notes_of, dropped}

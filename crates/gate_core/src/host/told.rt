@@ -15,7 +15,7 @@ ghost use Rattle.gate_history.specs.state.Facts.{tell};
 ghost use Rattle.usb_base.specs.Status.{status_of};
 ghost use Rattle.gate_history.specs.state.StreamIds.{lifted};
 ghost use Rattle.gate_history.specs.state.Flight.{wide_ids};
-ghost use Rattle.gate_history.specs.client.Submits.{has_id as submit_has_id};
+ghost use Rattle.gate_history.specs.client.Ends.{has_id as submit_has_id};
 ghost use Rattle.gate_history.specs.state.State.{State, submits};
 ghost use Rattle.gate_history.specs.host.Responses.{response_of};
 ghost use Rattle.gate_history.specs.step.Meaning.{mark_as, fact_of, by_response, told_meaning};

@@ -6,9 +6,9 @@ use Rattle.usbip_urb.specs.declared.client.ClientPacket.{ClientPacket}
 use Rattle.usbip_urb.specs.declared.client.ClientPacket.TheVariants.{Urb}
 use Rattle.gate_history.specs.client.Verdict.{is_wire}
 use Rattle.gate_history.specs.step.Marks.{Submission, Effect, Mark}
-use Rattle.gate_history.specs.client.Submits.{End, ByLoss, ByAnswer, ByUnlink, opened, end_of, ended, unlinker}
+use Rattle.gate_history.specs.client.Submits.{opened, end_of, ended, unlinker}
+use Rattle.gate_history.specs.client.Ends.{End, ByLoss, ByAnswer, ByUnlink, is_cancelled}
 use Rattle.gate_history.specs.state.State.{is_number}
-use Rattle.gate_history.specs.write.Answers.{is_cancelled}
 use Rattle.gate_history.specs.write.Notes.{is_by_client}
 
 -- ---- of one number, the latest first

@@ -8,7 +8,7 @@ use Rattle.gate_history.specs.client.Submits.{live}
 use Rattle.gate_history.specs.state.State.{State, state_of}
 use Rattle.gate_history.specs.step.Meaning.{meaning, mark_of}
 use Rattle.gate_history.specs.step.Past.{is_left_out, past}
-use Rattle.gate_history.specs.write.Answers.{lost_answer}
+use Rattle.gate_history.specs.client.Ends.{lost_answer}
 use Rattle.gate_history.specs.write.Output.{to_client}
 
 -- the item comes, and the device is lost with it

@@ -6,7 +6,7 @@ use Rattle.usbip_urb.specs.declared.client.ClientPacket.TheVariants.{Urb}
 use Rattle.usbip_urb.specs.declared.code.TheConstants.{MAX_LIVE, MAX_PACKETS}
 use Rattle.gate_history.specs.declared.item.Item.{Item}
 use Rattle.gate_history.specs.declared.item.Item.TheVariants.{Asked}
-use Rattle.gate_history.specs.client.Submits.{has_id, at_once}
+use Rattle.gate_history.specs.client.Ends.{has_id, at_once}
 use Rattle.gate_history.specs.state.Ids.{AreFresh, greatest}
 use Rattle.gate_history.specs.state.Flight.{wide_ids, in_flight}
 use Rattle.gate_history.specs.state.State.{State, state_of, submits, is_number}

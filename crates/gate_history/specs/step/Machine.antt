@@ -8,7 +8,8 @@ use Rattle.gate_history.specs.declared.item.Item.{Item}
 use Rattle.gate_history.specs.step.Marks.{Effect, Mark}
 use Rattle.gate_history.specs.state.Sides.{turned, imports, leaves, is_loss, refuses_client, ends_client, closes_host, agrees}
 use Rattle.gate_history.specs.state.Facts.{facts_after}
-use Rattle.gate_history.specs.client.Submits.{Pending, ends, asks, abandoned_after}
+use Rattle.gate_history.specs.client.Submits.{Pending, asks, abandoned_after}
+use Rattle.gate_history.specs.client.Ends.{ends}
 use Rattle.gate_history.specs.state.Ids.{last_of}
 use Rattle.gate_history.specs.state.Ups.{streams_after}
 use Rattle.gate_history.specs.state.StreamIds.{stream_ids_after, asking, fence_after}

@@ -36,7 +36,7 @@ use Rattle.gate_history.specs.step.Marks.{Submission, Fact, Connected, Interface
 use Rattle.gate_history.specs.state.Sides.{refusal}
 use Rattle.gate_history.specs.state.Ids.{last_of}
 use Rattle.gate_history.specs.host.Fillings.{fill, none_filled}
-use Rattle.gate_history.specs.client.Submits.{has_id, waits_at}
+use Rattle.gate_history.specs.client.Ends.{has_id, waits_at}
 use Rattle.gate_history.specs.state.Ups.{Up, stream_at, stream_of, held_of}
 use Rattle.gate_history.specs.state.Flight.{wide_ids, wide_bulk}
 use Rattle.gate_history.specs.state.State.{State, submits, next_ids, has_number, change_waits}

@@ -19,7 +19,7 @@ use Rattle.gate_history.specs.declared.note.Note.TheVariants as note
 use Rattle.gate_history.specs.declared.item.Item.{Item}
 use Rattle.gate_history.specs.declared.item.Item.TheVariants.{Asked, ClientWrong, ClientLeft, Told, HostWrong, HostLeft}
 use Rattle.gate_history.specs.state.Sides.{refusal}
-use Rattle.gate_history.specs.client.Submits.{has_id}
+use Rattle.gate_history.specs.client.Ends.{has_id}
 use Rattle.gate_history.specs.state.Flight.{wide_ids}
 use Rattle.gate_history.specs.state.State.{State, state_of, submits, has_number}
 use Rattle.gate_history.specs.step.Past.{is_left_out, past}

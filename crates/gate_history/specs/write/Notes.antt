@@ -6,7 +6,8 @@ use Rattle.gate_history.specs.declared.note.Note.{Note}
 use Rattle.gate_history.specs.declared.note.Note.TheVariants as note
 use Rattle.gate_history.specs.step.Marks.{Submission, Effect, Imports, Unlinks, Arrives, Mark}
 use Rattle.gate_history.specs.state.Sides.{refused_at, leaves, is_loss}
-use Rattle.gate_history.specs.client.Submits.{End, ByClient, ByAnswer, ByPackets, opened, ends}
+use Rattle.gate_history.specs.client.Submits.{opened}
+use Rattle.gate_history.specs.client.Ends.{End, ByClient, ByAnswer, ByPackets, ends}
 use Rattle.gate_history.specs.state.State.{State}
 use Rattle.gate_history.specs.write.Output.{present}
 

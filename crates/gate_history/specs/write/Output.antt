@@ -12,10 +12,11 @@ use Rattle.usbip_urb.specs.declared.client.ClientPacket.TheVariants.{Op, Urb}
 use Rattle.gate_history.specs.client.Verdict.{goes_by_id, is_wire}
 use Rattle.gate_history.specs.step.Marks.{Submission, Effect, Replies, Imports, Unlinks, Disconnects, Mark}
 use Rattle.gate_history.specs.state.Sides.{leaves}
-use Rattle.gate_history.specs.client.Submits.{Pending, is_waiting, opened, ends}
+use Rattle.gate_history.specs.client.Submits.{Pending, opened}
+use Rattle.gate_history.specs.client.Ends.{is_waiting, ends, answers_at}
 use Rattle.gate_history.specs.state.State.{State}
 use Rattle.gate_history.specs.state.StreamIds.{asking}
-use Rattle.gate_history.specs.write.Answers.{answers_at, ret_unlink}
+use Rattle.gate_history.specs.write.Answers.{ret_unlink}
 
 -- ---- to the client
 

@@ -3,7 +3,7 @@
 ghost use Rattle.std.specs.Prelude.{◌≡◌, ◌⊎◌, ◌<◌, true, IsTrue};
 ghost use Rattle.usbip_urb.specs.Buffers.{laid};
 ghost use Rattle.gate_history.specs.client.Verdict.{verdict, goes_by_id, by_setup, by_endpoint, by_route, by_kind, is_narrow};
-ghost use Rattle.gate_history.specs.client.Submits.{is_waiting};
+ghost use Rattle.gate_history.specs.client.Ends.{is_waiting};
 ghost use Rattle.gate_parts.specs.state.Rows.{kind_of, IsRead};
 ghost use Rattle.gate_history.specs.client.Carried.{IsRequest, IsCarried};
 

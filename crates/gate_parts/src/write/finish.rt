@@ -4,7 +4,8 @@ ghost use Rattle.std.specs.Prelude.{◌≡◌, ◌++◌, [], None, pos, OnOk, On
 ghost use Rattle.std.specs.List.{flat_map};
 ghost use Rattle.usbip_urb.specs.Spelling.{spelling};
 ghost use Rattle.gate_history.specs.step.Marks.{Submission};
-ghost use Rattle.gate_history.specs.write.Answers.{without_packets, with_outcome, ret_unlink, answers_by};
+ghost use Rattle.gate_history.specs.write.Answers.{without_packets, with_outcome, ret_unlink};
+ghost use Rattle.gate_history.specs.client.Ends.{answers_by};
 ghost use Rattle.gate_history.specs.write.Asked.{asked_view, HasItsPackets, IsMoved};
 ghost use Rattle.gate_parts.specs.state.Rows.{IsRowOf, row_request, lost_bytes, row_of, IsRead, row_for, ended_bytes};
 ghost use Rattle.usbip_urb.specs.declared.client.ClientPacket.TheVariants.{Urb};

@@ -10,7 +10,8 @@ use Rattle.gate_history.specs.declared.note.Note.TheVariants as note
 use Rattle.gate_history.specs.step.Events.{Event}
 use Rattle.gate_history.specs.step.Marks.{Effect, Imports, Mark}
 use Rattle.gate_history.specs.state.Sides.{refused_at, leaves, is_loss}
-use Rattle.gate_history.specs.client.Submits.{Pending, ends}
+use Rattle.gate_history.specs.client.Submits.{Pending}
+use Rattle.gate_history.specs.client.Ends.{ends}
 use Rattle.gate_history.specs.state.State.{State, state_of}
 use Rattle.gate_history.specs.step.History.{history}
 use Rattle.gate_history.specs.write.Notes.{is_by_answer, when, came_notes, submit_notes, answer_notes, refusal_notes, notes_of}

@@ -21,7 +21,8 @@ use Rattle.gate_history.specs.state.Flight.{wide_bulk, ids_of}
 use Rattle.gate_history.specs.state.StreamIds.{ids_of_streams}
 use Rattle.gate_history.specs.state.Ids.{last_of}
 use Rattle.gate_history.specs.step.Marks.{Submission}
-use Rattle.gate_history.specs.client.Submits.{Pending, is_touched}
+use Rattle.gate_history.specs.client.Submits.{Pending}
+use Rattle.gate_history.specs.client.Ends.{is_touched}
 use Rattle.gate_history.specs.write.Output.{fresh}
 use Rattle.gate_history.specs.state.State.{submits, has_number, is_number as has_seq, change_waits}
 use Rattle.gate_history.specs.step.Meaning.{mark_as, by_stream, verdict_of}

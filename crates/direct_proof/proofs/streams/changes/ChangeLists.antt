@@ -17,7 +17,8 @@ use Rattle.gate_history.specs.client.Verdict.{verdict, by_transfer, goes_by_id}
 use Rattle.gate_history.specs.declared.errno.TheConstants.{EBUSY, ESHUTDOWN}
 use Rattle.gate_history.specs.state.Ids.{holds}
 use Rattle.gate_history.specs.step.Marks.{Submission}
-use Rattle.gate_history.specs.client.Submits.{Pending, is_touched}
+use Rattle.gate_history.specs.client.Submits.{Pending}
+use Rattle.gate_history.specs.client.Ends.{is_touched}
 use Rattle.gate_history.specs.write.Output.{fresh}
 use Rattle.gate_history.specs.state.State.{State, is_number as has_seq}
 use Rattle.gate_history.specs.step.Meaning.{by_stream}

@@ -19,7 +19,8 @@ use Rattle.gate_history.specs.declared.verdict.Verdict.{Verdict}
 use Rattle.gate_history.specs.declared.verdict.Verdict.TheVariants.{Routed}
 use Rattle.gate_history.specs.declared.errno.TheConstants.{ESHUTDOWN}
 use Rattle.gate_history.specs.step.Marks.{Submission, Effect, Opens}
-use Rattle.gate_history.specs.client.Submits.{Pending, End, ByStatus, ends, at_once, is_touched}
+use Rattle.gate_history.specs.client.Submits.{Pending}
+use Rattle.gate_history.specs.client.Ends.{End, ByStatus, ends, at_once, is_touched, answers_at}
 use Rattle.gate_history.specs.state.Ids.{last_of}
 use Rattle.gate_history.specs.state.State.{State, has_number, next_ids}
 use Rattle.gate_history.specs.write.Packets.{stops, route_packets}
@@ -28,7 +29,7 @@ use Rattle.gate_history.specs.write.Output.{fresh}
 use Rattle.gate_history.specs.state.StreamIds.{stream_ids_after}
 use Rattle.gate_history.specs.write.Notes.{is_by_answer}
 use Rattle.gate_history.specs.declared.note.Note.TheVariants as note
-use Rattle.gate_history.specs.write.Answers.{answers_at, without_packets}
+use Rattle.gate_history.specs.write.Answers.{without_packets}
 use Rattle.gate_history.specs.state.Ups.{Up, stream_at, lower, is_ended}
 use Rattle.gate_history.proofs.lemmas.Lists.{filter-all}
 use Rattle.gate_history.proofs.lemmas.step.NoCancel.{asks-none, none-cancelled, stays-uncancelled}

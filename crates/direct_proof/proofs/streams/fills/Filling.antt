@@ -13,7 +13,7 @@ use Rattle.stream_buffers.specs.Cuts.{Cut}
 use Rattle.model_device.specs.Meaning.{Meaning}
 use Rattle.redir_host.proofs.lemmas.state.Each.{each_appended}
 use Rattle.gate_history.specs.host.Fillings.{Given, cut_of}
-use Rattle.gate_history.specs.client.Submits.{waits_at, is_waiting}
+use Rattle.gate_history.specs.client.Ends.{waits_at, is_waiting}
 use Rattle.gate_history.specs.write.Answers.{with_given}
 use Rattle.gate_history.specs.state.Ups.{Up, stream_at, hold}
 use Rattle.direct_device.specs.Direct.{Live, Direct, number, is_number, as_submission}

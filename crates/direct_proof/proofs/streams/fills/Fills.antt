@@ -7,8 +7,9 @@ use Rattle.usb_base.specs.declared.transfer.StreamPacket.{StreamPacket}
 use Rattle.stream_buffers.specs.Cuts.{Cut}
 use Rattle.gate_history.specs.declared.request.Request.{Request}
 use Rattle.gate_history.specs.host.Fillings.{Given, Fill, Filling, fill, filled_by, cut_of, given_to}
-use Rattle.gate_history.specs.client.Submits.{Pending, End, ByPackets, waits_at, packets_end}
-use Rattle.gate_history.specs.write.Answers.{answers_at, with_given}
+use Rattle.gate_history.specs.client.Submits.{Pending}
+use Rattle.gate_history.specs.client.Ends.{End, ByPackets, waits_at, packets_end, answers_at}
+use Rattle.gate_history.specs.write.Answers.{with_given}
 use Rattle.gate_history.specs.write.Notes.{is_by_answer}
 use Rattle.direct_device.specs.Direct.{Live}
 use Rattle.direct_proof.specs.Requests.{live_of}

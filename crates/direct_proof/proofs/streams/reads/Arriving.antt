@@ -16,11 +16,11 @@ use Rattle.gate_history.specs.declared.request.Request.{Request}
 use Rattle.gate_history.specs.declared.item.Item.TheVariants.{Told}
 use Rattle.gate_history.specs.host.Fillings.{Fill, Filling, fill, none_filled, given_to}
 use Rattle.gate_history.specs.step.Marks.{Submission, Effect, Arrives, Mark}
-use Rattle.gate_history.specs.client.Submits.{Pending, End, ByPackets, is_waiting, waits_at, packets_end}
+use Rattle.gate_history.specs.client.Submits.{Pending}
+use Rattle.gate_history.specs.client.Ends.{End, ByPackets, is_waiting, waits_at, packets_end, answers_at}
 use Rattle.gate_history.specs.state.State.{State}
 use Rattle.gate_history.specs.step.Meaning.{meaning, mark_as, fact_of, waiting, arrives}
 use Rattle.gate_history.specs.step.Machine.{live_after}
-use Rattle.gate_history.specs.write.Answers.{answers_at}
 use Rattle.gate_history.specs.write.Notes.{is_by_answer, notes_of}
 use Rattle.gate_history.specs.declared.note.Note.{Note}
 use Rattle.gate_history.specs.declared.note.Note.TheVariants as note

@@ -6,11 +6,11 @@ use Rattle.usb_base.specs.Status.{errno_of}
 use Rattle.usbip_urb.specs.declared.client.ClientPacket.TheVariants.{Urb}
 use Rattle.redir_data.specs.declared.packet.RedirPacket.{RedirPacket}
 use Rattle.gate_history.specs.step.Marks.{Submission, Effect, Idle, StreamTold}
-use Rattle.gate_history.specs.client.Submits.{Pending, ByStatus, ends, waits_at}
+use Rattle.gate_history.specs.client.Submits.{Pending}
+use Rattle.gate_history.specs.client.Ends.{ByStatus, ends, waits_at, answers_at}
 use Rattle.gate_history.specs.step.Meaning.{mark_as}
 use Rattle.gate_history.specs.step.Machine.{live_after}
 use Rattle.gate_history.specs.state.StreamIds.{lifted}
-use Rattle.gate_history.specs.write.Answers.{answers_at}
 use Rattle.gate_history.specs.write.Notes.{is_by_answer}
 use Rattle.gate_history.specs.declared.note.Note.TheVariants as note
 use Rattle.gate_history.proofs.lemmas.Lists.{filter-all}

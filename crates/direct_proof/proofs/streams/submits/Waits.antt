@@ -20,7 +20,8 @@ use Rattle.gate_history.specs.declared.verdict.Verdict.TheVariants.{Stream}
 use Rattle.gate_history.specs.declared.errno.TheConstants.{ESHUTDOWN}
 use Rattle.gate_history.specs.host.Fillings.{Fill, fill}
 use Rattle.gate_history.specs.step.Marks.{Submission, Waits}
-use Rattle.gate_history.specs.client.Submits.{Pending, waits_at}
+use Rattle.gate_history.specs.client.Submits.{Pending}
+use Rattle.gate_history.specs.client.Ends.{waits_at}
 use Rattle.gate_history.specs.state.Ids.{last_of}
 use Rattle.gate_history.specs.state.State.{State, has_number, next_ids}
 use Rattle.gate_history.specs.write.Packets.{starts}

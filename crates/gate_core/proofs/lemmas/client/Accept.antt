@@ -4,7 +4,7 @@ use Rattle.std.proofs.lemmas.Bool.{true≢false}
 use Rattle.gate_history.specs.state.Ups.{Up, stream_at}
 use Rattle.gate_history.specs.declared.verdict.Verdict.{Verdict}
 use Rattle.gate_history.specs.declared.verdict.Verdict.TheVariants.{Stream}
-use Rattle.gate_history.specs.client.Submits.{is_waiting}
+use Rattle.gate_history.specs.client.Ends.{is_waiting}
 use Rattle.gate_history.specs.step.Marks.{Opens}
 use Rattle.gate_history.specs.declared.request.Request.{Request}
 use Rattle.gate_history.specs.state.State.{State}

@@ -21,7 +21,8 @@ use Rattle.gate_history.specs.declared.errno.TheConstants.{ESHUTDOWN}
 use Rattle.gate_history.specs.declared.request.Request.{Request}
 use Rattle.gate_history.specs.declared.verdict.Verdict.TheVariants.{Routed}
 use Rattle.gate_history.specs.step.Marks.{Submission, Effect, Opens}
-use Rattle.gate_history.specs.client.Submits.{Pending, ByStatus, at_once, ends, is_touched}
+use Rattle.gate_history.specs.client.Submits.{Pending}
+use Rattle.gate_history.specs.client.Ends.{ByStatus, at_once, ends, is_touched, answers_at}
 use Rattle.gate_history.specs.state.Ids.{last_of}
 use Rattle.gate_history.specs.state.Ups.{lower, is_ended}
 use Rattle.gate_history.specs.state.StreamIds.{stream_ids_after}
@@ -29,7 +30,7 @@ use Rattle.gate_history.specs.state.State.{State}
 use Rattle.gate_history.specs.write.Packets.{packets_of}
 use Rattle.gate_history.specs.step.Meaning.{mark_as, drawn_for, submission}
 use Rattle.gate_history.specs.state.Sound.{IsSound}
-use Rattle.gate_history.specs.write.Answers.{without_packets, answers_at}
+use Rattle.gate_history.specs.write.Answers.{without_packets}
 use Rattle.gate_history.specs.write.Output.{fresh}
 use Rattle.gate_history.specs.write.All.{is_ret_submit, is_won_unlink}
 use Rattle.gate_history.specs.write.Bytes.{host_packet_bytes}

@@ -14,7 +14,8 @@ use Rattle.gate_core.specs.declared.state.kept.Kept.{Kept}
 use Rattle.usb_base.specs.Number.{capped}
 use Rattle.gate_history.specs.declared.verdict.Verdict.{Verdict}
 use Rattle.gate_history.specs.step.Marks.{Submission, Opens}
-use Rattle.gate_history.specs.client.Submits.{Pending, ByStatus, at_once, is_touched, ends}
+use Rattle.gate_history.specs.client.Submits.{Pending}
+use Rattle.gate_history.specs.client.Ends.{ByStatus, at_once, is_touched, ends, answers_at}
 use Rattle.gate_history.specs.state.Ids.{last_of}
 use Rattle.gate_history.specs.state.Ups.{opened_streams}
 use Rattle.gate_history.specs.state.StreamIds.{stream_ids_after}
@@ -22,7 +23,6 @@ use Rattle.gate_history.specs.state.State.{State}
 use Rattle.gate_history.specs.write.Packets.{packets_of}
 use Rattle.gate_history.specs.step.Meaning.{mark_as, drawn_for}
 use Rattle.gate_history.specs.state.Sound.{IsSound}
-use Rattle.gate_history.specs.write.Answers.{answers_at}
 use Rattle.gate_history.specs.write.Output.{fresh, answered}
 use Rattle.gate_history.specs.write.Notes.{is_by_answer, is_by_client}
 use Rattle.gate_history.specs.write.All.{is_ret_submit, is_won_unlink}

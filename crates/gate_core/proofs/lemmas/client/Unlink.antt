@@ -20,7 +20,8 @@ use Rattle.gate_core.specs.declared.client.unlink.UnlinkAnswer.{UnlinkAnswer}
 use Rattle.usb_base.specs.Number.{capped}
 use Rattle.gate_history.specs.declared.errno.TheConstants.{ECONNRESET}
 use Rattle.gate_history.specs.step.Marks.{Effect, Unlinks}
-use Rattle.gate_history.specs.client.Submits.{Pending, ByUnlink, is_waiting, ends}
+use Rattle.gate_history.specs.client.Submits.{Pending}
+use Rattle.gate_history.specs.client.Ends.{ByUnlink, is_waiting, ends}
 use Rattle.usbip_urb.specs.declared.packet.UrbPacket.{UrbPacket}
 use Rattle.gate_history.specs.state.State.{State, is_number, submits}
 use Rattle.gate_history.specs.step.Meaning.{mark_as}

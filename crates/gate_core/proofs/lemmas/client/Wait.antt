@@ -22,7 +22,8 @@ use Rattle.gate_history.specs.declared.verdict.Verdict.{Verdict}
 use Rattle.gate_history.specs.declared.verdict.Verdict.TheVariants.{Stream}
 use Rattle.gate_history.specs.host.Fillings.{Fill, none_filled, filled_by, fill}
 use Rattle.gate_history.specs.step.Marks.{Submission, Effect, Waits}
-use Rattle.gate_history.specs.client.Submits.{Pending, waits_at, packets_end, own_end}
+use Rattle.gate_history.specs.client.Submits.{Pending}
+use Rattle.gate_history.specs.client.Ends.{waits_at, packets_end, own_end}
 use Rattle.gate_history.specs.state.Ups.{Up, stream_at, held_of, hold, raise}
 use Rattle.gate_history.specs.write.Packets.{starts}
 use Rattle.gate_history.specs.state.StreamIds.{StreamIds, stream_ids_after}

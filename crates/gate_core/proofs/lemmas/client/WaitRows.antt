@@ -6,7 +6,8 @@ use Rattle.unlink_race.specs.Searches.{is_stream, waits_at as kind_waits_at, is_
 use Rattle.gate_history.specs.declared.verdict.Verdict.{Verdict}
 use Rattle.gate_history.specs.declared.verdict.Verdict.TheVariants.{Now, Wire, Routed, IsoOut, Stream}
 use Rattle.gate_history.specs.step.Marks.{Submission}
-use Rattle.gate_history.specs.client.Submits.{Pending, at_once, is_waiting, waits_at, is_touched}
+use Rattle.gate_history.specs.client.Submits.{Pending}
+use Rattle.gate_history.specs.client.Ends.{at_once, is_waiting, waits_at, is_touched}
 use Rattle.gate_history.specs.state.State.{State}
 use Rattle.gate_history.specs.state.Sound.{IsSound}
 use Rattle.gate_parts.specs.state.Rows.{kind_of, row}

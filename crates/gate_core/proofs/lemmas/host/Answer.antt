@@ -36,12 +36,12 @@ use Rattle.gate_history.specs.step.Marks.{Submission, Fact, Effect, Idle, Agrees
 use Rattle.gate_history.specs.state.Facts.{no_facts, tell}
 use Rattle.gate_history.specs.state.Sides.{is_loss, closes_host, turned, is_client}
 use Rattle.gate_history.specs.state.Flight.{wide_ids}
-use Rattle.gate_history.specs.client.Submits.{Pending, has_id}
+use Rattle.gate_history.specs.client.Submits.{Pending}
+use Rattle.gate_history.specs.client.Ends.{has_id, answers_by}
 use Rattle.gate_history.specs.state.State.{State, submits}
 use Rattle.gate_history.specs.host.Responses.{Response, response_of, mismatch, told_outcome}
 use Rattle.gate_history.specs.step.Meaning.{mark_as, answered_as, answer_to, by_response, told_meaning}
 use Rattle.gate_history.specs.state.Sound.{IsSound}
-use Rattle.gate_history.specs.write.Answers.{answers_by}
 use Rattle.gate_history.specs.write.Output.{cancels, cancel, to_client}
 use Rattle.gate_history.specs.write.Notes.{answer_notes}
 use Rattle.gate_history.specs.write.All.{is_ret_submit, is_won_unlink}

@@ -12,7 +12,8 @@ use Rattle.gate_core.specs.declared.state.kept.Kept.{Kept}
 use Rattle.gate_history.specs.declared.request.Request.{Request}
 use Rattle.gate_history.specs.host.Fillings.{Fill, none_filled, fill}
 use Rattle.gate_history.specs.step.Marks.{Submission, Effect, Arrives}
-use Rattle.gate_history.specs.client.Submits.{Pending, ByPackets, waits_at, packets_end, own_end}
+use Rattle.gate_history.specs.client.Submits.{Pending}
+use Rattle.gate_history.specs.client.Ends.{ByPackets, waits_at, packets_end, own_end}
 use Rattle.gate_history.specs.state.Ups.{Up, stream_at, stream_of, hold}
 use Rattle.gate_history.specs.state.State.{State, is_number}
 use Rattle.gate_history.specs.state.Sound.{IsSound}

@@ -15,8 +15,9 @@ use Rattle.gate_history.specs.declared.note.Note.{Note}
 use Rattle.gate_history.specs.declared.note.Note.TheVariants as note
 use Rattle.gate_history.specs.declared.request.Request.{Request}
 use Rattle.gate_history.specs.host.Fillings.{Given, Transferred, Isochronous, Filling, Fill, cut_of, filled_by, fill, given_to}
-use Rattle.gate_history.specs.client.Submits.{Pending, End, ByPackets, waits_at, packets_end}
-use Rattle.gate_history.specs.write.Answers.{answers_at, with_given}
+use Rattle.gate_history.specs.client.Submits.{Pending}
+use Rattle.gate_history.specs.client.Ends.{End, ByPackets, waits_at, packets_end, answers_at}
+use Rattle.gate_history.specs.write.Answers.{with_given}
 use Rattle.gate_history.specs.write.Notes.{is_by_answer, is_by_client}
 use Rattle.gate_history.specs.write.All.{is_ret_submit, is_won_unlink}
 use Rattle.gate_parts.specs.state.Rows.{row, row_request, IsFine}

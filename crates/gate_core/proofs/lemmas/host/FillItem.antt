@@ -22,14 +22,14 @@ use Rattle.usb_base.specs.Number.{capped}
 use Rattle.gate_history.specs.host.Fillings.{Filling, Fill, fill}
 use Rattle.gate_history.specs.step.Marks.{Submission, Effect, Waits, Arrives}
 use Rattle.gate_history.specs.state.Sides.{leaves, is_loss, imports, turned, agrees}
-use Rattle.gate_history.specs.client.Submits.{Pending, ByClient, ByLoss, own_end, ends, asks, packets_end, is_answered}
+use Rattle.gate_history.specs.client.Submits.{Pending, asks, is_answered}
+use Rattle.gate_history.specs.client.Ends.{ByClient, ByLoss, own_end, ends, packets_end, answers_at}
 use Rattle.gate_history.specs.state.Ids.{last_of}
 use Rattle.gate_history.specs.state.Ups.{Up, stream_at, hold, moved_streams}
 use Rattle.gate_history.specs.write.Packets.{asked_packets}
 use Rattle.gate_history.specs.state.StreamIds.{asking, stream_ids_after, moved_fence}
 use Rattle.gate_history.specs.state.State.{State}
 use Rattle.gate_history.specs.step.Meaning.{mark_as, drawn_by}
-use Rattle.gate_history.specs.write.Answers.{answers_at}
 use Rattle.gate_history.specs.write.Output.{present, replies, cancels, to_client}
 use Rattle.gate_history.specs.write.Notes.{came_notes, submit_notes, answer_notes, dropped}
 use Rattle.gate_history.specs.write.All.{is_ret_submit, is_won_unlink}

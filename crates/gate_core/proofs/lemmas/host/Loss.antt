@@ -17,7 +17,8 @@ use Rattle.usb_base.specs.Number.{capped}
 use Rattle.gate_history.specs.step.Marks.{Submission, Fact, Effect}
 use Rattle.gate_history.specs.state.Facts.{no_facts, tell}
 use Rattle.gate_history.specs.state.Sides.{refused_at, leaves, is_loss, closes_host, imports, refuses_client, ends_client, turned}
-use Rattle.gate_history.specs.client.Submits.{Pending, ByLoss, ends, is_answered}
+use Rattle.gate_history.specs.client.Submits.{Pending, is_answered}
+use Rattle.gate_history.specs.client.Ends.{ByLoss, ends, lost_answer}
 use Rattle.gate_history.specs.state.Ids.{last_of}
 use Rattle.gate_history.specs.state.Ups.{no_streams, is_ended, moved_streams}
 use Rattle.gate_history.specs.write.Packets.{stops, asked_packets}
@@ -25,7 +26,6 @@ use Rattle.gate_history.specs.state.StreamIds.{stream_ids_after, moved_fence}
 use Rattle.gate_history.specs.state.State.{State, submits, next_ids}
 use Rattle.gate_history.specs.client.Verdict.{is_wire, goes_by_id}
 use Rattle.gate_history.specs.step.Meaning.{mark_as, drawn_by}
-use Rattle.gate_history.specs.write.Answers.{lost_answer}
 use Rattle.gate_history.specs.write.Output.{present, cancels, cancel, acknowledgements, to_client}
 use Rattle.gate_history.specs.write.Notes.{when, answer_notes, is_by_answer, refusal_notes, is_by_client, dropped}
 use Rattle.gate_history.specs.write.All.{is_ret_submit, is_won_unlink}

@@ -12,7 +12,8 @@ use Rattle.gate_parts.specs.declared.write.outputs.Outputs.{Outputs}
 use Rattle.gate_core.specs.declared.state.kept.Kept.{Kept}
 use Rattle.usb_base.specs.Number.{capped}
 use Rattle.gate_history.specs.step.Marks.{Effect, StreamTold}
-use Rattle.gate_history.specs.client.Submits.{Pending, ByStatus, ends, waits_at}
+use Rattle.gate_history.specs.client.Submits.{Pending}
+use Rattle.gate_history.specs.client.Ends.{ByStatus, ends, waits_at}
 use Rattle.gate_history.specs.state.Ups.{lower_at}
 use Rattle.gate_history.specs.state.StreamIds.{lifted}
 use Rattle.gate_history.specs.state.State.{State}

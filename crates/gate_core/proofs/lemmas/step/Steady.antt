@@ -13,10 +13,10 @@ use Rattle.gate_history.specs.declared.note.Note.TheVariants as note
 use Rattle.gate_parts.specs.declared.write.outputs.Outputs.{Outputs}
 use Rattle.gate_core.specs.declared.state.kept.Kept.{Kept}
 use Rattle.gate_history.specs.step.Marks.{Submission, Effect, Idle}
-use Rattle.gate_history.specs.client.Submits.{Pending, End, ends, asks}
+use Rattle.gate_history.specs.client.Submits.{Pending, asks}
+use Rattle.gate_history.specs.client.Ends.{End, ends, answers_at}
 use Rattle.gate_history.specs.state.State.{State}
 use Rattle.gate_history.specs.step.Meaning.{mark_as}
-use Rattle.gate_history.specs.write.Answers.{answers_at}
 use Rattle.gate_history.specs.write.Output.{present, answered, replies, cancels, cancel}
 use Rattle.gate_history.specs.write.Notes.{came_notes, submit_notes, is_by_answer, is_by_client}
 use Rattle.gate_history.specs.write.All.{is_ret_submit, is_won_unlink}

@@ -27,7 +27,7 @@ use Rattle.gate_history.specs.write.Packets.{asked_packets}
 use Rattle.gate_history.specs.state.StreamIds.{asking}
 use Rattle.gate_history.specs.state.State.{State, flying, has_number}
 use Rattle.gate_history.specs.step.Meaning.{mark_as, drawn_by, refused, importable, imported_as, asked_meaning, accepted_as}
-use Rattle.gate_history.specs.write.Answers.{lost_answer}
+use Rattle.gate_history.specs.client.Ends.{lost_answer}
 use Rattle.gate_history.specs.write.Output.{cancels, cancel, acknowledgements, to_client, to_host}
 use Rattle.gate_history.specs.write.Notes.{when, came_notes, submit_notes, answer_notes, refusal_notes, notes_of}
 use Rattle.gate_history.specs.step.Wants.{GivesSome}

@@ -5,7 +5,8 @@ use Rattle.std.specs.Prelude.{filter, is_none, is_some}
 use Rattle.std.proofs.lemmas.Bool.{false≢true}
 use Rattle.std.proofs.lemmas.List.Elements.{filter-append}
 use Rattle.gate_history.specs.step.Marks.{Submission, Effect, Mark}
-use Rattle.gate_history.specs.client.Submits.{End, opened, accepted, ends, end_of, is_live, live, ended}
+use Rattle.gate_history.specs.client.Submits.{opened, accepted, end_of, is_live, live, ended}
+use Rattle.gate_history.specs.client.Ends.{End, ends}
 use Rattle.gate_history.proofs.lemmas.Lists.{Each, Each-weaker, filter-same, filter-twice, filter-all, both}
 use Rattle.gate_history.proofs.lemmas.step.Steps.{IsPlaced, IsWell, Before, placed, unopened-end, Present}
 

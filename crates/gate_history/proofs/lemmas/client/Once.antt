@@ -16,11 +16,12 @@ use Rattle.gate_history.specs.declared.verdict.Verdict.TheVariants.{Wire, Routed
 use Rattle.gate_history.specs.client.Verdict.{goes_by_id, is_wire}
 use Rattle.gate_history.specs.host.Fillings.{Transferred, Isochronous}
 use Rattle.gate_history.specs.step.Marks.{Submission, Effect, Replies, Imports, Opens, Waits, Unlinks, Mark}
-use Rattle.gate_history.specs.client.Submits.{End, ByStatus, Sent, ByClient, ByLoss, ByAnswer, ByUnlink, ByPackets, opened, accepted, is_waiting, ends, end_of, is_live, live, ended, asks, unlinker, Pending, pending}
+use Rattle.gate_history.specs.client.Submits.{opened, accepted, end_of, is_live, live, ended, asks, unlinker, Pending, pending}
+use Rattle.gate_history.specs.client.Ends.{End, ByStatus, Sent, ByClient, ByLoss, ByAnswer, ByUnlink, ByPackets, is_waiting, ends, is_cancelled, answers_at}
 use Rattle.gate_history.specs.state.State.{State, state_of, is_number, has_number}
 use Rattle.gate_history.specs.step.Meaning.{meaning, mark_of}
 use Rattle.gate_history.specs.step.Past.{is_left_out, past}
-use Rattle.gate_history.specs.write.Answers.{is_cancelled, ret_unlink, with_outcome, answers_at}
+use Rattle.gate_history.specs.write.Answers.{ret_unlink, with_outcome}
 use Rattle.gate_history.specs.write.Output.{present, answered, is_target, is_taken, replies, to_client}
 use Rattle.gate_history.specs.write.Notes.{is_by_client}
 use Rattle.gate_history.specs.write.All.{all_of}

@@ -40,7 +40,8 @@ use Rattle.gate_history.specs.declared.verdict.Verdict.TheVariants.{Now, Wire, R
 use Rattle.gate_history.specs.client.Verdict.{max_narrow, none_of, is_invalid, is_control, is_iso, is_narrow, by_route, by_kind, by_endpoint, by_transfer, verdict, goes_by_id}
 use Rattle.gate_history.specs.step.Marks.{Submission, Effect, Opens, Waits}
 use Rattle.gate_history.specs.state.Sides.{imports}
-use Rattle.gate_history.specs.client.Submits.{ByStatus, opened, at_once, is_waiting, is_touched, ends}
+use Rattle.gate_history.specs.client.Submits.{opened}
+use Rattle.gate_history.specs.client.Ends.{ByStatus, at_once, is_waiting, is_touched, ends}
 use Rattle.gate_history.specs.state.Ids.{last_of}
 use Rattle.gate_history.specs.state.Ups.{Up, stream_at, stream_of}
 use Rattle.gate_history.specs.state.State.{State, has_number}

@@ -10,11 +10,11 @@ use Rattle.usbip_urb.specs.declared.client.ClientPacket.TheVariants.{Urb}
 use Rattle.gate_history.specs.declared.item.Item.{Item}
 use Rattle.gate_history.specs.step.Marks.{Submission, Effect, Idle, Replies, Imports, Opens, Waits, Unlinks, Agrees, Answers, Arrives, StreamTold, Disconnects, Ends, Refuses, Mark}
 use Rattle.gate_history.specs.state.Sides.{is_client, leaves, is_loss}
-use Rattle.gate_history.specs.client.Submits.{ByClient, ByLoss, opened, own_end, ends, live}
+use Rattle.gate_history.specs.client.Submits.{opened, live}
+use Rattle.gate_history.specs.client.Ends.{ByClient, ByLoss, own_end, ends, lost_answer, answers_at}
 use Rattle.gate_history.specs.state.State.{State, state_of}
 use Rattle.gate_history.specs.step.Meaning.{meaning, mark_of}
 use Rattle.gate_history.specs.step.Past.{is_left_out, put, past}
-use Rattle.gate_history.specs.write.Answers.{lost_answer, answers_at}
 use Rattle.gate_history.specs.write.Output.{fresh, answered, replies, to_client}
 use Rattle.gate_history.specs.host.Losses.{Loses, EndsAll}
 use Rattle.gate_history.proofs.lemmas.Lists.{Each, every, Each-weaker, Each-append, Each-filter, filter-same, filter-none, flat_map-same, map-map}

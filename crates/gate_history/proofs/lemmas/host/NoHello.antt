@@ -24,7 +24,8 @@ use Rattle.gate_history.specs.write.Output.{cancel, cancels, fresh, acknowledgem
 use Rattle.gate_history.specs.write.Packets.{stops, asked_packets}
 use Rattle.gate_history.specs.state.Sides.{imports, leaves, is_loss}
 use Rattle.gate_history.specs.state.State.{State, next_ids}
-use Rattle.gate_history.specs.client.Submits.{opened, ends}
+use Rattle.gate_history.specs.client.Submits.{opened}
+use Rattle.gate_history.specs.client.Ends.{ends}
 use Rattle.gate_history.specs.state.Ups.{Up, no_streams, moved_streams, is_ended}
 
 pub record IsQuiet (st : State) : Type 0 where

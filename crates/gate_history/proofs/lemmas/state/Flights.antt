@@ -30,7 +30,8 @@ use Rattle.gate_history.specs.declared.verdict.Verdict.TheVariants.{Now, Wire, R
 use Rattle.gate_history.specs.client.Verdict.{goes_by_id}
 use Rattle.gate_history.specs.step.Marks.{Submission, Effect, Idle, Replies, Imports, Opens, Waits, Unlinks, Agrees, Answers, Arrives, StreamTold, Disconnects, Ends, Refuses, Mark}
 use Rattle.gate_history.specs.state.Sides.{is_client, leaves, is_loss, imports, imported}
-use Rattle.gate_history.specs.client.Submits.{End, ByClient, ByLoss, at_once, is_waiting, pending, opened, own_end, ends, live, is_answered, abandoned}
+use Rattle.gate_history.specs.client.Submits.{pending, opened, live, is_answered, abandoned}
+use Rattle.gate_history.specs.client.Ends.{End, ByClient, ByLoss, at_once, is_waiting, own_end, ends}
 use Rattle.gate_history.specs.state.Flight.{wide_ids, ids_of, in_flight}
 use Rattle.gate_history.specs.state.State.{State, state_of, flying, next_ids, has_number}
 use Rattle.usb_base.specs.declared.transfer.StreamPacket.{StreamPacket}

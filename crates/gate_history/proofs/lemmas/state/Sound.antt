@@ -8,7 +8,8 @@ use Rattle.gate_history.specs.declared.item.Item.{Item}
 use Rattle.gate_history.specs.state.Ids.{times}
 use Rattle.gate_history.specs.client.Verdict.{goes_by_id}
 use Rattle.gate_history.specs.step.Marks.{Submission}
-use Rattle.gate_history.specs.client.Submits.{has_id, at_once, accepted, is_live, live, abandoned, pending}
+use Rattle.gate_history.specs.client.Submits.{accepted, is_live, live, abandoned, pending}
+use Rattle.gate_history.specs.client.Ends.{has_id, at_once}
 use Rattle.gate_history.specs.state.StreamIds.{stream_ids, ids_of_streams}
 use Rattle.gate_history.specs.state.Flight.{ids_of}
 use Rattle.gate_history.specs.state.State.{state_of, submits, is_number}

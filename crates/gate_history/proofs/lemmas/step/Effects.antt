@@ -12,7 +12,7 @@ use Rattle.usb_base.specs.Status.{is_success, errno_of}
 use Rattle.usbip_urb.specs.declared.client.ClientPacket.TheVariants.{Urb}
 use Rattle.usbip_urb.specs.declared.packet.UrbPacket.{UrbPacket}
 use Rattle.gate_history.specs.declared.note.Note.TheVariants as note
-use Rattle.gate_history.specs.write.Answers.{answers, answers_at, answers_by}
+use Rattle.gate_history.specs.client.Ends.{answers, answers_at, answers_by, End, at_once, ByAnswer, ByClient, ByLoss, ByStatus, ByUnlink, ends, has_id, is_waiting, own_end, packets_end, waits_at}
 use Rattle.gate_history.specs.host.Fillings.{Filling, Fill}
 use Rattle.gate_history.specs.step.Machine.{ask, live_after}
 use Rattle.gate_history.specs.step.Marks.{Submission, Effect, Answers, Arrives, Opens, StreamTold, Unlinks, Waits}
@@ -21,7 +21,7 @@ use Rattle.gate_history.specs.write.Notes.{answer_notes, is_by_answer, is_by_cli
 use Rattle.gate_history.specs.write.Output.{fresh, present, answered, to_client}
 use Rattle.gate_history.specs.state.Sides.{leaves, is_loss}
 use Rattle.gate_history.specs.state.State.{State}
-use Rattle.gate_history.specs.client.Submits.{Pending, End, at_once, ByAnswer, ByClient, ByLoss, ByStatus, ByUnlink, asks, ends, has_id, is_waiting, opened, own_end, packets_end, waits_at}
+use Rattle.gate_history.specs.client.Submits.{Pending, asks, opened}
 use Rattle.gate_history.proofs.lemmas.Lists.{Each, Each-weaker, every, filter-all, filter-same, filter-none, flat_map-same, flat_map-filter, flat_map-none}
 use Rattle.gate_history.proofs.lemmas.step.NoCancel.{asks-none}
 

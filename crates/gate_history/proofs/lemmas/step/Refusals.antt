@@ -29,7 +29,8 @@ use Rattle.gate_history.specs.declared.verdict.Verdict.{Verdict}
 use Rattle.gate_history.specs.declared.verdict.Verdict.TheVariants.{Now}
 use Rattle.gate_history.specs.step.Marks.{Submission, Effect, Idle, Mark}
 use Rattle.gate_history.specs.state.Sides.{refusal, refused_at, leaves, is_loss}
-use Rattle.gate_history.specs.client.Submits.{Pending, has_id, ends}
+use Rattle.gate_history.specs.client.Submits.{Pending}
+use Rattle.gate_history.specs.client.Ends.{has_id, ends}
 use Rattle.gate_history.specs.state.Ups.{stream_of}
 use Rattle.gate_history.specs.state.Flight.{wide_ids}
 use Rattle.gate_history.specs.state.State.{State, state_of, submits, has_number}

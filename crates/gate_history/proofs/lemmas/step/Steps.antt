@@ -5,7 +5,8 @@ use Rattle.std.specs.Prelude.{filter, is_none}
 use Rattle.std.proofs.lemmas.List.{map-append}
 use Rattle.std.proofs.lemmas.List.Elements.{filter-append}
 use Rattle.gate_history.specs.step.Marks.{Submission, Effect, Mark}
-use Rattle.gate_history.specs.client.Submits.{opened, accepted, ends, end_of, End, is_live, live, asks, unlinker, Pending, pending, abandoned_after}
+use Rattle.gate_history.specs.client.Submits.{opened, accepted, end_of, is_live, live, asks, unlinker, Pending, pending, abandoned_after}
+use Rattle.gate_history.specs.client.Ends.{ends, End}
 use Rattle.gate_history.specs.state.State.{state_of}
 use Rattle.gate_history.specs.write.Output.{fresh}
 use Rattle.gate_history.specs.step.Machine.{ask, live_after, after}

@@ -42,7 +42,8 @@ use Rattle.gate_history.specs.client.Requests.{request_of}
 use Rattle.gate_history.specs.host.Responses.{Response, response_of}
 use Rattle.gate_history.specs.state.Sides.{agrees, leaves}
 use Rattle.gate_history.specs.state.State.{State, flying, has_number, next_ids}
-use Rattle.gate_history.specs.client.Submits.{Pending, opened, ends}
+use Rattle.gate_history.specs.client.Submits.{Pending, opened}
+use Rattle.gate_history.specs.client.Ends.{ends}
 use Rattle.gate_history.specs.state.Ups.{Up, stream_at, stream_of, is_ended}
 use Rattle.gate_history.specs.declared.verdict.Verdict.{Verdict}
 use Rattle.gate_history.specs.declared.verdict.Verdict.TheVariants.{Now, Wire, Routed, IsoOut, Stream}

@@ -31,7 +31,8 @@ use Rattle.gate_history.specs.declared.verdict.Verdict.{Verdict}
 use Rattle.gate_history.specs.declared.verdict.Verdict.TheVariants.{Now, Wire, Routed, IsoOut, Stream}
 use Rattle.gate_history.specs.step.Marks.{Submission}
 use Rattle.gate_history.specs.host.Responses.{Response, Data, Status, route_answer, answer_kind, mismatched, mismatch, gets, got, told_outcome}
-use Rattle.gate_history.specs.write.Answers.{with_outcome, answers_by}
+use Rattle.gate_history.specs.write.Answers.{with_outcome}
+use Rattle.gate_history.specs.client.Ends.{answers_by}
 use Rattle.gate_history.specs.write.Asked.{IsMoved}
 use Rattle.gate_parts.specs.state.Rows.{IsRowOf, kind_of, row_of, row_request, IsRead, IsFine}
 use Rattle.gate_parts.specs.host.Responses.{row_answer, row_ep, row_gets, row_mismatch, IsAnswer, has_won, IsCounted}

@@ -18,7 +18,8 @@ use Rattle.gate_history.specs.declared.errno.TheConstants.{ECONNRESET, ESHUTDOWN
 use Rattle.gate_history.specs.declared.request.Request.{Request}
 use Rattle.gate_history.specs.client.Verdict.{is_wire}
 use Rattle.gate_history.specs.step.Marks.{Submission}
-use Rattle.gate_history.specs.write.Answers.{is_cancelled, ret_unlink, without_packets, with_outcome, answers_by, lost_answer}
+use Rattle.gate_history.specs.write.Answers.{ret_unlink, without_packets, with_outcome}
+use Rattle.gate_history.specs.client.Ends.{is_cancelled, answers_by, lost_answer}
 use Rattle.gate_parts.specs.state.Rows.{is_wire_row, IsRowOf, row_request}
 
 -- of a request an answer has these alone

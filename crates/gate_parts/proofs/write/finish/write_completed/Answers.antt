@@ -6,7 +6,7 @@ use Rattle.usbip_urb.specs.Spelling.{spelling}
 use Rattle.usb_base.specs.declared.transfer.Outcome.{Outcome}
 use Rattle.usbip_urb.specs.declared.client.ClientPacket.TheVariants.{Urb}
 use Rattle.unlink_race.specs.declared.live.Live.{Live}
-use Rattle.gate_history.specs.write.Answers.{answers_by}
+use Rattle.gate_history.specs.client.Ends.{answers_by}
 use Rattle.gate_history.specs.write.Asked.{IsMoved}
 use Rattle.gate_parts.specs.host.Responses.{response_view, row_gets, IsCounted, has_won}
 use Rattle.unlink_race.specs.Endings.{ending_of}

@@ -1,7 +1,7 @@
 use Rattle.std.proofs.Common.{◌≡◌, ◌∙◌, ◌+◌, ℕ, Bool, true, false, not, cond, map, refl, sym, ap, subst, arith}
 use Rattle.usbip_urb.specs.declared.client.ClientPacket.TheVariants.{Urb}
 use Rattle.gate_history.specs.host.Responses.{told_outcome}
-use Rattle.gate_history.specs.write.Answers.{answers_by}
+use Rattle.gate_history.specs.client.Ends.{answers_by}
 use mir.Val.{bool_byte}
 use Rattle.std.specs.Option.{option_copied}
 use Rattle.unlink_race.specs.Searches.{has_id}
