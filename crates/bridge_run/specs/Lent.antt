@@ -6,8 +6,8 @@ use Rattle.usb_base.specs.declared.side.Side.TheVariants.{Client}
 use Rattle.usb_base.specs.Endpoint.{in_endpoints, out_endpoints}
 use Rattle.usb_base.specs.declared.refusal.Refusal.{Refusal}
 use Rattle.model_device.specs.Meaning.{Meaning}
-use Rattle.redir_host.specs.declared.note.HostNote.{HostNote}
-use Rattle.redir_host.specs.declared.note.HostNote.TheVariants as note
+use Rattle.redir_host.specs.declared.write.note.HostNote.{HostNote}
+use Rattle.redir_host.specs.declared.write.note.HostNote.TheVariants as note
 use Rattle.redir_host.specs.step.Acts.{Act, Piece, Perform, Offer}
 use Rattle.redir_host.specs.write.Output.{host_out, act_notes}
 use Rattle.bridge_run.specs.Events.{LinkEvent, ClientComes, ClientQuiet, SidePiece}

@@ -7,8 +7,8 @@ use Rattle.redir_data.specs.declared.packet.RedirPacket.{RedirPacket}
 use Rattle.redir_data.specs.declared.packet.RedirPacket.TheVariants.{Carrying, Plain}
 use Rattle.model_device.specs.Transfer.{is_control}
 use Rattle.redir_host.specs.guest.Asking.{asking_of}
-use Rattle.redir_host.specs.declared.request.Asking.{Asking}
-use Rattle.redir_host.specs.declared.request.Asking.TheVariants.{Asks, Nothing, Refuses}
+use Rattle.redir_host.specs.declared.state.request.Asking.{Asking}
+use Rattle.redir_host.specs.declared.state.request.Asking.TheVariants.{Asks, Nothing, Refuses}
 use Rattle.gate_history.specs.client.Verdict.{changes}
 use Rattle.direct_device.specs.Direct.{normal_of}
 use Rattle.direct_proof.specs.Requests.{Entry}

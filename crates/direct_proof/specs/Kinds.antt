@@ -3,7 +3,7 @@ use Rattle.std.specs.Prelude.{◌≡◌, ℕ, ◌≤◌, ◌<◌, true, List, le
 use Rattle.usb_base.specs.Endpoint.{endpoint_index}
 use Rattle.usb_base.specs.declared.endpoint.EpKind.TheVariants as kind
 use Rattle.model_device.specs.Gadget.{IsNamed}
-use Rattle.redir_host.specs.declared.running.StreamKind.{StreamKind}
+use Rattle.redir_host.specs.declared.state.running.StreamKind.{StreamKind}
 use Rattle.gate_history.specs.state.Ups.{Up, stream_of}
 use Rattle.gate_history.specs.client.Verdict.{is_iso}
 use Rattle.direct_proof.specs.Loads.{IsComing}

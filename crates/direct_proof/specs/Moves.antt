@@ -10,10 +10,10 @@ use Rattle.redir_host.specs.step.Moves.{Move as HostMove}
 use Rattle.redir_host.specs.device.Offering.{offer_move, told_offered, unplug_move}
 use Rattle.redir_host.specs.guest.Packets.{packet_move}
 use Rattle.redir_host.specs.device.Performing.{perform_move_by, performed}
-use Rattle.redir_host.specs.declared.note.HostNote.{HostNote}
-use Rattle.redir_host.specs.declared.note.HostNote.TheVariants as host_note
-use Rattle.redir_host.specs.declared.note.Offered.{Offered}
-use Rattle.redir_host.specs.declared.note.Offered.TheVariants as offered
+use Rattle.redir_host.specs.declared.write.note.HostNote.{HostNote}
+use Rattle.redir_host.specs.declared.write.note.HostNote.TheVariants as host_note
+use Rattle.redir_host.specs.declared.write.note.Offered.{Offered}
+use Rattle.redir_host.specs.declared.write.note.Offered.TheVariants as offered
 use Rattle.gate_history.specs.declared.item.Item.{Item as GateItem}
 use Rattle.gate_history.specs.declared.item.Item.TheVariants.{Told}
 use Rattle.gate_history.specs.step.Machine.{after}

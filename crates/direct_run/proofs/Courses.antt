@@ -1,7 +1,7 @@
 -- Bytes to packets: each list of steps has a list of moves that follows it.
 use Rattle.std.proofs.Common.{ℕ, List, [], ◌∷◌, ◌++◌, refl, sym, ap, ◌∙◌, append-nil}
 use Rattle.model_device.specs.Meaning.{Meaning}
-use Rattle.redir_host.specs.declared.host.Host.{Host}
+use Rattle.redir_host.specs.declared.state.host.Host.{Host}
 use Rattle.redir_host.specs.step.Acts.{Perform as PerformAct, Offer as OfferAct, Unplug as UnplugAct}
 use Rattle.redir_host.specs.device.Offering.{offer_move, told_offered, unplug_move}
 use Rattle.redir_host.specs.write.Output.{host_of}

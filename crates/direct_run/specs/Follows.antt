@@ -8,8 +8,8 @@ use Rattle.gate_history.specs.write.Output.{to_client}
 use Rattle.gate_history.specs.state.State.{state_of}
 use Rattle.gate_history.specs.client.Submits.{accepted}
 use Rattle.model_device.specs.Meaning.{Meaning}
-use Rattle.redir_host.specs.declared.note.HostNote.{HostNote}
-use Rattle.redir_host.specs.declared.note.HostNote.TheVariants as host_note
+use Rattle.redir_host.specs.declared.write.note.HostNote.{HostNote}
+use Rattle.redir_host.specs.declared.write.note.HostNote.TheVariants as host_note
 use Rattle.redir_host.specs.step.History.{history as host_history}
 use Rattle.redir_host.specs.step.Machine.{all_given, notes_of as host_notes_of}
 use Rattle.redir_host.specs.write.Output.{first_packet, host_of}

@@ -16,7 +16,7 @@ use Rattle.gate_history.specs.write.Notes.{notes_of}
 use Rattle.gate_history.specs.write.Bytes.{gateway_hello}
 use Rattle.gate_history.specs.step.Machine.{after, start as first_state}
 use Rattle.model_device.specs.Meaning.{Meaning}
-use Rattle.redir_host.specs.declared.host.Host.{Host}
+use Rattle.redir_host.specs.declared.state.host.Host.{Host}
 use Rattle.redir_host.specs.step.Machine.{first_host}
 use Rattle.redir_host.specs.step.Moves.{Move as HostMove}
 use Rattle.redir_host.specs.device.Offering.{offer_move, told_offered, unplug_move}

@@ -3,12 +3,12 @@ use Rattle.std.specs.Prelude.{ℕ, ◌==◌, if◌then◌else◌, List, [], ◌�
 use Rattle.std.specs.Option.{option_map_or}
 use Rattle.gate_history.specs.declared.note.Note.{Note}
 use Rattle.gate_history.specs.declared.note.Note.TheVariants as note
-use Rattle.redir_host.specs.declared.note.HostNote.{HostNote}
-use Rattle.redir_host.specs.declared.note.HostNote.TheVariants as host_note
-use Rattle.redir_host.specs.declared.note.Performed.{Performed}
-use Rattle.redir_host.specs.declared.note.Performed.TheVariants.{Done}
-use Rattle.redir_host.specs.declared.note.Offered.{Offered}
-use Rattle.redir_host.specs.declared.note.Offered.TheVariants as offered
+use Rattle.redir_host.specs.declared.write.note.HostNote.{HostNote}
+use Rattle.redir_host.specs.declared.write.note.HostNote.TheVariants as host_note
+use Rattle.redir_host.specs.declared.write.note.Performed.{Performed}
+use Rattle.redir_host.specs.declared.write.note.Performed.TheVariants.{Done}
+use Rattle.redir_host.specs.declared.write.note.Offered.{Offered}
+use Rattle.redir_host.specs.declared.write.note.Offered.TheVariants as offered
 use Rattle.direct_run.specs.declared.item.Item.{Item}
 use Rattle.direct_run.specs.declared.item.Item.TheVariants as item
 use Rattle.direct_run.specs.declared.submitted.Submitted.{Submitted}

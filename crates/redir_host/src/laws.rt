@@ -5,7 +5,7 @@ ghost use Rattle.std.specs.List.{AllByRecursion};
 ghost use Rattle.usb_base.specs.Number.{AreBytes};
 ghost use Rattle.redir_wire.specs.declared.packet.Header.{Header};
 ghost use Rattle.redir_data.specs.declared.packet.RedirPacket.{RedirPacket};
-ghost use Rattle.redir_host.specs.declared.host.Host.{Host};
+ghost use Rattle.redir_host.specs.declared.state.host.Host.{Host};
 ghost use Rattle.redir_host.specs.step.Acts.{Act, Perform, Offer, Unplug, guest_bytes};
 ghost use Rattle.redir_host.specs.guest.Guest.{guest_items};
 ghost use Rattle.redir_host.specs.step.Answered.{IsKnown, IsSublist, answer_of, answered, answers_sent, dropped, ids_of, is_gone, is_in_queue_of, is_placed, line, performed_of, requests, requests_of, statuses_sent, stream_ids, told_placed, told_request, waiting};

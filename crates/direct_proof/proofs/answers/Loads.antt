@@ -12,7 +12,7 @@ use Rattle.chapter9.specs.Standard.{ended}
 use Rattle.model_device.specs.Meaning.{Meaning}
 use Rattle.model_device.specs.Submit.{byte_seen}
 use Rattle.model_device.specs.Gadget.{IsNamed}
-use Rattle.redir_host.specs.declared.host.Host.{Host}
+use Rattle.redir_host.specs.declared.state.host.Host.{Host}
 use Rattle.redir_host.specs.write.Answers.{answer_by, alt_in}
 use Rattle.redir_host.specs.device.Performing.{does, performs_any}
 use Rattle.gate_history.specs.declared.request.Request.{Request}

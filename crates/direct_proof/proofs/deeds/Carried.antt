@@ -2,10 +2,10 @@
 use Rattle.std.proofs.Common.{◌≡◌, ℕ, ◌&&◌, not, Bool, true, false, List, [], ◌∷◌, ◌++◌, map, filter, Option, Some, None, refl, ap, ◌∙◌, append-nil}
 use Rattle.std.specs.List.{flat_map}
 use Rattle.std.proofs.lemmas.Grind.{flat_map-append}
-use Rattle.redir_host.specs.declared.note.HostNote.{HostNote}
-use Rattle.redir_host.specs.declared.note.HostNote.TheVariants as host_note
-use Rattle.redir_host.specs.declared.note.Offered.{Offered}
-use Rattle.redir_host.specs.declared.note.Offered.TheVariants as offered
+use Rattle.redir_host.specs.declared.write.note.HostNote.{HostNote}
+use Rattle.redir_host.specs.declared.write.note.HostNote.TheVariants as host_note
+use Rattle.redir_host.specs.declared.write.note.Offered.{Offered}
+use Rattle.redir_host.specs.declared.write.note.Offered.TheVariants as offered
 use Rattle.redir_host.specs.step.Moves.{Move}
 use Rattle.redir_host.specs.device.Performing.{told_performed_by}
 use Rattle.gate_history.specs.declared.request.Request.{Request}

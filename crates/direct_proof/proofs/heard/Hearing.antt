@@ -6,8 +6,8 @@ use Rattle.redir_data.specs.declared.packet.RedirData.{RedirData}
 use Rattle.redir_data.specs.declared.packet.RedirData.TheVariants as moving
 use Rattle.redir_data.specs.declared.packet.RedirPacket.TheVariants.{Carrying}
 use Rattle.model_device.specs.Transfer.{IsTransfer, is_control}
-use Rattle.redir_host.specs.declared.request.Asking.TheVariants.{Nothing, Asks}
-use Rattle.redir_host.specs.declared.request.Form.TheVariants as form
+use Rattle.redir_host.specs.declared.state.request.Asking.TheVariants.{Nothing, Asks}
+use Rattle.redir_host.specs.declared.state.request.Form.TheVariants as form
 use Rattle.redir_host.specs.guest.Asking.{asking_of, asked_if, is_other, greatest}
 use Rattle.gate_history.specs.declared.verdict.Pipe.{Pipe}
 use Rattle.gate_history.specs.declared.verdict.Pipe.TheVariants.{Control, Bulk, InterruptOut}

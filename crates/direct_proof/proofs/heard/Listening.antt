@@ -5,9 +5,9 @@ use Rattle.usb_base.specs.declared.transfer.Transfer.{Transfer}
 use Rattle.redir_data.specs.declared.packet.RedirPacket.{RedirPacket}
 use Rattle.redir_data.specs.Streams.{advanced}
 use Rattle.model_device.specs.Meaning.{Meaning}
-use Rattle.redir_host.specs.declared.host.Host.{Host}
-use Rattle.redir_host.specs.declared.request.Request.{Request as HostRequest}
-use Rattle.redir_host.specs.declared.request.Form.{Form}
+use Rattle.redir_host.specs.declared.state.host.Host.{Host}
+use Rattle.redir_host.specs.declared.state.request.Request.{Request as HostRequest}
+use Rattle.redir_host.specs.declared.state.request.Form.{Form}
 use Rattle.redir_host.specs.guest.Line.{Waiting as InLine, Waits}
 use Rattle.redir_host.specs.step.Moves.{quiet as host_quiet}
 use Rattle.redir_host.specs.guest.Packets.{packet_move_by, joins}

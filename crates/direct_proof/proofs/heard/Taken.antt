@@ -4,7 +4,7 @@ use Rattle.std.specs.List.{find, list_any, AllByRecursion as Each}
 use Rattle.usb_base.specs.declared.transfer.Outcome.{Outcome}
 use Rattle.control_route.specs.declared.route.Route.TheVariants as route
 use Rattle.model_device.specs.Meaning.{Meaning}
-use Rattle.redir_host.specs.declared.request.Request.{Request as HostRequest}
+use Rattle.redir_host.specs.declared.state.request.Request.{Request as HostRequest}
 use Rattle.redir_host.specs.state.Queues.{is_data, is_cancelled_by as is_taken_by, after_cancel, leaves_mark, with_first_marked, is_first_queue}
 use Rattle.gate_history.specs.declared.request.Request.{Request}
 use Rattle.gate_history.specs.declared.verdict.Pipe.TheVariants.{Control, Bulk, InterruptOut}

@@ -8,10 +8,10 @@ use Rattle.redir_wire.specs.declared.packet.RedirControl.TheVariants as plain
 use Rattle.redir_data.specs.declared.packet.RedirPacket.{RedirPacket}
 use Rattle.redir_data.specs.declared.packet.RedirPacket.TheVariants.{Plain}
 use Rattle.model_device.specs.Meaning.{Meaning}
-use Rattle.redir_host.specs.declared.request.Request.{Request as HostRequest}
+use Rattle.redir_host.specs.declared.state.request.Request.{Request as HostRequest}
 use Rattle.redir_host.specs.state.Queues.{is_cancelled_by as is_taken_by, after_cancel, leaves_mark}
 use Rattle.chapter9.specs.Standard.{ended}
-use Rattle.redir_host.specs.declared.note.HostNote.TheVariants as host_note
+use Rattle.redir_host.specs.declared.write.note.HostNote.TheVariants as host_note
 use Rattle.redir_host.specs.guest.Packets.{cancel_move, packet_move_by}
 use Rattle.redir_host.specs.step.Moves.{quiet as host_quiet}
 use Rattle.redir_host.proofs.lemmas.state.Each.{each_front}

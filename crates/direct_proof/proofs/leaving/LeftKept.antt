@@ -28,7 +28,7 @@ use Rattle.direct_proof.proofs.streams.changes.Stops.{StopsOne, stops-in, stops-
 use Rattle.direct_proof.proofs.leaving.Left.{leave_ids, leave_stops, left_world, left_made}
 use Rattle.direct_proof.proofs.leaving.LeftWire.{IsStopping, each-stop, every_up, none-stopped, last-stop, left-controls, left-fenced, left-quits, left-trails, none-up}
 use Rattle.direct_proof.proofs.leaving.LeftLists.{asked_all, asked-fits, no-starts, by_id, debts-again, kinds-none, starts-down, tagged-none}
-use Rattle.redir_host.specs.declared.request.Request.{Request as HostRequest}
+use Rattle.redir_host.specs.declared.state.request.Request.{Request as HostRequest}
 use Rattle.std.specs.List.{last_or, AllByRecursion as Each}
 use Rattle.gate_history.specs.state.StreamIds.{stream_ids_after}
 use Rattle.gate_history.specs.step.Marks.{Submission}

@@ -3,8 +3,8 @@ use Rattle.std.proofs.Common.{◌≡◌, ℕ, ◌||◌, Bool, true, false, cond,
 use Rattle.std.specs.List.{list_any, AllByRecursion as Each}
 use Rattle.redir_data.specs.declared.packet.RedirPacket.{RedirPacket}
 use Rattle.model_device.specs.Meaning.{Meaning}
-use Rattle.redir_host.specs.declared.host.Host.{Host}
-use Rattle.redir_host.specs.declared.running.Running.{Running}
+use Rattle.redir_host.specs.declared.state.host.Host.{Host}
+use Rattle.redir_host.specs.declared.state.running.Running.{Running}
 use Rattle.redir_host.specs.step.Moves.{quiet as host_quiet}
 use Rattle.redir_host.specs.guest.Packets.{greets, runs_at}
 use Rattle.gate_history.proofs.lemmas.Lists.{Each-append}

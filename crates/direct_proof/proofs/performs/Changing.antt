@@ -10,9 +10,9 @@ use Rattle.control_route.specs.Changes.{is_change as is_route_change}
 use Rattle.model_device.specs.Meaning.{Meaning}
 use Rattle.model_device.specs.Gadget.{IsGadget, IsNamed}
 use Rattle.model_device.specs.Transfer.{IsOutcome, is_control}
-use Rattle.redir_host.specs.declared.host.Host.{Host}
-use Rattle.redir_host.specs.declared.request.Request.{Request as HostRequest}
-use Rattle.redir_host.specs.declared.running.Running.{Running}
+use Rattle.redir_host.specs.declared.state.host.Host.{Host}
+use Rattle.redir_host.specs.declared.state.request.Request.{Request as HostRequest}
+use Rattle.redir_host.specs.declared.state.running.Running.{Running}
 use Rattle.usb_base.specs.Firsts.{without_first}
 use Rattle.redir_host.specs.state.Queues.{queue_of, is_at}
 use Rattle.redir_host.specs.device.Performing.{performs_any, does, with_id}

@@ -5,9 +5,9 @@ use Rattle.usb_base.specs.declared.endpoint.EpTable.{EpTable}
 use Rattle.redir_data.specs.declared.packet.RedirPacket.{RedirPacket}
 use Rattle.control_route.specs.declared.route.Route.{Route}
 use Rattle.model_device.specs.Meaning.{Meaning}
-use Rattle.redir_host.specs.declared.host.Host.{Host}
-use Rattle.redir_host.specs.declared.request.Request.{Request as HostRequest}
-use Rattle.redir_host.specs.declared.running.Running.{Running}
+use Rattle.redir_host.specs.declared.state.host.Host.{Host}
+use Rattle.redir_host.specs.declared.state.request.Request.{Request as HostRequest}
+use Rattle.redir_host.specs.declared.state.running.Running.{Running}
 use Rattle.redir_host.specs.device.Changes.{is_touched, touched, stays, runs_on, changed}
 use Rattle.redir_host.specs.write.Answers.{answer, cancelled as cancel_answer}
 use Rattle.redir_host.specs.device.Facts.{facts_of}

@@ -5,7 +5,7 @@ use Rattle.usb_base.specs.declared.transfer.Outcome.{Outcome}
 use Rattle.control_route.specs.declared.route.Route.{Route}
 use Rattle.model_device.specs.Meaning.{Meaning}
 use Rattle.model_device.specs.Gadget.{IsGadget}
-use Rattle.redir_host.specs.declared.request.Request.{Request as HostRequest}
+use Rattle.redir_host.specs.declared.state.request.Request.{Request as HostRequest}
 use Rattle.usb_base.specs.Firsts.{without_first}
 use Rattle.redir_host.specs.state.Queues.{queue_of, is_at}
 use Rattle.redir_host.specs.device.Performing.{first_performed, performs_any, does, with_id}

@@ -14,7 +14,7 @@ use Rattle.model_device.specs.Meaning.{Meaning}
 use Rattle.model_device.specs.Gadget.{IsGadget, SameFacts, IsNamed}
 use Rattle.model_device.specs.Transfer.{IsOutcome, asks_change}
 use Rattle.redir_host.specs.guest.Asking.{routed}
-use Rattle.redir_host.specs.declared.request.Request.{Request as HostRequest}
+use Rattle.redir_host.specs.declared.state.request.Request.{Request as HostRequest}
 use Rattle.usb_base.specs.Firsts.{without_first}
 use Rattle.redir_host.specs.state.Queues.{queue_of, is_at}
 use Rattle.redir_host.specs.device.Performing.{performed, first_performed, performs_any, does, with_id}

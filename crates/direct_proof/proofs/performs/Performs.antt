@@ -7,8 +7,8 @@ use Rattle.usb_base.specs.declared.transfer.Outcome.{Outcome}
 use Rattle.control_route.specs.declared.route.Route.{Route}
 use Rattle.control_route.specs.declared.route.Route.TheVariants as route
 use Rattle.model_device.specs.Meaning.{Meaning}
-use Rattle.redir_host.specs.declared.host.Host.{Host}
-use Rattle.redir_host.specs.declared.request.Request.{Request as HostRequest}
+use Rattle.redir_host.specs.declared.state.host.Host.{Host}
+use Rattle.redir_host.specs.declared.state.request.Request.{Request as HostRequest}
 use Rattle.usb_base.specs.Firsts.{without_first}
 use Rattle.redir_host.specs.state.Queues.{queue_of, is_at}
 use Rattle.redir_host.specs.device.Performing.{does, performs_any, first_performed, with_id}

@@ -5,7 +5,7 @@ use Rattle.gate_history.specs.declared.facts.Facts.{Facts}
 use Rattle.gate_history.specs.state.Facts.{tell}
 use Rattle.gate_history.specs.step.Meaning.{fact_of}
 use Rattle.model_device.specs.Meaning.{Meaning}
-use Rattle.redir_host.specs.declared.host.Host.{Host}
+use Rattle.redir_host.specs.declared.state.host.Host.{Host}
 use Rattle.direct_run.specs.Moves.{World}
 use Rattle.direct_proof.specs.Meets.{is_bye, is_greeting}
 use Rattle.direct_proof.specs.Related.{Farewell}

@@ -3,7 +3,7 @@ use Rattle.std.proofs.Common.{◌≡◌, ℕ, ◌+◌, ◌≤◌, ◌||◌, Bool
 use Rattle.std.specs.List.{list_any, AllByRecursion as Each}
 use Rattle.usb_base.specs.declared.endpoint.EpTable.{EpTable}
 use Rattle.redir_data.specs.declared.packet.RedirPacket.{RedirPacket}
-use Rattle.redir_host.specs.declared.running.StreamKind.{StreamKind}
+use Rattle.redir_host.specs.declared.state.running.StreamKind.{StreamKind}
 use Rattle.gate_history.proofs.lemmas.Lists.{Each-append}
 use Rattle.gate_history.specs.state.Ids.{times}
 use Rattle.gate_history.specs.state.StreamIds.{StreamIds}

@@ -3,10 +3,10 @@ use Rattle.std.proofs.Common.{◌≡◌, ℕ, ◌&&◌, not, Bool, true, false, 
 use Rattle.std.specs.List.{flat_map, AllByRecursion as Each}
 use Rattle.usbip_urb.specs.declared.packet.UrbPacket.{UrbPacket}
 use Rattle.model_device.specs.Meaning.{Meaning}
-use Rattle.redir_host.specs.declared.note.HostNote.{HostNote}
-use Rattle.redir_host.specs.declared.note.HostNote.TheVariants as host_note
-use Rattle.redir_host.specs.declared.note.Offered.{Offered}
-use Rattle.redir_host.specs.declared.note.Offered.TheVariants as offered
+use Rattle.redir_host.specs.declared.write.note.HostNote.{HostNote}
+use Rattle.redir_host.specs.declared.write.note.HostNote.TheVariants as host_note
+use Rattle.redir_host.specs.declared.write.note.Offered.{Offered}
+use Rattle.redir_host.specs.declared.write.note.Offered.TheVariants as offered
 use Rattle.redir_host.specs.step.Moves.{Move as HostMove}
 use Rattle.gate_history.proofs.lemmas.Lists.{Each-append}
 use Rattle.gate_history.specs.step.Marks.{Submission, Effect, Imports, Unlinks, Arrives, Mark}

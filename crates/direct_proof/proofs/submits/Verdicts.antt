@@ -9,7 +9,7 @@ use Rattle.usb_base.specs.Endpoint.{row_of, endpoint_index}
 use Rattle.redir_wire.specs.EpTable.{table_of}
 use Rattle.model_device.specs.Meaning.{Meaning}
 use Rattle.redir_host.specs.device.Facts.{ep_info_of}
-use Rattle.redir_host.specs.declared.running.StreamKind.TheVariants.{Iso, Interrupt}
+use Rattle.redir_host.specs.declared.state.running.StreamKind.TheVariants.{Iso, Interrupt}
 use Rattle.gate_history.specs.declared.request.Request.{Request}
 use Rattle.gate_history.specs.declared.verdict.Verdict.{Verdict}
 use Rattle.gate_history.specs.declared.verdict.Verdict.TheVariants.{Now}

@@ -8,7 +8,7 @@ use Rattle.usbip_urb.specs.declared.packet.UrbPacket.TheVariants as urb
 use Rattle.usbip_urb.specs.declared.client.ClientPacket.TheVariants.{Urb}
 use Rattle.redir_data.specs.declared.packet.RedirPacket.{RedirPacket}
 use Rattle.model_device.specs.Meaning.{Meaning}
-use Rattle.redir_host.specs.declared.request.Request.{Request as HostRequest}
+use Rattle.redir_host.specs.declared.state.request.Request.{Request as HostRequest}
 use Rattle.redir_host.specs.guest.Line.{Waiting as InLine}
 use Rattle.gate_history.specs.declared.item.Item.TheVariants.{Asked}
 use Rattle.gate_history.specs.step.Marks.{Submission, Mark}

@@ -3,7 +3,7 @@ use Rattle.std.specs.Prelude.{◌≡◌, List, ℕ, Option, Some, None}
 use Rattle.usb_base.specs.declared.transfer.Outcome.{Outcome}
 use Rattle.control_route.specs.declared.route.Route.TheVariants as route
 use Rattle.model_device.specs.Meaning.{Meaning}
-use Rattle.redir_host.specs.declared.host.Host.{Host}
+use Rattle.redir_host.specs.declared.state.host.Host.{Host}
 use Rattle.redir_host.specs.guest.Asking.{routed}
 use Rattle.redir_host.specs.step.Makes.{Tells}
 use Rattle.redir_host.specs.step.Moves.{Move}

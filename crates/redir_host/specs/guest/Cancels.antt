@@ -1,8 +1,8 @@
 -- What a cancel takes out of the queues, for the contract of the one who takes it.
 use Rattle.std.specs.Prelude.{◌≡◌, ℕ, List, Option, Some, None}
 use Rattle.std.specs.List.{find}
-use Rattle.redir_host.specs.declared.queue.Cancelled.{Cancelled}
-use Rattle.redir_host.specs.declared.request.Request.{Request}
+use Rattle.redir_host.specs.declared.state.queue.Cancelled.{Cancelled}
+use Rattle.redir_host.specs.declared.state.request.Request.{Request}
 use Rattle.redir_host.specs.state.Queues.{is_cancelled_by, after_cancel, leaves_mark}
 
 pub record CancelsOne (c : Cancelled) (id : ℕ) (old new : List Request) : Type 0 where

@@ -15,16 +15,16 @@ use Rattle.control_route.specs.declared.route.Route.TheVariants as route
 use Rattle.chapter9.specs.Standard.{ended}
 use Rattle.model_device.specs.Meaning.{Meaning}
 use Rattle.model_device.specs.Transfer.{is_control}
-use Rattle.redir_host.specs.declared.host.Host.{Host}
-use Rattle.redir_host.specs.declared.note.HostNote.TheVariants as note
-use Rattle.redir_host.specs.declared.request.Asking.{Asking}
-use Rattle.redir_host.specs.declared.request.Asking.TheVariants.{Nothing, Refuses, Asks}
-use Rattle.redir_host.specs.declared.request.Form.{Form}
-use Rattle.redir_host.specs.declared.request.Form.TheVariants as form
-use Rattle.redir_host.specs.declared.request.Request.{Request}
-use Rattle.redir_host.specs.declared.running.Running.{Running}
-use Rattle.redir_host.specs.declared.running.StreamKind.{StreamKind}
-use Rattle.redir_host.specs.declared.running.StreamKind.TheVariants.{Iso, Interrupt}
+use Rattle.redir_host.specs.declared.state.host.Host.{Host}
+use Rattle.redir_host.specs.declared.write.note.HostNote.TheVariants as note
+use Rattle.redir_host.specs.declared.state.request.Asking.{Asking}
+use Rattle.redir_host.specs.declared.state.request.Asking.TheVariants.{Nothing, Refuses, Asks}
+use Rattle.redir_host.specs.declared.state.request.Form.{Form}
+use Rattle.redir_host.specs.declared.state.request.Form.TheVariants as form
+use Rattle.redir_host.specs.declared.state.request.Request.{Request}
+use Rattle.redir_host.specs.declared.state.running.Running.{Running}
+use Rattle.redir_host.specs.declared.state.running.StreamKind.{StreamKind}
+use Rattle.redir_host.specs.declared.state.running.StreamKind.TheVariants.{Iso, Interrupt}
 use Rattle.redir_host.specs.state.Queues.{is_cancelled_by, after_cancel, leaves_mark}
 use Rattle.redir_host.specs.device.Facts.{connect_of, facts_of}
 use Rattle.redir_host.specs.guest.Asking.{asking_of, routed}

@@ -1,7 +1,7 @@
 -- The requests of a slab, in the order of keys beside it.
 use Rattle.std.specs.Prelude.{ℕ, List, [], ◌∷◌, Option, Some, None}
 use Rattle.slab.specs.Slab.{Slab, get}
-use Rattle.redir_host.specs.declared.request.Request.{Request}
+use Rattle.redir_host.specs.declared.state.request.Request.{Request}
 
 -- the requests of these keys, each under its number
 abbrev pub under : ℕ → Option Request → List (ℕ × Request) → List (ℕ × Request)

@@ -5,7 +5,7 @@ use Rattle.usb_base.specs.declared.reason.Reason.{Reason}
 use Rattle.redir_wire.specs.declared.packet.Header.{Header}
 use Rattle.redir_data.specs.declared.packet.RedirPacket.{RedirPacket}
 use Rattle.model_device.specs.Meaning.{Meaning}
-use Rattle.redir_host.specs.declared.taker.GuestTaker.{GuestTaker}
+use Rattle.redir_host.specs.declared.step.taker.GuestTaker.{GuestTaker}
 use Rattle.redir_host.specs.guest.Takings.{TakesFound}
 
 -- it borrows the same

@@ -1,6 +1,6 @@
 -- A host core's own struct as what it keeps.
 use Rattle.std.specs.Prelude.{is_some}
-use Rattle.redir_host.specs.declared.inner.Inner.{Inner}
+use Rattle.redir_host.specs.declared.step.inner.Inner.{Inner}
 use Rattle.redir_host.specs.state.Kept.{HostKept}
 
 -- without its allocator

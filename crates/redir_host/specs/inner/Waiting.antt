@@ -7,8 +7,8 @@ use Rattle.std.specs.Ordering.{nat_cmp}
 use Rattle.slab.specs.Slab.{Slab, get, ContainsKey}
 use Rattle.usb_base.specs.Endpoint.{IsEndpoint, endpoint_index}
 use Rattle.usb_base.specs.declared.endpoint.TheConstants.{ENDPOINTS}
-use Rattle.redir_host.specs.declared.request.Request.{Request}
-use Rattle.redir_host.specs.declared.waiting.Waiting.{Waiting}
+use Rattle.redir_host.specs.declared.state.request.Request.{Request}
+use Rattle.redir_host.specs.declared.state.waiting.Waiting.{Waiting}
 use Rattle.redir_host.specs.inner.Requests.{requests_of}
 use Rattle.redir_host.specs.state.Queues.{queue_of, is_at, marked}
 

@@ -2,7 +2,7 @@
 use Rattle.std.specs.Prelude.{Bool}
 use Rattle.packet_stream.specs.Streams.{StreamView as Stream}
 use Rattle.redir_data.specs.declared.state.RedirState.{RedirState}
-use Rattle.redir_host.specs.declared.host.Host.{Host}
+use Rattle.redir_host.specs.declared.state.host.Host.{Host}
 
 pub record HostKept (S : Type 0) : Type 0 where
   -- the guest's bytes that are no whole packet yet

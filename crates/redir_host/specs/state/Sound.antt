@@ -14,12 +14,12 @@ use Rattle.redir_data.specs.declared.state.RedirState.{RedirState}
 use Rattle.redir_data.specs.Ranges.{BulkLengthFits}
 use Rattle.redir_data.specs.Written as carrying
 use Rattle.model_device.specs.Transfer.{IsTransfer, is_control}
-use Rattle.redir_host.specs.declared.host.Host.{Host}
+use Rattle.redir_host.specs.declared.state.host.Host.{Host}
 use Rattle.redir_host.specs.guest.Asking.{greatest}
-use Rattle.redir_host.specs.declared.request.Form.{Form}
-use Rattle.redir_host.specs.declared.request.Form.TheVariants as form
-use Rattle.redir_host.specs.declared.request.Request.{Request}
-use Rattle.redir_host.specs.declared.running.Running.{Running}
+use Rattle.redir_host.specs.declared.state.request.Form.{Form}
+use Rattle.redir_host.specs.declared.state.request.Form.TheVariants as form
+use Rattle.redir_host.specs.declared.state.request.Request.{Request}
+use Rattle.redir_host.specs.declared.state.running.Running.{Running}
 
 -- the guest can be told this packet
 abbrev pub CanTell : Caps → ℕ → RedirPacket → Type 0

@@ -15,12 +15,12 @@ use Rattle.redir_data.specs.declared.packet.RedirPacket.TheVariants.{Plain, Carr
 use Rattle.control_route.specs.declared.route.Route.{Route}
 use Rattle.control_route.specs.declared.route.Route.TheVariants as route
 use Rattle.model_device.specs.Meaning.{Meaning}
-use Rattle.redir_host.specs.declared.host.Host.{Host}
-use Rattle.redir_host.specs.declared.request.Asking.{Asking}
-use Rattle.redir_host.specs.declared.request.Asking.TheVariants.{Nothing, Refuses, Asks}
-use Rattle.redir_host.specs.declared.request.Form.{Form}
-use Rattle.redir_host.specs.declared.request.Form.TheVariants as form
-use Rattle.redir_host.specs.declared.request.Request.{Request}
+use Rattle.redir_host.specs.declared.state.host.Host.{Host}
+use Rattle.redir_host.specs.declared.state.request.Asking.{Asking}
+use Rattle.redir_host.specs.declared.state.request.Asking.TheVariants.{Nothing, Refuses, Asks}
+use Rattle.redir_host.specs.declared.state.request.Form.{Form}
+use Rattle.redir_host.specs.declared.state.request.Form.TheVariants as form
+use Rattle.redir_host.specs.declared.state.request.Request.{Request}
 use Rattle.redir_host.specs.device.Changes.{is_touched}
 use Rattle.redir_host.specs.guest.Asking.{asking, asking_of, routed}
 use Rattle.redir_host.specs.guest.Line.{Placed, Waiting, all_changes, asked_line, flushed_in, placed, plain_line, stays_in, waiting_in, without_cancelled, without_performed}

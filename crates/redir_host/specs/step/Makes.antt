@@ -17,13 +17,13 @@ use Rattle.redir_data.specs.Ranges.{BulkLengthFits}
 use Rattle.redir_data.specs.Spelling.{data_count}
 use Rattle.redir_data.specs.Streams.{stream_format}
 use Rattle.control_route.specs.declared.route.Route.{Route}
-use Rattle.redir_host.specs.declared.host.Host.{Host}
+use Rattle.redir_host.specs.declared.state.host.Host.{Host}
 use Rattle.redir_host.specs.guest.Asking.{greatest}
-use Rattle.redir_host.specs.declared.note.HostNote.{HostNote}
-use Rattle.redir_host.specs.declared.note.Performed.{Performed}
-use Rattle.redir_host.specs.declared.request.Form.{Form}
-use Rattle.redir_host.specs.declared.request.Form.TheVariants as form
-use Rattle.redir_host.specs.declared.request.Request.{Request}
+use Rattle.redir_host.specs.declared.write.note.HostNote.{HostNote}
+use Rattle.redir_host.specs.declared.write.note.Performed.{Performed}
+use Rattle.redir_host.specs.declared.state.request.Form.{Form}
+use Rattle.redir_host.specs.declared.state.request.Form.TheVariants as form
+use Rattle.redir_host.specs.declared.state.request.Request.{Request}
 use Rattle.redir_host.specs.write.Answers.{cancelled}
 use Rattle.redir_host.specs.device.Changes.{touched}
 use Rattle.redir_host.specs.step.Machine.{told_bytes, bytes_of}

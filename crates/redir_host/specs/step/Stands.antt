@@ -10,8 +10,8 @@ use Rattle.redir_data.specs.declared.state.RedirState.{RedirState}
 use Rattle.redir_data.specs.Streams.{start, after}
 use Rattle.model_device.specs.Meaning.{Meaning}
 use Rattle.redir_host.specs.state.Kept.{HostKept}
-use Rattle.redir_host.specs.declared.host.Host.{Host}
-use Rattle.redir_host.specs.declared.note.HostNote.{HostNote}
+use Rattle.redir_host.specs.declared.state.host.Host.{Host}
+use Rattle.redir_host.specs.declared.write.note.HostNote.{HostNote}
 use Rattle.redir_host.specs.step.Acts.{Act, Piece, guest_bytes}
 use Rattle.redir_host.specs.guest.Guest.{guest_split}
 use Rattle.redir_host.specs.step.History.{brought, history}

@@ -5,7 +5,7 @@ use Rattle.redir_wire.specs.Plain.{takes_memory as plain_takes_memory}
 use Rattle.redir_data.specs.Carrying.{has_data}
 use Rattle.redir_data.specs.declared.packet.RedirPacket.TheVariants.{Plain, Carrying}
 use Rattle.model_device.specs.Meaning.{Meaning}
-use Rattle.redir_host.specs.declared.host.Host.{Host}
+use Rattle.redir_host.specs.declared.state.host.Host.{Host}
 use Rattle.redir_host.specs.guest.Guest.{guest_split}
 use Rattle.redir_host.specs.step.Acts.{Act, Piece, guest_bytes}
 use Rattle.redir_host.specs.step.Items.{Item, Asked}

@@ -6,8 +6,8 @@ use Rattle.redir_wire.specs.Capability.{announced, hello_of, no_caps}
 use Rattle.redir_data.specs.declared.packet.RedirPacket.{RedirPacket}
 use Rattle.redir_data.specs.declared.packet.RedirPacket.TheVariants.{Plain}
 use Rattle.model_device.specs.Meaning.{Meaning}
-use Rattle.redir_host.specs.declared.host.Host.{Host}
-use Rattle.redir_host.specs.declared.note.HostNote.{HostNote}
+use Rattle.redir_host.specs.declared.state.host.Host.{Host}
+use Rattle.redir_host.specs.declared.write.note.HostNote.{HostNote}
 use Rattle.redir_host.specs.step.Acts.{Act}
 use Rattle.redir_host.specs.step.History.{brought, history}
 use Rattle.redir_host.specs.step.Machine.{run, told_bytes, bytes_of, notes_of, all_given, given_by}

@@ -7,8 +7,8 @@ use Rattle.usb_base.specs.declared.side.Side.TheVariants.{Client}
 use Rattle.usb_base.specs.declared.refusal.Refusal.{Refusal}
 use Rattle.model_device.specs.Meaning.{Meaning}
 use Rattle.redir_host.specs.state.Kept.{HostKept as Core}
-use Rattle.redir_host.specs.declared.note.HostNote.{HostNote}
-use Rattle.redir_host.specs.declared.note.HostNote.TheVariants as note
+use Rattle.redir_host.specs.declared.write.note.HostNote.{HostNote}
+use Rattle.redir_host.specs.declared.write.note.HostNote.TheVariants as note
 use Rattle.redir_host.specs.step.Acts.{Act, Piece}
 use Rattle.redir_host.specs.write.Output.{host_out, act_bytes, act_notes}
 use Rattle.redir_host.specs.step.Stands.{HostStands, DoesAct, TakesAct}

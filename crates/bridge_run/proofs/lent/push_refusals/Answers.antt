@@ -1,7 +1,7 @@
 use Rattle.std.proofs.Common.{List, ◌∷◌, ◌+◌, ◌∙◌, [], drop, refl, sym, ap}
 use Rattle.std.specs.List.{flat_map}
 use Rattle.std.proofs.lemmas.List.{drop_more}
-use Rattle.redir_host.specs.declared.note.HostNote.{HostNote}
+use Rattle.redir_host.specs.declared.write.note.HostNote.{HostNote}
 use Rattle.bridge_run.specs.Lent.{refusal_in}
 use Rattle.bridge_run.specs.Recorded.{has_any}
 use Rattle.bridge_run.proofs.lemmas.events.Any.{any-made-at}

@@ -3,10 +3,10 @@ use Rattle.std.proofs.Common.{◌≡◌, ℕ, true, false, cond, [], ◌∷◌, 
 use Rattle.std.specs.List.{find}
 use Rattle.usb_base.specs.declared.transfer.StreamPacket.{StreamPacket}
 use Rattle.model_device.specs.Meaning.{Meaning}
-use Rattle.redir_host.specs.declared.running.Running.{Running}
+use Rattle.redir_host.specs.declared.state.running.Running.{Running}
 use Rattle.redir_host.specs.step.Moves.{quiet as host_quiet}
 use Rattle.redir_host.specs.device.Offering.{offered_on, offered_by as host_offers, told_offered_by, stream_packet}
-use Rattle.redir_host.specs.declared.note.Offered.TheVariants as offered
+use Rattle.redir_host.specs.declared.write.note.Offered.TheVariants as offered
 use Rattle.redir_host.specs.guest.Packets.{runs_at}
 use Rattle.direct_device.specs.Acting.{Offer}
 use Rattle.direct_run.specs.Moves.{World, Offers}

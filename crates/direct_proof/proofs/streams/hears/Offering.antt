@@ -8,7 +8,7 @@ use Rattle.redir_wire.specs.EpTable.{table_of}
 use Rattle.redir_data.specs.declared.packet.RedirPacket.{RedirPacket}
 use Rattle.model_device.specs.Meaning.{Meaning}
 use Rattle.model_device.specs.Gadget.{IsGadget, IsNamed, SameFacts}
-use Rattle.redir_host.specs.declared.running.Running.{Running}
+use Rattle.redir_host.specs.declared.state.running.Running.{Running}
 use Rattle.redir_host.specs.device.Facts.{ep_info_of}
 use Rattle.redir_host.specs.device.Offering.{stream_packet}
 use Rattle.redir_host.specs.guest.Packets.{runs_at}

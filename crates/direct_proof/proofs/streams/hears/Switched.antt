@@ -20,7 +20,7 @@ use Rattle.direct_proof.proofs.streams.hears.Switching.{HostSwitches, host-switc
 use Rattle.direct_proof.proofs.streams.hears.SwitchedFence.{switched_world, switched-moved, unheard-moved, unfenced, stays-clean, fenced-switched}
 use Rattle.std.specs.List.{list_any, AllByRecursion as Each}
 use Rattle.redir_data.specs.Streams.{advanced}
-use Rattle.redir_host.specs.declared.running.Running.{Running}
+use Rattle.redir_host.specs.declared.state.running.Running.{Running}
 use Rattle.redir_host.specs.guest.Packets.{runs_at}
 use Rattle.gate_history.specs.state.Ids.{times}
 use Rattle.gate_history.specs.state.Ups.{stream_of}

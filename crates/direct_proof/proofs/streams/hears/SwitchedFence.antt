@@ -3,7 +3,7 @@ use Rattle.std.proofs.Common.{◌≡◌, ℕ, ◌+◌, ◌≤◌, ◌==◌, ◌&
 use Rattle.redir_data.specs.declared.packet.RedirPacket.{RedirPacket}
 use Rattle.redir_data.specs.Streams.{advanced}
 use Rattle.model_device.specs.Meaning.{Meaning}
-use Rattle.redir_host.specs.declared.running.Running.{Running}
+use Rattle.redir_host.specs.declared.state.running.Running.{Running}
 use Rattle.redir_host.specs.step.Moves.{quiet as host_quiet}
 use Rattle.redir_host.specs.guest.Packets.{packet_move_by}
 use Rattle.gate_history.specs.state.Ids.{times}

@@ -3,7 +3,7 @@ use Rattle.std.proofs.Common.{◌≡◌, ℕ, suc, ◌⊎◌, inl, inr, Bool, tr
 use Rattle.usb_base.specs.declared.transfer.StreamPacket.{StreamPacket}
 use Rattle.stream_buffers.specs.Held.{is_full}
 use Rattle.usbip_urb.specs.declared.client.ClientPacket.TheVariants.{Urb}
-use Rattle.redir_host.specs.declared.running.StreamKind.{StreamKind}
+use Rattle.redir_host.specs.declared.state.running.StreamKind.{StreamKind}
 use Rattle.model_device.specs.Meaning.{Meaning}
 use Rattle.gate_history.specs.host.Fillings.{Fill}
 use Rattle.gate_history.specs.state.Sound.{IsSound}

@@ -10,8 +10,8 @@ use Rattle.stream_buffers.specs.Held.{is_full}
 use Rattle.usbip_urb.specs.declared.client.ClientPacket.TheVariants.{Urb}
 use Rattle.usbip_urb.specs.declared.packet.UrbPacket.{UrbPacket}
 use Rattle.redir_data.specs.declared.packet.RedirPacket.{RedirPacket}
-use Rattle.redir_host.specs.declared.running.StreamKind.{StreamKind}
-use Rattle.redir_host.specs.declared.running.StreamKind.TheVariants.{Iso, Interrupt}
+use Rattle.redir_host.specs.declared.state.running.StreamKind.{StreamKind}
+use Rattle.redir_host.specs.declared.state.running.StreamKind.TheVariants.{Iso, Interrupt}
 use Rattle.gate_history.specs.declared.request.Request.{Request}
 use Rattle.gate_history.specs.declared.item.Item.TheVariants.{Told}
 use Rattle.gate_history.specs.host.Fillings.{Fill, Filling, fill, none_filled, given_to}

@@ -1,7 +1,7 @@
 -- A wire without packets of a stream that is down, and a stream that stays up.
 use Rattle.std.proofs.Common.{◌≡◌, ℕ, ◌==◌, ◌&&◌, Bool, true, false, cond, List, [], ◌∷◌, ◌++◌, refl, sym, ap, ◌∙◌, arith}
 use Rattle.std.specs.List.{list_any, AllByRecursion as Each}
-use Rattle.redir_host.specs.declared.running.Running.{Running}
+use Rattle.redir_host.specs.declared.state.running.Running.{Running}
 use Rattle.redir_host.specs.guest.Packets.{runs_at}
 use Rattle.model_device.specs.Meaning.{Meaning}
 use Rattle.direct_run.specs.Moves.{World}

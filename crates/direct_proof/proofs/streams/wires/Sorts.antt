@@ -4,8 +4,8 @@ use Rattle.std.specs.List.{list_any}
 use Rattle.redir_wire.specs.declared.packet.RedirControl.TheVariants as plain
 use Rattle.redir_data.specs.declared.packet.RedirPacket.{RedirPacket}
 use Rattle.redir_data.specs.declared.packet.RedirPacket.TheVariants.{Plain, Carrying}
-use Rattle.redir_host.specs.declared.request.Form.{Form}
-use Rattle.redir_host.specs.declared.request.Form.TheVariants as form
+use Rattle.redir_host.specs.declared.state.request.Form.{Form}
+use Rattle.redir_host.specs.declared.state.request.Form.TheVariants as form
 use Rattle.redir_host.specs.guest.Line.{Waiting as InLine, Reset, Waits}
 use Rattle.direct_proof.specs.Shared.{in_line}
 use Rattle.direct_proof.specs.Stale.{asks, is_fence}

@@ -8,8 +8,8 @@ use Rattle.usb_base.specs.Endpoint.{endpoint_index}
 use Rattle.usb_base.specs.declared.endpoint.EpRow.{EpRow}
 use Rattle.usb_base.specs.declared.transfer.StreamPacket.{StreamPacket}
 use Rattle.redir_data.specs.declared.packet.RedirPacket.{RedirPacket}
-use Rattle.redir_host.specs.declared.running.Running.{Running}
-use Rattle.redir_host.specs.declared.running.StreamKind.{StreamKind}
+use Rattle.redir_host.specs.declared.state.running.Running.{Running}
+use Rattle.redir_host.specs.declared.state.running.StreamKind.{StreamKind}
 use Rattle.gate_history.specs.state.Ups.{Up, stream_at, stream_of, hold}
 use Rattle.gate_history.specs.client.Verdict.{is_iso}
 use Rattle.direct_proof.specs.Tagged.{Tagged, Answered, Packed, Stated, is_kind}

@@ -1,5 +1,5 @@
 use Rattle.std.proofs.Common.{[], List, ◌++◌, ap}
-use Rattle.redir_host.specs.declared.note.HostNote.{HostNote}
+use Rattle.redir_host.specs.declared.write.note.HostNote.{HostNote}
 use Rattle.redir_host.specs.write.Output.{host_of}
 use Rattle.redir_host.proofs.lemmas.device.Silent.{perform-silent, offer-silent, unplug-silent}
 use Rattle.redir_host.proofs.laws.only_bytes_are_noted.Goals as goal

@@ -8,8 +8,8 @@ use Rattle.control_route.specs.Changes.{touches}
 use Rattle.control_route.specs.declared.route.Route.{Route}
 use Rattle.model_device.specs.Transfer.{is_control}
 use Rattle.usb_base.specs.Endpoint.{row_of}
-use Rattle.redir_host.specs.declared.request.Form.{Form}
-use Rattle.redir_host.specs.declared.request.Request.{Request}
+use Rattle.redir_host.specs.declared.state.request.Form.{Form}
+use Rattle.redir_host.specs.declared.state.request.Request.{Request}
 use Rattle.redir_host.specs.device.Changes.{is_touched, stays}
 use Rattle.redir_host.specs.guest.Line.{Waiting, Reset, Waits, queue_in, reset_in, without_cancelled, without_performed, stays_in}
 use Rattle.redir_host.specs.guest.Packets.{request}

@@ -24,10 +24,10 @@ use Rattle.redir_data.specs.Streams.{start, after, stream_format}
 use Rattle.redir_data.specs.sound.Joined.{stream_sound}
 use Rattle.model_device.specs.Gadget.{IsGadget}
 use Rattle.model_device.specs.Meaning.{Meaning}
-use Rattle.redir_host.specs.declared.host.Host.{Host}
+use Rattle.redir_host.specs.declared.state.host.Host.{Host}
 use Rattle.redir_host.specs.state.Kept.{HostKept}
-use Rattle.redir_host.specs.declared.note.HostNote.{HostNote}
-use Rattle.redir_host.specs.declared.taker.GuestTaker.{GuestTaker}
+use Rattle.redir_host.specs.declared.write.note.HostNote.{HostNote}
+use Rattle.redir_host.specs.declared.step.taker.GuestTaker.{GuestTaker}
 use Rattle.redir_host.specs.step.Acts.{Act}
 use Rattle.redir_host.specs.guest.Guest.{guest_reader, guest_start, guest_split, guest_items, asked, wrongs, added}
 use Rattle.redir_host.specs.step.History.{brought, history}

@@ -25,13 +25,13 @@ use Rattle.redir_data.specs.Streams.{advanced}
 use Rattle.control_route.specs.declared.route.Route.TheVariants as route
 use Rattle.model_device.specs.Meaning.{Meaning}
 use Rattle.model_device.specs.Transfer.{IsTransfer, is_control}
-use Rattle.redir_host.specs.declared.host.Host.{Host}
-use Rattle.redir_host.specs.declared.request.Asking.TheVariants.{Nothing}
-use Rattle.redir_host.specs.declared.request.Form.{Form}
-use Rattle.redir_host.specs.declared.request.Form.TheVariants as form
-use Rattle.redir_host.specs.declared.request.Request.{Request}
-use Rattle.redir_host.specs.declared.running.StreamKind.{StreamKind}
-use Rattle.redir_host.specs.declared.running.StreamKind.TheVariants.{Iso, Interrupt}
+use Rattle.redir_host.specs.declared.state.host.Host.{Host}
+use Rattle.redir_host.specs.declared.state.request.Asking.TheVariants.{Nothing}
+use Rattle.redir_host.specs.declared.state.request.Form.{Form}
+use Rattle.redir_host.specs.declared.state.request.Form.TheVariants as form
+use Rattle.redir_host.specs.declared.state.request.Request.{Request}
+use Rattle.redir_host.specs.declared.state.running.StreamKind.{StreamKind}
+use Rattle.redir_host.specs.declared.state.running.StreamKind.TheVariants.{Iso, Interrupt}
 use Rattle.redir_host.specs.guest.Asking.{greatest, is_other, asked_if, asking_of, routed}
 use Rattle.redir_host.specs.step.Makes.{IsTaken}
 use Rattle.redir_host.specs.step.Moves.{Move, quiet}

@@ -6,7 +6,7 @@ use Rattle.std.specs.Map.{values_of, remove_entry}
 use Rattle.std.specs.Option.{option_map}
 use Rattle.std.proofs.lemmas.Bool.{cases_Bool, eqb-true, le-leb, leb-true}
 use Rattle.model_device.specs.Transfer.{is_control}
-use Rattle.redir_host.specs.declared.request.Request.{Request}
+use Rattle.redir_host.specs.declared.state.request.Request.{Request}
 use Rattle.redir_host.specs.guest.Cancels.{CancelsOne}
 use Rattle.redir_host.specs.inner.Waiting.{is_from, marked_from}
 use Rattle.redir_host.specs.state.Queues.{after_cancel, is_cancelled_by, is_first_queue, leaves_mark, marked, queue_of, with_first_marked}

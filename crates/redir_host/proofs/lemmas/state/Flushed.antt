@@ -6,8 +6,8 @@ use Rattle.std.specs.Ordering.{nat_cmp}
 use Rattle.std.proofs.lemmas.Map.Entries.{option_filter}
 use Rattle.slab.specs.Slab.{Slab, get, RetainsFrom}
 use Rattle.usb_base.specs.declared.endpoint.TheConstants.{ENDPOINTS}
-use Rattle.redir_host.specs.declared.request.Request.{Request}
-use Rattle.redir_host.specs.declared.waiting.Waiting.{Waiting}
+use Rattle.redir_host.specs.declared.state.request.Request.{Request}
+use Rattle.redir_host.specs.declared.state.waiting.Waiting.{Waiting}
 use Rattle.redir_host.specs.inner.Requests.{requests_of, under}
 use Rattle.redir_host.specs.inner.Waiting.{Differ, IsIndexed, if_there, is_key_of, is_listed, numbered, place_of}
 use Rattle.redir_host.specs.state.Queues.{is_at}

@@ -5,7 +5,7 @@ use Rattle.std.specs.List.{find, AllByRecursion as Each}
 use Rattle.std.specs.Map.{keys_of, values_of, lookup, remove_entry, set_value}
 use Rattle.std.specs.Option.{option_map}
 use Rattle.slab.specs.Slab.{Slab, get, ContainsKey, Updates}
-use Rattle.redir_host.specs.declared.request.Request.{Request}
+use Rattle.redir_host.specs.declared.state.request.Request.{Request}
 use Rattle.redir_host.specs.inner.Requests.{under, requests_of}
 use Rattle.redir_host.specs.inner.Waiting.{Differ, if_there, is_key_of}
 use Rattle.redir_host.proofs.lemmas.state.Each.{each_appended}

@@ -2,7 +2,7 @@
 use Rattle.std.proofs.Common.{◌≡◌, ◌||◌, ℕ, Bool, true, false, cond, is_some, List, [], ◌∷◌, Some, None, refl, ap, subst, ◌∙◌, arith}
 use Rattle.std.specs.List.{find, list_any}
 use Rattle.std.specs.Map.{set_value}
-use Rattle.redir_host.specs.declared.request.Request.{Request}
+use Rattle.redir_host.specs.declared.state.request.Request.{Request}
 use Rattle.redir_host.specs.inner.Waiting.{is_from, marked_from}
 use Rattle.redir_host.specs.state.Queues.{marked}
 use Rattle.redir_host.proofs.lemmas.state.Numbered.{Sorted, apart, at, at_itself, found_above, head_above, tail_sorted}

@@ -10,7 +10,7 @@ use Rattle.std.specs.Ordering.{nat_cmp, is_eq, match_ordering, MatchOrdering}
 use Rattle.std.specs.declared.cmp.Ordering.TheVariants.{Less, Greater}
 use Rattle.std.proofs.lemmas.Cmp.{ranked, by_ranked, tied_itself, nat_cmp_total}
 use Rattle.std.proofs.lemmas.Map.Keys.{sorted_head, sorted_tail}
-use Rattle.redir_host.specs.declared.request.Request.{Request}
+use Rattle.redir_host.specs.declared.state.request.Request.{Request}
 use Rattle.usb_base.specs.Firsts.{without_first}
 
 -- ---- numbers, compared

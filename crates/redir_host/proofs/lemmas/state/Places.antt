@@ -6,7 +6,7 @@ use Rattle.std.proofs.lemmas.List.{get_or_default, get_or_past, get_or-set_other
 use Rattle.std.proofs.lemmas.List.Elements.{filter-append, filter_agree}
 use Rattle.slab.specs.Slab.{Slab, get}
 use Rattle.usb_base.specs.Endpoint.{IsEndpoint, endpoint_index}
-use Rattle.redir_host.specs.declared.request.Request.{Request}
+use Rattle.redir_host.specs.declared.state.request.Request.{Request}
 use Rattle.redir_host.specs.inner.Waiting.{if_there, is_key_of, keys_at, place_of}
 use Rattle.redir_host.specs.state.Queues.{is_at, queue_of}
 use Rattle.redir_host.proofs.lemmas.state.Keyed.{Same, same_keys}

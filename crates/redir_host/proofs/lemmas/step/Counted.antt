@@ -13,10 +13,10 @@ use Rattle.redir_data.specs.declared.packet.RedirPacket.{RedirPacket}
 use Rattle.redir_data.specs.declared.packet.RedirPacket.TheVariants.{Plain, Carrying}
 use Rattle.control_route.specs.declared.route.Route.{Route}
 use Rattle.model_device.specs.Meaning.{Meaning}
-use Rattle.redir_host.specs.declared.host.Host.{Host}
-use Rattle.redir_host.specs.declared.request.Asking.{Asking}
-use Rattle.redir_host.specs.declared.request.Asking.TheVariants.{Nothing, Refuses, Asks}
-use Rattle.redir_host.specs.declared.request.Request.{Request}
+use Rattle.redir_host.specs.declared.state.host.Host.{Host}
+use Rattle.redir_host.specs.declared.state.request.Asking.{Asking}
+use Rattle.redir_host.specs.declared.state.request.Asking.TheVariants.{Nothing, Refuses, Asks}
+use Rattle.redir_host.specs.declared.state.request.Request.{Request}
 use Rattle.redir_host.specs.guest.Asking.{asking, asking_of, asking_plain}
 use Rattle.redir_host.specs.guest.Line.{Placed, Waiting, placed, plain_line, asked_line, waiting_in, without_performed, stays_in, flushed_in, all_changes}
 use Rattle.usb_base.specs.Firsts.{without_first}

@@ -9,8 +9,8 @@ use Rattle.control_route.specs.Routes.{route_of}
 use Rattle.model_device.specs.Device.{meaning_of, first_state}
 use Rattle.model_device.specs.Keyboard.{keyboard}
 use Rattle.model_device.specs.Loopback.{loopback}
-use Rattle.redir_host.specs.declared.note.HostNote.{HostNote}
-use Rattle.redir_host.specs.declared.note.HostNote.TheVariants.{Cancelled, Refused}
+use Rattle.redir_host.specs.declared.write.note.HostNote.{HostNote}
+use Rattle.redir_host.specs.declared.write.note.HostNote.TheVariants.{Cancelled, Refused}
 use Rattle.redir_host.specs.device.Facts.{column}
 use Rattle.redir_host.specs.step.Acts.{Act, Piece, Perform, Offer, Unplug}
 use Rattle.redir_host.specs.write.Output.{host_out, act_bytes, act_notes}

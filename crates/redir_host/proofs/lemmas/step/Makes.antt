@@ -16,12 +16,12 @@ use Rattle.control_route.specs.declared.route.Route.TheVariants as route
 use Rattle.model_device.specs.Gadget.{IsGadget}
 use Rattle.model_device.specs.Meaning.{Meaning, given_in, state_in}
 use Rattle.model_device.specs.Transfer.{IsTransfer, IsOutcome}
-use Rattle.redir_host.specs.declared.host.Host.{Host}
-use Rattle.redir_host.specs.declared.note.Performed.{Performed}
-use Rattle.redir_host.specs.declared.note.Performed.TheVariants.{Done, NotReady}
-use Rattle.redir_host.specs.declared.request.Form.{Form}
-use Rattle.redir_host.specs.declared.request.Form.TheVariants as form
-use Rattle.redir_host.specs.declared.request.Request.{Request}
+use Rattle.redir_host.specs.declared.state.host.Host.{Host}
+use Rattle.redir_host.specs.declared.write.note.Performed.{Performed}
+use Rattle.redir_host.specs.declared.write.note.Performed.TheVariants.{Done, NotReady}
+use Rattle.redir_host.specs.declared.state.request.Form.{Form}
+use Rattle.redir_host.specs.declared.state.request.Form.TheVariants as form
+use Rattle.redir_host.specs.declared.state.request.Request.{Request}
 use Rattle.chapter9.specs.Standard.{ended}
 use Rattle.redir_host.specs.write.Answers.{answer, answer_by, cancelled}
 use Rattle.redir_host.specs.device.Changes.{change_of, cleared, changed, runs_on, stays, touched}

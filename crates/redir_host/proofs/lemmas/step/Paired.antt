@@ -8,10 +8,10 @@ use Rattle.usb_base.specs.declared.status.UsbStatus.TheVariants as status
 use Rattle.usb_base.specs.declared.transfer.Outcome.{Outcome}
 use Rattle.redir_data.specs.declared.packet.RedirPacket.{RedirPacket}
 use Rattle.control_route.specs.declared.route.Route.{Route}
-use Rattle.redir_host.specs.declared.host.Host.{Host}
-use Rattle.redir_host.specs.declared.request.Form.{Form}
-use Rattle.redir_host.specs.declared.request.Request.{Request}
-use Rattle.redir_host.specs.declared.running.Running.{Running}
+use Rattle.redir_host.specs.declared.state.host.Host.{Host}
+use Rattle.redir_host.specs.declared.state.request.Form.{Form}
+use Rattle.redir_host.specs.declared.state.request.Request.{Request}
+use Rattle.redir_host.specs.declared.state.running.Running.{Running}
 use Rattle.redir_host.specs.device.Changes.{is_touched, touched}
 use Rattle.redir_host.specs.guest.Line.{Placed, Waiting, queue_in, reset_in, waiting_in}
 use Rattle.usb_base.specs.Firsts.{without_first}

@@ -16,7 +16,7 @@ use Rattle.redir_data.specs.Streams.{start, after, stream_format}
 use Rattle.redir_data.specs.sound.Joined.{stream_sound}
 use Rattle.model_device.specs.Gadget.{IsGadget}
 use Rattle.model_device.specs.Meaning.{Meaning}
-use Rattle.redir_host.specs.declared.host.Host.{Host}
+use Rattle.redir_host.specs.declared.state.host.Host.{Host}
 use Rattle.redir_host.specs.state.Kept.{HostKept}
 use Rattle.redir_host.specs.step.Acts.{Act, Perform, Offer, Unplug, guest_bytes}
 use Rattle.redir_host.specs.guest.Guest.{guest_reader, guest_start, guest_split}

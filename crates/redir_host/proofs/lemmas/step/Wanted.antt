@@ -14,12 +14,12 @@ use Rattle.control_route.specs.declared.route.Route.TheVariants as route
 use Rattle.model_device.specs.Gadget.{IsGadget}
 use Rattle.model_device.specs.Meaning.{Meaning}
 use Rattle.model_device.specs.Transfer.{is_control}
-use Rattle.redir_host.specs.declared.host.Host.{Host}
-use Rattle.redir_host.specs.declared.request.Form.{Form}
-use Rattle.redir_host.specs.declared.request.Form.TheVariants as form
-use Rattle.redir_host.specs.declared.request.Request.{Request}
-use Rattle.redir_host.specs.declared.running.Running.{Running}
-use Rattle.redir_host.specs.declared.running.StreamKind.{StreamKind}
+use Rattle.redir_host.specs.declared.state.host.Host.{Host}
+use Rattle.redir_host.specs.declared.state.request.Form.{Form}
+use Rattle.redir_host.specs.declared.state.request.Form.TheVariants as form
+use Rattle.redir_host.specs.declared.state.request.Request.{Request}
+use Rattle.redir_host.specs.declared.state.running.Running.{Running}
+use Rattle.redir_host.specs.declared.state.running.StreamKind.{StreamKind}
 use Rattle.redir_host.specs.device.Changes.{change_of, changed}
 use Rattle.redir_host.specs.device.Offering.{offer_move, offered_by, offered_on, unplug_move}
 use Rattle.redir_host.specs.device.Performing.{does, done_by, first_performed, perform_move, perform_move_by, performed, performs, performs_any, performs_marked, resets, with_id}

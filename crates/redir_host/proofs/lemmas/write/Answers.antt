@@ -13,9 +13,9 @@ use Rattle.redir_data.specs.declared.state.RedirState.{RedirState}
 use Rattle.redir_data.specs.Ranges.{BulkLengthFits}
 use Rattle.redir_data.specs.Spelling.{data_count}
 use Rattle.model_device.specs.Transfer.{IsOutcome}
-use Rattle.redir_host.specs.declared.request.Form.{Form}
-use Rattle.redir_host.specs.declared.request.Form.TheVariants as form
-use Rattle.redir_host.specs.declared.request.Request.{Request}
+use Rattle.redir_host.specs.declared.state.request.Form.{Form}
+use Rattle.redir_host.specs.declared.state.request.Form.TheVariants as form
+use Rattle.redir_host.specs.declared.state.request.Request.{Request}
 use Rattle.chapter9.specs.Standard.{ended}
 use Rattle.redir_host.specs.write.Answers.{answer_by}
 use Rattle.redir_host.specs.step.Makes.{AnswerFits, LengthFits}

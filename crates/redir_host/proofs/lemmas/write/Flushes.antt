@@ -5,7 +5,7 @@ use Rattle.std.proofs.lemmas.List.{append-nil}
 use Rattle.usb_base.specs.declared.endpoint.EpTable.{EpTable}
 use Rattle.redir_wire.specs.declared.packet.Caps.{Caps}
 use Rattle.control_route.specs.declared.route.Route.{Route}
-use Rattle.redir_host.specs.declared.request.Request.{Request}
+use Rattle.redir_host.specs.declared.state.request.Request.{Request}
 use Rattle.redir_host.specs.write.Answers.{cancelled}
 use Rattle.redir_host.specs.device.Changes.{touched}
 use Rattle.redir_host.specs.step.Machine.{told_bytes}

@@ -1,0 +1,5 @@
+//! What the device does, and is.
+
+pub mod change;
+pub mod facts;
+pub mod perform;

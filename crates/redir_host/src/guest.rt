@@ -1,0 +1,5 @@
+//! What the guest asks for.
+
+pub mod asking;
+pub mod routed;
+pub mod take;
