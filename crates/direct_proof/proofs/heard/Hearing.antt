@@ -8,7 +8,8 @@ use Rattle.redir_data.specs.declared.packet.RedirPacket.TheVariants.{Carrying}
 use Rattle.model_device.specs.Transfer.{IsTransfer, is_control}
 use Rattle.redir_host.specs.declared.state.request.Asking.TheVariants.{Nothing, Asks}
 use Rattle.redir_host.specs.declared.state.request.Form.TheVariants as form
-use Rattle.redir_host.specs.guest.Asking.{asking_of, asked_if, is_other, greatest}
+use Rattle.redir_host.specs.declared.guest.asking.TheConstants.{MAX_TRANSFER}
+use Rattle.redir_host.specs.guest.Asking.{asking_of, asked_if, is_other}
 use Rattle.gate_history.specs.declared.verdict.Pipe.{Pipe}
 use Rattle.gate_history.specs.declared.verdict.Pipe.TheVariants.{Control, Bulk, InterruptOut}
 use Rattle.gate_history.specs.write.Packets.{wire_packet, no_setup}
@@ -25,7 +26,7 @@ other-endpoint t is other = and-true (nat_lt (t.ep % 128) 16) (not (is_control t
     low : (n : ℕ) → n < 16 → nat_lt n 16 ≡ true
     low n h = grind (arith, h)
 
-few : (n : ℕ) → n ≤ 16777216 → nat_le n greatest ≡ true
+few : (n : ℕ) → n ≤ 16777216 → nat_le n MAX_TRANSFER ≡ true
 few n h = grind (arith, h)
 
 -- the packet asks just the transfer
@@ -53,7 +54,7 @@ heard-as Control t is fits d packet = go t.setup refl fits
         asked n = record { ep = t.ep; setup = Some (told n); wanted = n; body = t.body }
 heard-as Bulk t is fits d packet =
     ap asking_of (same (sym packet))
-    ∙ ap (λ (b : Bool). asked_if b (form.Bulk 0) (record { ep = t.ep; setup = None; wanted = t.wanted; body = t.body })) (and-true (is_other t.ep) (nat_le t.wanted greatest) (other-endpoint t is fits.1) (few t.wanted fits.2))
+    ∙ ap (λ (b : Bool). asked_if b (form.Bulk 0) (record { ep = t.ep; setup = None; wanted = t.wanted; body = t.body })) (and-true (is_other t.ep) (nat_le t.wanted MAX_TRANSFER) (other-endpoint t is fits.1) (few t.wanted fits.2))
     ∙ (λ i. Asks (form.Bulk 0) (record t { setup = sym fits.0 i }))
   where
     same : Carrying d ≡ Carrying (moving.Bulk t.ep 0 t.wanted 0 t.body) → d ≡ moving.Bulk t.ep 0 t.wanted 0 t.body

@@ -13,14 +13,11 @@ use Rattle.control_route.specs.declared.route.Route.{Route}
 use Rattle.control_route.specs.declared.route.Route.TheVariants as route
 use Rattle.model_device.specs.Transfer.{is_control}
 use Rattle.model_device.specs.Submit.{control_transfer, setup_of}
+use Rattle.redir_host.specs.declared.guest.asking.TheConstants.{MAX_TRANSFER}
 use Rattle.redir_host.specs.declared.state.request.Asking.{Asking}
 use Rattle.redir_host.specs.declared.state.request.Asking.TheVariants.{Nothing, Refuses, Asks}
 use Rattle.redir_host.specs.declared.state.request.Form.{Form}
 use Rattle.redir_host.specs.declared.state.request.Form.TheVariants as form
-
--- the largest transfer, of 16 MiB
-abbrev pub greatest : ℕ
-greatest = 16777216
 
 -- an address of an endpoint other than 0
 abbrev pub is_other : ℕ → Bool
@@ -35,7 +32,7 @@ asking_of (moving.Control ep request kind status value index told body) =
     let setup : Setup = record { kind = kind; request = request; value = value; index = index; length = told } in
     asked_if (ep == (if nat_lt kind 128 then 0 else 128)) (form.Control setup) (record { ep = ep; setup = Some setup; wanted = told; body = body })
 asking_of (moving.Bulk ep status told stream body) =
-    asked_if (is_other ep && nat_le told greatest) (form.Bulk stream) (record { ep = ep; setup = None; wanted = told; body = body })
+    asked_if (is_other ep && nat_le told MAX_TRANSFER) (form.Bulk stream) (record { ep = ep; setup = None; wanted = told; body = body })
 asking_of (moving.Iso ep status told body) = Nothing
 asking_of (moving.Interrupt ep status told body) =
     if is_in_endpoint ep then Nothing

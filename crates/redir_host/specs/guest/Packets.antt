@@ -5,7 +5,9 @@ use Rattle.usb_base.specs.Endpoint.{is_in_endpoint, row_of}
 use Rattle.usb_base.specs.declared.endpoint.EpKind.{EpKind}
 use Rattle.usb_base.specs.declared.endpoint.EpKind.TheVariants as kind
 use Rattle.usb_base.specs.declared.endpoint.EpTable.{EpTable}
-use Rattle.usb_base.specs.declared.status.UsbStatus.TheVariants.{Inval}
+use Rattle.usb_base.specs.declared.status.UsbStatus.{UsbStatus}
+use Rattle.usb_base.specs.declared.status.UsbStatus.TheVariants.{Success, Inval}
+use Rattle.usb_base.specs.Status.{status_byte}
 use Rattle.usb_base.specs.declared.transfer.Transfer.{Transfer}
 use Rattle.redir_wire.specs.declared.packet.RedirControl.TheVariants as plain
 use Rattle.redir_data.specs.declared.packet.RedirPacket.{RedirPacket}
@@ -77,19 +79,19 @@ stopped ep running = filter (λ s. not (runs_at ep s)) running
 abbrev pub started : StreamKind → ℕ → List Running → List Running
 started k ep running = stopped ep running ++ record { ep = ep; kind = k } ∷ []
 
--- 0 is success, 2 inval
-abbrev pub status_of : StreamKind → ℕ → ℕ → RedirPacket
-status_of Iso status ep = Plain (plain.IsoStatus status ep)
-status_of Interrupt status ep = Plain (plain.InterruptStatus status ep)
+-- how a start or a stop went
+abbrev pub status_of : StreamKind → UsbStatus → ℕ → RedirPacket
+status_of Iso status ep = Plain (plain.IsoStatus (status_byte status) ep)
+status_of Interrupt status ep = Plain (plain.InterruptStatus (status_byte status) ep)
 
 abbrev pub start_move : {S : Type 0} → Bool → Host S → ℕ → StreamKind → ℕ → Move S
 start_move can h id k ep =
-    if can then replies (record h { running = started k ep h.running }) (id, status_of k 0 ep)
-    else replies h (id, status_of k 2 ep)
+    if can then replies (record h { running = started k ep h.running }) (id, status_of k Success ep)
+    else replies h (id, status_of k Inval ep)
 
 -- a stop of either type ends the endpoint's stream
 abbrev pub stop_move : {S : Type 0} → Host S → ℕ → StreamKind → ℕ → Move S
-stop_move h id k ep = replies (record h { running = stopped ep h.running }) (id, status_of k 0 ep)
+stop_move h id k ep = replies (record h { running = stopped ep h.running }) (id, status_of k Success ep)
 
 -- ---- all packets
 

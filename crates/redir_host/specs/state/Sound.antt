@@ -15,7 +15,7 @@ use Rattle.redir_data.specs.Ranges.{BulkLengthFits}
 use Rattle.redir_data.specs.Written as carrying
 use Rattle.model_device.specs.Transfer.{IsTransfer, is_control}
 use Rattle.redir_host.specs.declared.state.host.Host.{Host}
-use Rattle.redir_host.specs.guest.Asking.{greatest}
+use Rattle.redir_host.specs.declared.guest.asking.TheConstants.{MAX_TRANSFER}
 use Rattle.redir_host.specs.declared.state.request.Form.{Form}
 use Rattle.redir_host.specs.declared.state.request.Form.TheVariants as form
 use Rattle.redir_host.specs.declared.state.request.Request.{Request}
@@ -34,7 +34,7 @@ DoneFits _ done = Unit {0}
 
 -- and so has that of its packet
 abbrev pub WantedFits : Caps → Form → ℕ → Type 0
-WantedFits caps (form.Bulk stream) wanted = (wanted ≤ greatest) × BulkLengthFits (has caps WIDE_BULK_LENGTH) wanted
+WantedFits caps (form.Bulk stream) wanted = (wanted ≤ MAX_TRANSFER) × BulkLengthFits (has caps WIDE_BULK_LENGTH) wanted
 WantedFits caps _ wanted = wanted < 2 ^ 16
 
 -- and so have the fields of its answer that are its own

@@ -18,7 +18,7 @@ use Rattle.redir_data.specs.Spelling.{data_count}
 use Rattle.redir_data.specs.Streams.{stream_format}
 use Rattle.control_route.specs.declared.route.Route.{Route}
 use Rattle.redir_host.specs.declared.state.host.Host.{Host}
-use Rattle.redir_host.specs.guest.Asking.{greatest}
+use Rattle.redir_host.specs.declared.guest.asking.TheConstants.{MAX_TRANSFER}
 use Rattle.redir_host.specs.declared.write.note.HostNote.{HostNote}
 use Rattle.redir_host.specs.declared.write.note.Performed.{Performed}
 use Rattle.redir_host.specs.declared.state.request.Form.{Form}
@@ -73,4 +73,4 @@ pub record AnswerFits (caps : Caps) (f : Form) (ep : ℕ) (o : Outcome) : Type 0
   pub done : DoneFits f o.done
   pub length_fits : LengthFits caps f o.done
   pub data_there : length o.body ≡ data_count ToGuest ep o.done
-  pub few_bytes : length o.body ≤ greatest
+  pub few_bytes : length o.body ≤ MAX_TRANSFER

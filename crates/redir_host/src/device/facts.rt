@@ -13,7 +13,7 @@ ghost use Rattle.redir_host.specs.write.Told.{facts_bytes, connect_bytes};
 use crate::write::packet::write;
 use redir_data::RedirPacket;
 use redir_wire::{Caps, Connect, EpInfo, InterfaceInfo, RedirControl};
-use usb_base::{Bytes, EpRow, EpTable, Memory};
+use usb_base::{Bytes, ENDPOINTS, EpRow, EpTable, Memory};
 
 /// Appends the endpoints and the interfaces. For want of memory what was there still stands at the front.
 pub fn write_facts(
@@ -50,12 +50,12 @@ fn ep_info(table: &EpTable, caps: Caps) -> EpInfo
     ensures ranges { Ranges (RedirControl.EpInfo result) }
 {
     let mut info = EpInfo {
-        kinds: [0; 32],
-        interval: [0; 32],
-        interface: [0; 32],
-        max_packet: [0; 32],
+        kinds: [0; ENDPOINTS],
+        interval: [0; ENDPOINTS],
+        interface: [0; ENDPOINTS],
+        max_packet: [0; ENDPOINTS],
     };
-    for index in 0..32 {
+    for index in 0..ENDPOINTS {
         let row = row_at(table, index);
         info.kinds[index] = row.kind.to_byte();
         info.interval[index] = row.interval;
@@ -78,7 +78,7 @@ fn max_packet(row: EpRow, caps: Caps) -> u16
 }
 
 fn row_at(table: &EpTable, index: usize) -> EpRow
-    requires { index < 32 }
+    requires { index < ENDPOINTS }
     ensures { result ≡ get_or table.now.rows index no_endpoint }
 {
     table.rows[index]

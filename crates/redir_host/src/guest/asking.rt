@@ -8,8 +8,8 @@ use crate::state::request::{Asking, Form};
 use redir_data::RedirData;
 use usb_base::{Bytes, EpAddr, Setup, Transfer};
 
-/// The most bytes of one transfer.
-pub const GREATEST: u32 = 16_777_216;
+/// The most bytes of one transfer of a bulk endpoint, 16 MiB.
+pub const MAX_TRANSFER: u32 = 16_777_216;
 
 /// What a packet asks. A packet of an isochronous endpoint, and one of an interrupt endpoint that is to give data, ask
 /// nothing: those endpoints are used by starting a stream.
@@ -45,7 +45,7 @@ pub fn asking_of(packet: RedirData) -> Asking
             body,
             ..
         } => {
-            let can = is_other(endpoint) && length <= GREATEST;
+            let can = is_other(endpoint) && length <= MAX_TRANSFER;
             ask(can, endpoint, Form::Bulk { stream }, None, length, body)
         }
         RedirData::Iso { .. } => Asking::Nothing,

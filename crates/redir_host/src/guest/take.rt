@@ -145,9 +145,13 @@ impl<G: Gadget> Host<G> {
         match stream_endpoint(&self.gadget.table(), kind, endpoint) {
             Some(ep) => {
                 self.running.start(kind, ep)?;
-                write(&status_of(kind, 0, endpoint), id, self.guest.caps, out)
+                let status = status_of(kind, UsbStatus::Success, endpoint);
+                write(&status, id, self.guest.caps, out)
             }
-            None => write(&status_of(kind, 2, endpoint), id, self.guest.caps, out),
+            None => {
+                let status = status_of(kind, UsbStatus::Inval, endpoint);
+                write(&status, id, self.guest.caps, out)
+            }
         }
     }
 }
@@ -206,7 +210,8 @@ impl<G> Host<G> {
         ensures err { OnErr result (Begins out.old out.new) }
     {
         self.running.stop(endpoint);
-        write(&status_of(kind, 0, endpoint), id, self.guest.caps, out)
+        let status = status_of(kind, UsbStatus::Success, endpoint);
+        write(&status, id, self.guest.caps, out)
     }
 
     /// Takes the first request that moves data and has this id out of its queue, and answers it.
@@ -252,10 +257,11 @@ fn is_kind_of(stream: StreamKind, kind: EpKind) -> bool
     )
 }
 
-/// The status of a stream.
-fn status_of(kind: StreamKind, status: u8, endpoint: u8) -> RedirPacket
+/// How a stream's start or stop went.
+fn status_of(kind: StreamKind, status: UsbStatus, endpoint: u8) -> RedirPacket
     ensures { result ≡ status_of kind status endpoint }
 {
+    let status = status.to_byte();
     RedirPacket::Plain(match kind {
         StreamKind::Iso => RedirControl::IsoStatus { status, endpoint },
         StreamKind::Interrupt => RedirControl::InterruptStatus { status, endpoint },

@@ -32,7 +32,8 @@ use Rattle.redir_host.specs.declared.state.request.Form.TheVariants as form
 use Rattle.redir_host.specs.declared.state.request.Request.{Request}
 use Rattle.redir_host.specs.declared.state.running.StreamKind.{StreamKind}
 use Rattle.redir_host.specs.declared.state.running.StreamKind.TheVariants.{Iso, Interrupt}
-use Rattle.redir_host.specs.guest.Asking.{greatest, is_other, asked_if, asking_of, routed}
+use Rattle.redir_host.specs.declared.guest.asking.TheConstants.{MAX_TRANSFER}
+use Rattle.redir_host.specs.guest.Asking.{is_other, asked_if, asking_of, routed}
 use Rattle.redir_host.specs.step.Makes.{IsTaken}
 use Rattle.redir_host.specs.step.Moves.{Move, quiet}
 use Rattle.redir_host.specs.guest.Packets.{can_start, cancel_move, data_move, is_kind_of, packet_move, packet_move_by, queued, request, runs_at, start_move, stop_move, stopped}
@@ -145,10 +146,10 @@ data-keeps h id (moving.Control ep asked kind status value index told body) soun
       form_fits = (is.ranges.0.0, is.ranges.0.1.0);
     })
 data-keeps h id (moving.Bulk ep status told stream body) sound greeted fits is =
-    asked-keeps h id (is_other ep && nat_le told greatest) (form.Bulk stream) (record { ep = ep; setup = None; wanted = told; body = body }) sound greeted fits
+    asked-keeps h id (is_other ep && nat_le told MAX_TRANSFER) (form.Bulk stream) (record { ep = ep; setup = None; wanted = told; body = body }) sound greeted fits
     (λ can. record {
-      transfer = other-transfer ep told body (and_parts (is_other ep) (nat_le told greatest) can).0 is.data_there;
-      wanted_fits = (leb-true told greatest (and_parts (is_other ep) (nat_le told greatest) can).1, is.length_fits);
+      transfer = other-transfer ep told body (and_parts (is_other ep) (nat_le told MAX_TRANSFER) can).0 is.data_there;
+      wanted_fits = (leb-true told MAX_TRANSFER (and_parts (is_other ep) (nat_le told MAX_TRANSFER) can).1, is.length_fits);
       form_fits = is.ranges.0.0;
     })
 data-keeps h id (moving.Iso ep status told body) sound greeted fits is = record { guest = refl; sound = sound }

@@ -30,7 +30,8 @@ use Rattle.redir_host.specs.declared.state.running.StreamKind.{StreamKind}
 use Rattle.redir_host.specs.declared.state.running.StreamKind.TheVariants.{Iso, Interrupt}
 use Rattle.redir_host.specs.device.Offering.{offered_on, offered_by}
 use Rattle.redir_host.specs.device.Performing.{first_performed, perform_move_by}
-use Rattle.redir_host.specs.guest.Asking.{asking, asking_of, asking_plain, asked_if, greatest, is_other}
+use Rattle.redir_host.specs.declared.guest.asking.TheConstants.{MAX_TRANSFER}
+use Rattle.redir_host.specs.guest.Asking.{asking, asking_of, asking_plain, asked_if, is_other}
 use Rattle.redir_host.specs.guest.Line.{Placed, Waiting, Reset, Waits, placed, asked_line, waiting_in, without_cancelled}
 use Rattle.redir_host.specs.guest.Packets.{can_start, cancel_move, data_move, packet_move_by, queued, runs_at, start_move, stop_move, stopped}
 use Rattle.redir_host.specs.state.Queues.{after_cancel, is_at, is_cancelled_by, is_first_queue, leaves_mark}
@@ -64,7 +65,7 @@ data-answers (moving.Control ep request kind status value index told body) =
     let setup : Setup = record { kind = kind; request = request; value = value; index = index; length = told } in
     asked-answers (ep == (cond (nat_lt kind 128) 0 128)) (form.Control setup) (record { ep = ep; setup = Some setup; wanted = told; body = body }) (λ id c o. refl)
 data-answers (moving.Bulk ep status told stream body) =
-    asked-answers (is_other ep && nat_le told greatest) (form.Bulk stream) (record { ep = ep; setup = None; wanted = told; body = body }) (λ id c o. refl)
+    asked-answers (is_other ep && nat_le told MAX_TRANSFER) (form.Bulk stream) (record { ep = ep; setup = None; wanted = told; body = body }) (λ id c o. refl)
 data-answers (moving.Iso ep status told body) = tt
 data-answers (moving.Interrupt ep status told body) = by (is_in_endpoint ep) refl
   where

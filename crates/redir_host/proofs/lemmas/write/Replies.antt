@@ -5,7 +5,9 @@ use Rattle.std.specs.List.{find, AllByRecursion as Each}
 use Rattle.std.proofs.lemmas.Bool.{true≢false}
 use Rattle.usb_base.specs.Endpoint.{is_in_endpoint}
 use Rattle.usb_base.specs.declared.setup.Setup.{Setup}
-use Rattle.usb_base.specs.declared.status.UsbStatus.TheVariants.{Inval}
+use Rattle.usb_base.specs.Status.{status_byte}
+use Rattle.usb_base.specs.declared.status.UsbStatus.{UsbStatus}
+use Rattle.usb_base.specs.declared.status.UsbStatus.TheVariants.{Success, Inval}
 use Rattle.usb_base.specs.declared.transfer.Transfer.{Transfer}
 use Rattle.redir_wire.specs.declared.packet.Caps.{Caps}
 use Rattle.redir_wire.specs.declared.packet.Header.{Header}
@@ -34,7 +36,8 @@ use Rattle.redir_host.specs.declared.state.request.Request.{Request}
 use Rattle.redir_host.specs.declared.state.running.StreamKind.{StreamKind}
 use Rattle.redir_host.specs.declared.state.running.StreamKind.TheVariants.{Iso, Interrupt}
 use Rattle.chapter9.specs.Standard.{ended}
-use Rattle.redir_host.specs.guest.Asking.{greatest, is_other, asked_if, asking_of}
+use Rattle.redir_host.specs.declared.guest.asking.TheConstants.{MAX_TRANSFER}
+use Rattle.redir_host.specs.guest.Asking.{is_other, asked_if, asking_of}
 use Rattle.redir_host.specs.device.Facts.{connect_of, facts_of}
 use Rattle.redir_host.specs.step.Makes.{IsTaken}
 use Rattle.redir_host.specs.step.Moves.{Move, quiet}
@@ -53,13 +56,13 @@ use Rattle.redir_host.proofs.lemmas.write.Facts.{connect}
 abbrev Reads : {S : Type 0} → Host S → Move S → Type 0
 Reads h v = Each (CanBeRead ToGuest h.guest.caps) v.sent
 
-status-read : (caps : Caps) (id : ℕ) (k : StreamKind) (status ep : ℕ) → IdFits (is_wide false caps) id → CanBeRead ToGuest caps (id, status_of k status ep)
-status-read caps id Iso status ep fits = control_sent ToGuest caps id (plain.IsoStatus status ep) refl tt (record { agreed = refl; id_fits = fits; writable = tt }) refl
-status-read caps id Interrupt status ep fits = control_sent ToGuest caps id (plain.InterruptStatus status ep) refl tt (record { agreed = refl; id_fits = fits; writable = tt }) refl
+status-read : (caps : Caps) (id : ℕ) (k : StreamKind) (status : UsbStatus) (ep : ℕ) → IdFits (is_wide false caps) id → CanBeRead ToGuest caps (id, status_of k status ep)
+status-read caps id Iso status ep fits = control_sent ToGuest caps id (plain.IsoStatus (status_byte status) ep) refl tt (record { agreed = refl; id_fits = fits; writable = tt }) refl
+status-read caps id Interrupt status ep fits = control_sent ToGuest caps id (plain.InterruptStatus (status_byte status) ep) refl tt (record { agreed = refl; id_fits = fits; writable = tt }) refl
 
 start-read : {S : Type 0} (h : Host S) (id : ℕ) (k : StreamKind) (ep : ℕ) (b : Bool) → IdFits (is_wide false h.guest.caps) id → Reads h (start_move b h id k ep)
-start-read h id k ep true fits = (status-read h.guest.caps id k 0 ep fits, tt)
-start-read h id k ep false fits = (status-read h.guest.caps id k 2 ep fits, tt)
+start-read h id k ep true fits = (status-read h.guest.caps id k Success ep fits, tt)
+start-read h id k ep false fits = (status-read h.guest.caps id k Inval ep fits, tt)
 
 cancel-read : {S : Type 0} (h : Host S) (id : ℕ) (o : Option Request) → IfSome o (λ q. IsRequest h.guest q × (is_cancelled_by id q ≡ true)) → Reads h (cancel_move h id o)
 cancel-read h id None is = tt
@@ -78,7 +81,7 @@ data-read h id (moving.Control ep asked kind status value index told body) fits 
     let setup : Setup = record { kind = kind; request = asked; value = value; index = index; length = told } in
     asked-read h id _ (form.Control setup) (record { ep = ep; setup = Some setup; wanted = told; body = body }) fits (is.ranges.0.0, is.ranges.0.1.0)
 data-read h id (moving.Bulk ep status told stream body) fits is =
-    asked-read h id (is_other ep && nat_le told greatest) (form.Bulk stream) (record { ep = ep; setup = None; wanted = told; body = body }) fits is.ranges.0.0
+    asked-read h id (is_other ep && nat_le told MAX_TRANSFER) (form.Bulk stream) (record { ep = ep; setup = None; wanted = told; body = body }) fits is.ranges.0.0
 data-read h id (moving.Iso ep status told body) fits is = tt
 data-read h id (moving.Interrupt ep status told body) fits is = interrupt-read h id (is_other ep) (is_in_endpoint ep) (record { ep = ep; setup = None; wanted = told; body = body }) fits
 
@@ -146,10 +149,10 @@ packet-read m lawful h header (Plain (plain.GetAlt interface)) xs sound is fit b
 packet-read m lawful h header (Plain (plain.AltStatus status interface alt)) xs sound is fit before = later-read m h header (plain.AltStatus status interface alt) 11 xs sound is is.kind refl refl before
 packet-read m lawful h header (Plain (plain.StartIso ep pkts_per_urb no_urbs)) xs sound is fit before = later-read m h header (plain.StartIso ep pkts_per_urb no_urbs) 12 xs sound is is.kind refl refl before
 packet-read m lawful h header (Plain (plain.StopIso ep)) xs sound is fit before = later-read m h header (plain.StopIso ep) 13 xs sound is is.kind refl refl before
-packet-read m lawful h header (Plain (plain.IsoStatus status ep)) xs sound is fit before = later-read m h header (plain.IsoStatus status ep) 14 xs sound is is.kind refl refl before
+packet-read m lawful h header (Plain (plain.IsoStatus (status_byte status) ep)) xs sound is fit before = later-read m h header (plain.IsoStatus (status_byte status) ep) 14 xs sound is is.kind refl refl before
 packet-read m lawful h header (Plain (plain.StartInterrupt ep)) xs sound is fit before = later-read m h header (plain.StartInterrupt ep) 15 xs sound is is.kind refl refl before
 packet-read m lawful h header (Plain (plain.StopInterrupt ep)) xs sound is fit before = later-read m h header (plain.StopInterrupt ep) 16 xs sound is is.kind refl refl before
-packet-read m lawful h header (Plain (plain.InterruptStatus status ep)) xs sound is fit before = later-read m h header (plain.InterruptStatus status ep) 17 xs sound is is.kind refl refl before
+packet-read m lawful h header (Plain (plain.InterruptStatus (status_byte status) ep)) xs sound is fit before = later-read m h header (plain.InterruptStatus (status_byte status) ep) 17 xs sound is is.kind refl refl before
 packet-read m lawful h header (Plain plain.Cancel) xs sound is fit before = later-read m h header plain.Cancel 21 xs sound is is.kind refl refl before
 packet-read m lawful h header (Plain plain.DisconnectAck) xs sound is fit before = later-read m h header plain.DisconnectAck 24 xs sound is is.kind refl refl before
 packet-read m lawful h header (Carrying d) xs sound is fit before =
