@@ -17,14 +17,8 @@ use usb_base::{Bytes, EpAddr, Setup, Transfer};
 pub fn set_configuration(alloc: Global, configuration: u8) -> Transfer
     ensures { result ≡ routed (route.SetConfig configuration) }
 {
-    transfer_of(
-        alloc,
-        TO_DEVICE,
-        SET_CONFIGURATION,
-        u16::from(configuration),
-        0,
-        0,
-    )
+    let value = u16::from(configuration);
+    transfer_of(alloc, TO_DEVICE, SET_CONFIGURATION, value, 0, 0)
 }
 
 /// GET_CONFIGURATION.
@@ -38,28 +32,16 @@ pub fn get_configuration(alloc: Global) -> Transfer
 pub fn set_alt(alloc: Global, interface: u8, alt: u8) -> Transfer
     ensures { result ≡ routed (route.SetAlt interface alt) }
 {
-    transfer_of(
-        alloc,
-        TO_INTERFACE,
-        SET_INTERFACE,
-        u16::from(alt),
-        u16::from(interface),
-        0,
-    )
+    let (value, index) = (u16::from(alt), u16::from(interface));
+    transfer_of(alloc, TO_INTERFACE, SET_INTERFACE, value, index, 0)
 }
 
 /// GET_INTERFACE.
 pub fn get_alt(alloc: Global, interface: u8) -> Transfer
     ensures { result ≡ routed (route.GetAlt interface) }
 {
-    transfer_of(
-        alloc,
-        FROM_INTERFACE,
-        GET_INTERFACE,
-        0,
-        u16::from(interface),
-        1,
-    )
+    let index = u16::from(interface);
+    transfer_of(alloc, FROM_INTERFACE, GET_INTERFACE, 0, index, 1)
 }
 
 /// SetPortFeature of PORT_RESET, the reset of the device.
