@@ -1,4 +1,6 @@
 -- What the proofs of functions cite, by subject.
-pub mod calls
-pub mod events
+pub mod served
+pub mod written
+pub mod course
+pub mod log
 pub mod Examples

@@ -1,17 +1,17 @@
 //! Laws of what is recorded and of what was written, each as the contract of a function that does nothing.
 
 ghost use Rattle.std.specs.Prelude.{◌≡◌, ◌<◌, ◌∷◌, [], true, false, List, length};
-ghost use Rattle.bridge_run.specs.declared.serve_end.ServeEnd.{ServeEnd as End};
-ghost use Rattle.bridge_run.specs.Events.{LinkEvent as PastEvent};
-ghost use Rattle.bridge_run.specs.Prescribed.{Prescribed, gained};
-ghost use Rattle.bridge_run.specs.Recorded.{piece, sends_any};
-ghost use Rattle.bridge_run.specs.Course.{Setting, Course, Next};
-ghost use Rattle.bridge_run.specs.Calls.{Outcome, Goes, Stops, put, rest, course_of};
-ghost use Rattle.bridge_run.specs.Serves.{Reaches, NoneWaits};
+ghost use Rattle.bridge_run.specs.declared.course.serve_end.ServeEnd.{ServeEnd as End};
+ghost use Rattle.bridge_run.specs.events.Events.{LinkEvent as PastEvent};
+ghost use Rattle.bridge_run.specs.events.Prescribed.{Prescribed, gained};
+ghost use Rattle.bridge_run.specs.written.Recorded.{piece, sends_any};
+ghost use Rattle.bridge_run.specs.course.Course.{Setting, Course, Next};
+ghost use Rattle.bridge_run.specs.course.Calls.{Outcome, Goes, Stops, put, rest, course_of};
+ghost use Rattle.bridge_run.specs.course.Serves.{Reaches, NoneWaits};
 ghost use Rattle.usb_base.specs.declared.side.Side.TheVariants.{Client};
 ghost use Rattle.gate_outside.specs.Calls.{Call, went};
-ghost use Rattle.bridge_run.specs.Log.{Terms, events_of, IsWritten, Settled};
-ghost use Rattle.bridge_run.specs.Clients.{got_by, joined, sent_to_each};
+ghost use Rattle.bridge_run.specs.log.Log.{Terms, events_of, IsWritten, Settled};
+ghost use Rattle.bridge_run.specs.log.Clients.{got_by, joined, sent_to_each};
 
 /// A law: of the lines that are recorded fewer than 64 KiB wait to be written at any time, and none once an event sends
 /// bytes, refuses a side or lets the client go, once a round brings nothing, and at each end that is no fault.

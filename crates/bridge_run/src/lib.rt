@@ -2,23 +2,14 @@
 //! modelled device that is lent to a guest, sends back to these.
 #![tactic(auto)]
 
-mod after_loss;
-mod event;
-mod gate;
+mod course;
+mod events;
 mod laws;
-mod lending;
-mod lent;
-mod link;
-mod recording;
-mod rounds;
-mod sent;
-mod serve_end;
 mod served;
-mod serving;
-mod session;
+mod written;
 
-pub use after_loss::AfterLoss;
+pub use course::lending::serve_host;
+pub use course::serve_end::ServeEnd;
+pub use course::serving::serve;
 pub use laws::{clients_get_their_own, few_lines_wait};
-pub use lending::serve_host;
-pub use serve_end::ServeEnd;
-pub use serving::serve;
+pub use served::after_loss::AfterLoss;

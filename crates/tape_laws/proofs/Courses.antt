@@ -8,15 +8,15 @@ use Rattle.usb_base.specs.declared.side.Side.TheVariants.{Client, Host}
 use Rattle.gate_outside.specs.declared.turn.Turn.{Turn}
 use Rattle.gate_outside.specs.declared.turn.Turn.TheVariants.{Piece, Wait, Fail}
 use Rattle.gate_outside.specs.Turns.{pending, answer, given, after}
-use Rattle.bridge_run.specs.declared.serve_end.ServeEnd.TheVariants as end
-use Rattle.bridge_run.specs.Events.{LinkEvent, ClientComes, ClientQuiet, SidePiece, SideEnd}
-use Rattle.bridge_run.specs.Prescribed.{Prescribed, gained, refuses, drops, first_of}
-use Rattle.bridge_run.specs.Recorded.{lines_of, has_any, is_last, is_full, written_if, waiting_if}
-use Rattle.bridge_run.specs.Course.{Setting, Course, Next, Making, AtDoor, AtClient, AtHost, AtEnd, Takes}
-use Rattle.bridge_run.specs.Calls.{Outcome, Goes, Stops, room, is_due, lines_with, put, settle, ends_next, take_event, come, heard, poll, gathered, make, call, and_then, calls}
-use Rattle.bridge_run.specs.Gate.{gate_events}
+use Rattle.bridge_run.specs.declared.course.serve_end.ServeEnd.TheVariants as end
+use Rattle.bridge_run.specs.events.Events.{LinkEvent, ClientComes, ClientQuiet, SidePiece, SideEnd}
+use Rattle.bridge_run.specs.events.Prescribed.{Prescribed, gained, refuses, drops, first_of}
+use Rattle.bridge_run.specs.written.Recorded.{lines_of, has_any, is_last, is_full, written_if, waiting_if}
+use Rattle.bridge_run.specs.course.Course.{Setting, Course, Next, Making, AtDoor, AtClient, AtHost, AtEnd, Takes}
+use Rattle.bridge_run.specs.course.Calls.{Outcome, Goes, Stops, room, is_due, lines_with, put, settle, ends_next, take_event, come, heard, poll, gathered, make, call, and_then, calls}
+use Rattle.bridge_run.specs.served.Gate.{gate_events}
 use Rattle.usbgate_tapes.specs.tape.Tape.{host_ended}
-use Rattle.bridge_run.specs.Ups.{client_at, host_at, client_behind, to_clients}
+use Rattle.bridge_run.specs.written.Ups.{client_at, host_at, client_behind, to_clients}
 use Rattle.tape_laws.specs.Ups.{host_behind, to_host}
 use Rattle.tape_laws.specs.Recordings.{recorded}
 use Rattle.tape_laws.specs.Begun.{SendBytes, AllSendBytes}

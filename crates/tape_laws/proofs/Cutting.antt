@@ -9,15 +9,15 @@ use Rattle.gate_outside.specs.declared.turn.Turn.{Turn}
 use Rattle.gate_outside.specs.declared.turn.Polled.{Polled}
 use Rattle.gate_outside.specs.declared.turn.Polled.TheVariants.{Took, NotYet, Ended, Failed}
 use Rattle.gate_outside.specs.Turns.{pending, answer, given}
-use Rattle.bridge_run.specs.declared.serve_end.ServeEnd.TheVariants as end
-use Rattle.bridge_run.specs.Events.{LinkEvent}
-use Rattle.bridge_run.specs.Prescribed.{Prescribed, gained}
-use Rattle.bridge_run.specs.Recorded.{lines_of}
-use Rattle.bridge_run.specs.Course.{Setting, Course, Next, Making, AtDoor, AtClient, AtHost, AtEnd, Takes}
-use Rattle.bridge_run.specs.Calls.{Outcome, Goes, Stops, room, come, turned, heard, poll, gathered, call, course_of}
-use Rattle.bridge_run.specs.Log.{IsFront}
-use Rattle.bridge_run.specs.Ups.{client_at, host_at, client_behind, to_clients}
-use Rattle.bridge_run.proofs.lemmas.events.Settle.{take-course}
+use Rattle.bridge_run.specs.declared.course.serve_end.ServeEnd.TheVariants as end
+use Rattle.bridge_run.specs.events.Events.{LinkEvent}
+use Rattle.bridge_run.specs.events.Prescribed.{Prescribed, gained}
+use Rattle.bridge_run.specs.written.Recorded.{lines_of}
+use Rattle.bridge_run.specs.course.Course.{Setting, Course, Next, Making, AtDoor, AtClient, AtHost, AtEnd, Takes}
+use Rattle.bridge_run.specs.course.Calls.{Outcome, Goes, Stops, room, come, turned, heard, poll, gathered, call, course_of}
+use Rattle.bridge_run.specs.log.Log.{IsFront}
+use Rattle.bridge_run.specs.written.Ups.{client_at, host_at, client_behind, to_clients}
+use Rattle.bridge_run.proofs.lemmas.course.Settle.{take-course}
 use Rattle.usbgate_commands.specs.Serving.{ServeSettings}
 use Rattle.tape_laws.specs.Recordings.{recorded, served}
 use Rattle.tape_laws.specs.Plays.{EndsTape, AreLines}

@@ -6,17 +6,17 @@ use Rattle.gate_history.specs.step.History.{history}
 use Rattle.gate_history.specs.write.All.{counts_of}
 use Rattle.session_tape.specs.Tapes.{Counts}
 use Rattle.session_tape.specs.Lines.{first_comment}
-use Rattle.bridge_run.specs.declared.serve_end.ServeEnd.{ServeEnd}
-use Rattle.bridge_run.specs.declared.serve_end.ServeEnd.TheVariants as end
-use Rattle.bridge_run.specs.Events.{LinkEvent}
-use Rattle.bridge_run.specs.Course.{Course, Next, Making, Takes}
-use Rattle.bridge_run.specs.Prescribed.{Prescribed}
-use Rattle.bridge_run.specs.Calls.{Outcome, Goes, Stops, call, course_of}
-use Rattle.bridge_run.specs.Outside.{Outside, Written, Faults, written, Tells, IsBetween, IsRecordedInPart, IsRecordedUntold, HasLines, Cut}
-use Rattle.bridge_run.specs.RanOut.{RanOutWithin}
-use Rattle.bridge_run.specs.GateStops.{gate_runs_out}
-use Rattle.bridge_run.specs.Serves.{MayRunOut, Reaches, NoneWaits, EndsSo, CutShort, Leaves}
-use Rattle.bridge_run.proofs.lemmas.events.Gather.{ended-waiting}
+use Rattle.bridge_run.specs.declared.course.serve_end.ServeEnd.{ServeEnd}
+use Rattle.bridge_run.specs.declared.course.serve_end.ServeEnd.TheVariants as end
+use Rattle.bridge_run.specs.events.Events.{LinkEvent}
+use Rattle.bridge_run.specs.course.Course.{Course, Next, Making, Takes}
+use Rattle.bridge_run.specs.events.Prescribed.{Prescribed}
+use Rattle.bridge_run.specs.course.Calls.{Outcome, Goes, Stops, call, course_of}
+use Rattle.bridge_run.specs.course.Outside.{Outside, Written, Faults, written, Tells, IsBetween, IsRecordedInPart, IsRecordedUntold, HasLines, Cut}
+use Rattle.bridge_run.specs.events.RanOut.{RanOutWithin}
+use Rattle.bridge_run.specs.served.GateStops.{gate_runs_out}
+use Rattle.bridge_run.specs.course.Serves.{MayRunOut, Reaches, NoneWaits, EndsSo, CutShort, Leaves}
+use Rattle.bridge_run.proofs.lemmas.written.Gather.{ended-waiting}
 use Rattle.usbgate_tapes.specs.declared.status.Status.{Status}
 use Rattle.usbgate_tapes.specs.declared.status.Status.TheVariants.{Done, Usage, Refused, ReadFault, WriteFault, LinkFault, OutOfMemory, BadTape, Idle, Spent}
 use Rattle.usbgate_tapes.specs.Text.{opening_text, counts_line}
@@ -27,10 +27,10 @@ use Rattle.usbgate_tapes.specs.Replay.{replay}
 use Rattle.usbgate_commands.specs.Recording.{IsUnmade, IsUnbegun}
 use Rattle.usbgate_commands.specs.Serving.{ServeSettings}
 use Rattle.usbgate_commands.specs.Serves.{setting_of, ended_as, IsUnrecorded, IsRecorded, Serves}
-use Rattle.bridge_run.specs.Recorded.{event_line, lines_of as event_lines}
+use Rattle.bridge_run.specs.written.Recorded.{event_line, lines_of as event_lines}
 use Rattle.tape_laws.specs.Recordings.{recorded, served, all_replayed}
-use Rattle.bridge_run.specs.Log.{IsFront}
-use Rattle.bridge_run.specs.Ups.{client_at, host_at, client_behind, to_clients}
+use Rattle.bridge_run.specs.log.Log.{IsFront}
+use Rattle.bridge_run.specs.written.Ups.{client_at, host_at, client_behind, to_clients}
 use Rattle.tape_laws.specs.Ups.{host_behind, to_host}
 use Rattle.tape_laws.specs.Begun.{IsFresh}
 use Rattle.tape_laws.specs.Plays.{read_of, Plays, WroteFront, EndsTape, PlaysInPart, IsUnserved, IsAsBefore, PlaysNothing, Replays}

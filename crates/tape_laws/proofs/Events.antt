@@ -17,10 +17,10 @@ use Rattle.packet_show.specs.declared.tape.TapeLine.{TapeLine}
 use Rattle.packet_show.specs.declared.tape.TapeLine.TheVariants as tape
 use Rattle.packet_show.specs.declared.tape.TapeKind.TheVariants.{Replay}
 use Rattle.packet_show.specs.Tape.{tape_line, bytes_of, some_bytes}
-use Rattle.bridge_run.specs.Events.{LinkEvent, ClientComes, ClientQuiet, SidePiece, SideEnd}
-use Rattle.bridge_run.specs.Recorded.{lines_of}
-use Rattle.bridge_run.specs.Prescribed.{gained}
-use Rattle.bridge_run.specs.Gate.{gate_events, gate_notes}
+use Rattle.bridge_run.specs.events.Events.{LinkEvent, ClientComes, ClientQuiet, SidePiece, SideEnd}
+use Rattle.bridge_run.specs.written.Recorded.{lines_of}
+use Rattle.bridge_run.specs.events.Prescribed.{gained}
+use Rattle.bridge_run.specs.served.Gate.{gate_events, gate_notes}
 use Rattle.usbgate_tapes.specs.tape.Tape.{event_said, host_ended}
 use Rattle.usbgate_tapes.specs.Text.{sent_text}
 use Rattle.packet_show.specs.declared.tape.TheConstants.{TAPE_LIMIT as tape_limit}

@@ -4,13 +4,13 @@ use Rattle.std.proofs.lemmas.Bool.{cond_both, eqb-true, false_from_ne_true, le-l
 use Rattle.std.proofs.lemmas.List.{length-append}
 use Rattle.gate_history.specs.step.Events.{Event as GateEvent}
 use Rattle.session_tape.specs.Lines.{first_comment}
-use Rattle.bridge_run.specs.Events.{LinkEvent}
-use Rattle.bridge_run.specs.Gate.{gate_events}
+use Rattle.bridge_run.specs.events.Events.{LinkEvent}
+use Rattle.bridge_run.specs.served.Gate.{gate_events}
 use Rattle.packet_show.specs.declared.tape.TapeKind.TheVariants.{Replay}
 use Rattle.packet_show.specs.declared.tape.TapeLine.{TapeLine}
 use Rattle.packet_show.specs.declared.tape.TapeLine.TheVariants.{Skip}
 use Rattle.packet_show.specs.Tape.{tape_line}
-use Rattle.bridge_run.specs.Log.{IsFront}
+use Rattle.bridge_run.specs.log.Log.{IsFront}
 use Rattle.usbgate_tapes.specs.tape.Tape.{before_first, event_said, lines_of, content}
 use Rattle.usbgate_tapes.specs.Text.{opening_text}
 use Rattle.packet_show.specs.declared.tape.TheConstants.{TAPE_LIMIT as tape_limit}
@@ -22,7 +22,7 @@ use Rattle.usbgate_tapes.specs.Run.{HasNoLF}
 use Rattle.usbgate_tapes.proofs.lemmas.tape.Lines.{HasNoLF-append}
 use Rattle.std.specs.Prelude.{codes, option_map}
 use Rattle.std.specs.Fmt.{decimal}
-use Rattle.bridge_run.specs.Recorded.{lines_of as event_lines}
+use Rattle.bridge_run.specs.written.Recorded.{lines_of as event_lines}
 use Rattle.tape_laws.specs.Recordings.{recorded, served, replayed, all_replayed}
 use Rattle.tape_laws.specs.Plays.{read_of}
 use Rattle.tape_laws.proofs.Spelled.{no-lf-tested, no-lf-decimal}

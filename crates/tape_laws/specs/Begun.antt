@@ -4,8 +4,8 @@ use Rattle.usb_base.specs.Number.{AreBytes}
 use Rattle.gate_outside.specs.declared.turn.Turn.{Turn}
 use Rattle.gate_outside.specs.declared.turn.Turn.TheVariants.{Piece, Wait, Fail}
 use Rattle.session_tape.specs.Lines.{first_comment}
-use Rattle.bridge_run.specs.Course.{Course}
-use Rattle.bridge_run.specs.Serves.{NothingYet}
+use Rattle.bridge_run.specs.course.Course.{Course}
+use Rattle.bridge_run.specs.course.Serves.{NothingYet}
 use Rattle.usbgate_commands.specs.Serving.{ServeSettings}
 use Rattle.usbgate_commands.specs.declared.serve.TheConstants.{BUDGET}
 

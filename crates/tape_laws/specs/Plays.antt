@@ -4,18 +4,18 @@ use Rattle.session_tape.specs.Lines.{first_comment}
 use Rattle.gate_history.specs.step.Events.{Event as GateEvent}
 use Rattle.gate_history.specs.step.History.{history}
 use Rattle.gate_history.specs.write.All.{counts_of}
-use Rattle.bridge_run.specs.declared.serve_end.ServeEnd.{ServeEnd}
-use Rattle.bridge_run.specs.Events.{LinkEvent}
-use Rattle.bridge_run.specs.Course.{Course, Next, Making}
-use Rattle.bridge_run.specs.Calls.{Goes, Stops, call, course_of}
-use Rattle.bridge_run.specs.Outside.{Outside}
-use Rattle.bridge_run.specs.Gate.{gate_events}
-use Rattle.bridge_run.specs.Log.{IsFront}
-use Rattle.bridge_run.specs.GateStops.{gate_runs_out}
-use Rattle.bridge_run.specs.Prescribed.{gained}
-use Rattle.bridge_run.specs.RanOut.{RanOutWithin}
-use Rattle.bridge_run.specs.Recorded.{event_line, lines_of}
-use Rattle.bridge_run.specs.Serves.{Reaches}
+use Rattle.bridge_run.specs.declared.course.serve_end.ServeEnd.{ServeEnd}
+use Rattle.bridge_run.specs.events.Events.{LinkEvent}
+use Rattle.bridge_run.specs.course.Course.{Course, Next, Making}
+use Rattle.bridge_run.specs.course.Calls.{Goes, Stops, call, course_of}
+use Rattle.bridge_run.specs.course.Outside.{Outside}
+use Rattle.bridge_run.specs.served.Gate.{gate_events}
+use Rattle.bridge_run.specs.log.Log.{IsFront}
+use Rattle.bridge_run.specs.served.GateStops.{gate_runs_out}
+use Rattle.bridge_run.specs.events.Prescribed.{gained}
+use Rattle.bridge_run.specs.events.RanOut.{RanOutWithin}
+use Rattle.bridge_run.specs.written.Recorded.{event_line, lines_of}
+use Rattle.bridge_run.specs.course.Serves.{Reaches}
 use Rattle.usbgate_tapes.specs.declared.status.Status.{Status}
 use Rattle.usbgate_tapes.specs.declared.status.Status.TheVariants.{Done, Usage, Refused, ReadFault, WriteFault, LinkFault, OutOfMemory, BadTape, Idle, Spent}
 use Rattle.usbgate_tapes.specs.Text.{opening_text, counts_line}
@@ -25,7 +25,7 @@ use Rattle.usbgate_tapes.specs.tape.EventCommand.{over_events}
 use Rattle.usbgate_tapes.specs.Replay.{replay}
 use Rattle.usbgate_commands.specs.Serving.{ServeSettings}
 use Rattle.usbgate_commands.specs.Serves.{setting_of}
-use Rattle.bridge_run.specs.Ups.{to_clients}
+use Rattle.bridge_run.specs.written.Ups.{to_clients}
 use Rattle.tape_laws.specs.Ups.{to_host}
 use Rattle.tape_laws.specs.Recordings.{recorded, served, all_replayed}
 

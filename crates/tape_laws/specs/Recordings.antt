@@ -1,9 +1,9 @@
 -- What events, the latest first, record, and have a replay print.
 use Rattle.std.specs.Prelude.{ℕ, List, [], ◌∷◌, ◌++◌}
-use Rattle.bridge_run.specs.Events.{LinkEvent}
-use Rattle.bridge_run.specs.Prescribed.{Prescribed, gained}
-use Rattle.bridge_run.specs.Recorded.{lines_of}
-use Rattle.bridge_run.specs.Gate.{gate_sends, gate_notes}
+use Rattle.bridge_run.specs.events.Events.{LinkEvent}
+use Rattle.bridge_run.specs.events.Prescribed.{Prescribed, gained}
+use Rattle.bridge_run.specs.written.Recorded.{lines_of}
+use Rattle.bridge_run.specs.served.Gate.{gate_sends, gate_notes}
 use Rattle.usbgate_tapes.specs.Text.{sent_text}
 use Rattle.usbgate_commands.specs.Serving.{ServeSettings}
 

@@ -1,8 +1,8 @@
 -- Which links are up behind events of a session whose host was dialled.
 use Rattle.std.specs.Prelude.{ℕ, Bool, true, List}
-use Rattle.bridge_run.specs.Events.{LinkEvent}
-use Rattle.bridge_run.specs.Prescribed.{Prescribed}
-use Rattle.bridge_run.specs.Ups.{host_since, sent_to_host}
+use Rattle.bridge_run.specs.events.Events.{LinkEvent}
+use Rattle.bridge_run.specs.events.Prescribed.{Prescribed}
+use Rattle.bridge_run.specs.written.Ups.{host_since, sent_to_host}
 
 abbrev pub host_behind : Prescribed → List LinkEvent → Bool
 host_behind p events = host_since true p events

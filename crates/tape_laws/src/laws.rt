@@ -1,8 +1,8 @@
 //! A law of two commands, as the contract of a function that does nothing.
 
 ghost use Rattle.std.specs.Prelude.{◌≡◌, ◌≤◌, ℕ, List, length, Some, None};
-ghost use Rattle.bridge_run.specs.Course.{Course};
-ghost use Rattle.bridge_run.specs.Outside.{Outside, Written, Faults, written, Tells};
+ghost use Rattle.bridge_run.specs.course.Course.{Course};
+ghost use Rattle.bridge_run.specs.course.Outside.{Outside, Written, Faults, written, Tells};
 ghost use Rattle.usbgate_tapes.specs.declared.status.Status.{Status as End};
 ghost use Rattle.usbgate_commands.specs.Serving.{ServeSettings};
 ghost use Rattle.usbgate_commands.specs.Serves.{Serves};

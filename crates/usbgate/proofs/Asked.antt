@@ -5,7 +5,7 @@ use Rattle.usb_base.specs.declared.side.Side.{Side}
 use Rattle.gate_outside.specs.declared.fault.Failed.{Failed}
 use Rattle.gate_outside.specs.Calls.{Call}
 use Rattle.gate_outside.specs.Link.{Link, Door}
-use Rattle.bridge_run.specs.Outside.{Faults, Written}
+use Rattle.bridge_run.specs.course.Outside.{Faults, Written}
 use Rattle.usbgate_tapes.specs.declared.status.Status.{Status}
 use Rattle.usbgate_tapes.specs.Printout.{Printout}
 use Rattle.usbgate_tapes.specs.Logs.{RunLeaves, RunWrites}

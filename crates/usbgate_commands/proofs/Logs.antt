@@ -4,13 +4,13 @@ use Rattle.usb_base.specs.declared.side.Side.{Side}
 use Rattle.gate_outside.specs.declared.fault.Failed.{Failed}
 use Rattle.gate_outside.specs.Calls.{Call}
 use Rattle.gate_outside.specs.Link.{Link, Door}
-use Rattle.bridge_run.specs.declared.serve_end.ServeEnd.TheVariants as end
-use Rattle.bridge_run.specs.Events.{LinkEvent}
-use Rattle.bridge_run.specs.Gate.{gate_sends}
-use Rattle.bridge_run.specs.GateStops.{gate_runs_out}
-use Rattle.bridge_run.specs.Log.{Terms, Told}
-use Rattle.bridge_run.specs.Outside.{Faults, Written, outside}
-use Rattle.bridge_run.specs.Prescribed.{Prescribed}
+use Rattle.bridge_run.specs.declared.course.serve_end.ServeEnd.TheVariants as end
+use Rattle.bridge_run.specs.events.Events.{LinkEvent}
+use Rattle.bridge_run.specs.served.Gate.{gate_sends}
+use Rattle.bridge_run.specs.served.GateStops.{gate_runs_out}
+use Rattle.bridge_run.specs.log.Log.{Terms, Told}
+use Rattle.bridge_run.specs.course.Outside.{Faults, Written, outside}
+use Rattle.bridge_run.specs.events.Prescribed.{Prescribed}
 use Rattle.usbgate_tapes.specs.declared.status.Status.TheVariants.{OutOfMemory}
 use Rattle.usbgate_commands.specs.Lending.{AskedLent}
 use Rattle.usbgate_commands.specs.Logs.{HasLog, terms_of, terms_lent, RunServes, RunLends}

@@ -5,16 +5,16 @@ use Rattle.usb_base.specs.declared.side.Side.{Side}
 use Rattle.usb_base.specs.declared.side.Side.TheVariants.{Client, Host}
 use Rattle.gate_outside.specs.declared.turn.Turn.{Turn}
 use Rattle.gate_outside.specs.Link.{Link, Door}
-use Rattle.bridge_run.specs.declared.serve_end.ServeEnd.{ServeEnd}
-use Rattle.bridge_run.specs.declared.serve_end.ServeEnd.TheVariants as end
-use Rattle.bridge_run.specs.Course.{Course, Setting, Making, AtDoor, AtClient}
-use Rattle.bridge_run.specs.Calls.{Goes, come, course_of}
+use Rattle.bridge_run.specs.declared.course.serve_end.ServeEnd.{ServeEnd}
+use Rattle.bridge_run.specs.declared.course.serve_end.ServeEnd.TheVariants as end
+use Rattle.bridge_run.specs.course.Course.{Course, Setting, Making, AtDoor, AtClient}
+use Rattle.bridge_run.specs.course.Calls.{Goes, come, course_of}
 use Rattle.std.specs.Io.KnownBytes.{append_known}
 use Rattle.gate_outside.specs.Faults.{Rose}
 use Rattle.session_tape.specs.Tapes.{Counts, counts}
-use Rattle.bridge_run.specs.Outside.{Outside, Written, Faults, outside, written, faults, OneRose, NoFault, Tells, Cut, HasCause, IsBetween}
-use Rattle.bridge_run.specs.Events.{LinkEvent}
-use Rattle.bridge_run.specs.Serves.{MayRunOut, CutShort}
+use Rattle.bridge_run.specs.course.Outside.{Outside, Written, Faults, outside, written, faults, OneRose, NoFault, Tells, Cut, HasCause, IsBetween}
+use Rattle.bridge_run.specs.events.Events.{LinkEvent}
+use Rattle.bridge_run.specs.course.Serves.{MayRunOut, CutShort}
 use Rattle.usbgate_tapes.specs.declared.status.Status.{Status}
 use Rattle.usbgate_tapes.specs.declared.status.Status.TheVariants.{Done, Usage, Refused, ReadFault, WriteFault, LinkFault, OutOfMemory, Idle, Spent}
 use Rattle.usbgate_commands.specs.Serving.{ServeSettings}

@@ -4,15 +4,15 @@ use Rattle.std.specs.Prelude.{◌≡◌, ◌⊎◌, ℕ, true, false, List, [], 
 use Rattle.usb_base.specs.declared.side.Side.{Side}
 use Rattle.gate_outside.specs.Calls.{Call}
 use Rattle.gate_outside.specs.Link.{Link, Door}
-use Rattle.bridge_run.specs.declared.serve_end.ServeEnd.{ServeEnd}
-use Rattle.bridge_run.specs.Course.{AtDoor}
-use Rattle.bridge_run.specs.Events.{LinkEvent}
+use Rattle.bridge_run.specs.declared.course.serve_end.ServeEnd.{ServeEnd}
+use Rattle.bridge_run.specs.course.Course.{AtDoor}
+use Rattle.bridge_run.specs.events.Events.{LinkEvent}
 use Rattle.session_tape.specs.Tapes.{counts}
-use Rattle.bridge_run.specs.Gate.{gate_sends}
-use Rattle.bridge_run.specs.GateStops.{gate_runs_out}
-use Rattle.bridge_run.specs.Log.{Terms, Logged}
-use Rattle.bridge_run.specs.Outside.{Faults, Written, faults, outside, written}
-use Rattle.bridge_run.specs.Prescribed.{Prescribed}
+use Rattle.bridge_run.specs.served.Gate.{gate_sends}
+use Rattle.bridge_run.specs.served.GateStops.{gate_runs_out}
+use Rattle.bridge_run.specs.log.Log.{Terms, Logged}
+use Rattle.bridge_run.specs.course.Outside.{Faults, Written, faults, outside, written}
+use Rattle.bridge_run.specs.events.Prescribed.{Prescribed}
 use Rattle.usbgate_tapes.specs.declared.status.Status.{Status}
 use Rattle.usbgate_commands.specs.declared.serve.TheConstants.{BUDGET}
 use Rattle.usbgate_commands.specs.Lending.{AskedLent}

@@ -4,8 +4,8 @@ use Rattle.usb_base.specs.declared.side.Side.TheVariants.{Client, Host}
 use Rattle.gate_outside.specs.Faults.{Rose}
 use Rattle.session_tape.specs.Lines.{first_comment}
 use Rattle.session_tape.specs.Tapes.{Counts, OneFault, WasThere}
-use Rattle.bridge_run.specs.Log.{IsFront}
-use Rattle.bridge_run.specs.Outside.{Outside, Faults, OneRose}
+use Rattle.bridge_run.specs.log.Log.{IsFront}
+use Rattle.bridge_run.specs.course.Outside.{Outside, Faults, OneRose}
 use Rattle.usbgate_commands.specs.declared.words.Command.{Command}
 use Rattle.usbgate_commands.specs.declared.words.Command.TheVariants.{Serve}
 use Rattle.usbgate_tapes.specs.declared.status.Status.{Status}

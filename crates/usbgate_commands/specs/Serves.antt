@@ -1,19 +1,19 @@
 -- What a run of `serve` or `host` leaves, and how it ends.
 use Rattle.std.specs.Prelude.{◌≡◌, ◌⊎◌, ℕ, List, Option, Some, None, IfSome}
-use Rattle.bridge_run.specs.declared.serve_end.ServeEnd.{ServeEnd}
-use Rattle.bridge_run.specs.declared.serve_end.ServeEnd.TheVariants as end
-use Rattle.bridge_run.specs.Course.{Setting, Course, Next, Making}
-use Rattle.bridge_run.specs.Calls.{Goes}
-use Rattle.bridge_run.specs.Gate.{gate_sends}
-use Rattle.bridge_run.specs.GateStops.{gate_runs_out}
-use Rattle.bridge_run.specs.Events.{LinkEvent}
-use Rattle.bridge_run.specs.Lent.{lent_sends}
-use Rattle.bridge_run.specs.LentStops.{LentStops}
+use Rattle.bridge_run.specs.declared.course.serve_end.ServeEnd.{ServeEnd}
+use Rattle.bridge_run.specs.declared.course.serve_end.ServeEnd.TheVariants as end
+use Rattle.bridge_run.specs.course.Course.{Setting, Course, Next, Making}
+use Rattle.bridge_run.specs.course.Calls.{Goes}
+use Rattle.bridge_run.specs.served.Gate.{gate_sends}
+use Rattle.bridge_run.specs.served.GateStops.{gate_runs_out}
+use Rattle.bridge_run.specs.events.Events.{LinkEvent}
+use Rattle.bridge_run.specs.served.Lent.{lent_sends}
+use Rattle.bridge_run.specs.served.LentStops.{LentStops}
 use Rattle.session_tape.specs.Tapes.{counts}
 use Rattle.session_tape.specs.Lines.{first_comment}
-use Rattle.bridge_run.specs.Outside.{Outside, Written, Faults, written, faults, Tells, HasCause, HasReason}
-use Rattle.bridge_run.specs.Prescribed.{Prescribed}
-use Rattle.bridge_run.specs.Serves.{NothingYet, Leaves}
+use Rattle.bridge_run.specs.course.Outside.{Outside, Written, Faults, written, faults, Tells, HasCause, HasReason}
+use Rattle.bridge_run.specs.events.Prescribed.{Prescribed}
+use Rattle.bridge_run.specs.course.Serves.{NothingYet, Leaves}
 use Rattle.usbgate_tapes.specs.declared.model.device.Device.{Device}
 use Rattle.usbgate_tapes.specs.model.Device.{as_plugged}
 use Rattle.usbgate_tapes.specs.declared.status.Status.{Status}

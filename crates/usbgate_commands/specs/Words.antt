@@ -19,8 +19,8 @@ use Rattle.usbgate_commands.specs.CommandLine.{options, found}
 use Rattle.made_tape.specs.declared.made.TheConstants.{MOST_ROUNDS}
 use Rattle.usbgate_tapes.specs.declared.model.device.Device.{Device}
 use Rattle.usbgate_tapes.specs.model.Device.{named, device_of}
-use Rattle.bridge_run.specs.declared.after_loss.AfterLoss.{AfterLoss}
-use Rattle.bridge_run.specs.declared.after_loss.AfterLoss.TheVariants.{Keep, Close}
+use Rattle.bridge_run.specs.declared.served.after_loss.AfterLoss.{AfterLoss}
+use Rattle.bridge_run.specs.declared.served.after_loss.AfterLoss.TheVariants.{Keep, Close}
 use Rattle.usbgate_commands.specs.Serving.{ServeSettings}
 use Rattle.usbgate_commands.specs.Lending.{AskedLent}
 

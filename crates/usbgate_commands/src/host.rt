@@ -2,7 +2,7 @@
 
 ghost use Rattle.std.specs.Prelude.{◌≡◌, ◌≤◌, false};
 ghost use Rattle.usb_base.specs.declared.side.Side.TheVariants.{Client, Host};
-ghost use Rattle.bridge_run.specs.Log.{Told};
+ghost use Rattle.bridge_run.specs.log.Log.{Told};
 ghost use Rattle.usbgate_commands.specs.Logs.{RunLends};
 ghost use Rattle.usbgate_commands.specs.inner.Lent.{IsLent};
 

@@ -4,12 +4,12 @@ ghost use Rattle.std.specs.Prelude.{◌≡◌, ◌≤◌, ◌<◌, ◌^◌, true
 ghost use Rattle.usb_base.specs.declared.side.Side.TheVariants.{Client, Host};
 ghost use Rattle.gate_outside.specs.Faults.{Rose};
 ghost use Rattle.session_tape.specs.Lines.{first_comment};
-ghost use Rattle.bridge_run.specs.Course.{Making};
-ghost use Rattle.bridge_run.specs.Outside.{outside, written, faults};
+ghost use Rattle.bridge_run.specs.course.Course.{Making};
+ghost use Rattle.bridge_run.specs.course.Outside.{outside, written, faults};
 ghost use Rattle.usbgate_commands.specs.Recording.{IsUnmade, IsUnbegun, HasServed};
-ghost use Rattle.bridge_run.specs.Gate.{gate_sends};
-ghost use Rattle.bridge_run.specs.GateStops.{gate_runs_out};
-ghost use Rattle.bridge_run.specs.Log.{Told};
+ghost use Rattle.bridge_run.specs.served.Gate.{gate_sends};
+ghost use Rattle.bridge_run.specs.served.GateStops.{gate_runs_out};
+ghost use Rattle.bridge_run.specs.log.Log.{Told};
 ghost use Rattle.usbgate_commands.specs.Logs.{HasLog, RunServes, terms_of};
 ghost use Rattle.usbgate_commands.specs.Serves.{EndsOf, setting_of};
 

@@ -3,11 +3,11 @@ use Rattle.std.proofs.Common.{◌≡◌, ℕ, true, false, List, [], ◌∷◌, 
 use Rattle.usb_base.specs.declared.side.Side.TheVariants.{Client, Host}
 use Rattle.gate_outside.specs.declared.turn.Turn.{Turn}
 use Rattle.gate_outside.specs.declared.turn.Turn.TheVariants.{Piece, Wait}
-use Rattle.bridge_run.specs.Events.{LinkEvent, ClientComes, ClientQuiet, SidePiece, SideEnd}
-use Rattle.bridge_run.specs.declared.serve_end.ServeEnd.TheVariants.{Ended}
-use Rattle.bridge_run.specs.Course.{Setting, Course, Making}
-use Rattle.bridge_run.specs.Recorded.{lines_of}
-use Rattle.bridge_run.specs.Calls.{Goes, Stops, calls}
+use Rattle.bridge_run.specs.events.Events.{LinkEvent, ClientComes, ClientQuiet, SidePiece, SideEnd}
+use Rattle.bridge_run.specs.declared.course.serve_end.ServeEnd.TheVariants.{Ended}
+use Rattle.bridge_run.specs.course.Course.{Setting, Course, Making}
+use Rattle.bridge_run.specs.written.Recorded.{lines_of}
+use Rattle.bridge_run.specs.course.Calls.{Goes, Stops, calls}
 
 abbrev echo : List LinkEvent → List ℕ
 echo [] = []

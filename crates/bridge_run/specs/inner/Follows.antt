@@ -2,19 +2,19 @@
 use Rattle.std.specs.Prelude.{◌≡◌, ◌++◌, ◌∷◌, ℕ, Bool, true, false, List, Result, Ok, Err}
 use Rattle.std.specs.List.{flat_map}
 use Rattle.usb_base.specs.Refusal.{refusal_line}
-use Rattle.bridge_run.specs.Events.{LinkEvent}
+use Rattle.bridge_run.specs.events.Events.{LinkEvent}
 use Rattle.usb_base.specs.declared.side.Side.{Side}
 use Rattle.usb_base.specs.declared.side.Side.TheVariants.{Client, Host}
-use Rattle.bridge_run.specs.declared.serve_end.ServeEnd.{ServeEnd}
-use Rattle.bridge_run.specs.declared.serve_end.ServeEnd.TheVariants.{Ended, LinkFault, WriteFault, Idle, Spent, Memory}
-use Rattle.bridge_run.specs.declared.rounds.Rounds.{Rounds}
-use Rattle.bridge_run.specs.declared.sent.Sent.{Sent}
-use Rattle.bridge_run.specs.Prescribed.{Prescribed, gained, drops, first_of}
-use Rattle.bridge_run.specs.Course.{Setting, Course, Next, AtClient, AtHost, AtEnd}
-use Rattle.bridge_run.specs.Calls.{Outcome, Goes, put, make}
-use Rattle.bridge_run.specs.Outside.{Outside, Written, Faults, NoFault, HasCause, Tells, Cut}
-use Rattle.bridge_run.specs.RanOut.{Never}
-use Rattle.bridge_run.specs.Serves.{Reaches, MayRunOut, Leaves}
+use Rattle.bridge_run.specs.declared.course.serve_end.ServeEnd.{ServeEnd}
+use Rattle.bridge_run.specs.declared.course.serve_end.ServeEnd.TheVariants.{Ended, LinkFault, WriteFault, Idle, Spent, Memory}
+use Rattle.bridge_run.specs.declared.course.rounds.Rounds.{Rounds}
+use Rattle.bridge_run.specs.declared.events.sent.Sent.{Sent}
+use Rattle.bridge_run.specs.events.Prescribed.{Prescribed, gained, drops, first_of}
+use Rattle.bridge_run.specs.course.Course.{Setting, Course, Next, AtClient, AtHost, AtEnd}
+use Rattle.bridge_run.specs.course.Calls.{Outcome, Goes, put, make}
+use Rattle.bridge_run.specs.course.Outside.{Outside, Written, Faults, NoFault, HasCause, Tells, Cut}
+use Rattle.bridge_run.specs.events.RanOut.{Never}
+use Rattle.bridge_run.specs.course.Serves.{Reaches, MayRunOut, Leaves}
 
 -- what an event sends, and the lines that tell its refusals
 pub record Prepared (p : Prescribed) (events : List LinkEvent) (e : LinkEvent) (sent : Sent) (lines : List ℕ) : Type 0 where

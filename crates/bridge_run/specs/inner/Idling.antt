@@ -1,10 +1,10 @@
 -- What a part of a round makes of the idle answers.
 use Rattle.std.specs.Prelude.{◌≡◌, ◌⊎◌, ◌≤◌, ◌-◌, ℕ, Bool, true, false, Result, Ok, Err}
 use Rattle.gate_outside.specs.Faults.{one_more}
-use Rattle.bridge_run.specs.declared.serve_end.ServeEnd.{ServeEnd}
-use Rattle.bridge_run.specs.declared.serve_end.ServeEnd.TheVariants.{Ended, LinkFault, WriteFault, Idle, Spent, Memory}
-use Rattle.bridge_run.specs.declared.rounds.Rounds.{Rounds}
-use Rattle.bridge_run.specs.Outside.{Outside, IsDown}
+use Rattle.bridge_run.specs.declared.course.serve_end.ServeEnd.{ServeEnd}
+use Rattle.bridge_run.specs.declared.course.serve_end.ServeEnd.TheVariants.{Ended, LinkFault, WriteFault, Idle, Spent, Memory}
+use Rattle.bridge_run.specs.declared.course.rounds.Rounds.{Rounds}
+use Rattle.bridge_run.specs.course.Outside.{Outside, IsDown}
 
 -- the counts of idle answers stand
 pub record NotIdle (old new : Outside) : Type 0 where

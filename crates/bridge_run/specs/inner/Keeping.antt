@@ -4,11 +4,11 @@ use Rattle.std.specs.Prelude.{◌≡◌, ◌⊎◌, ◌<◌, ◌≤◌, ◌+◌,
 use Rattle.usb_base.specs.declared.side.Side.{Side}
 use Rattle.usb_base.specs.declared.side.Side.TheVariants.{Client, Host}
 use Rattle.usb_base.specs.declared.refusal.Refusal.{Refusal}
-use Rattle.bridge_run.specs.declared.serve_end.ServeEnd.{ServeEnd}
-use Rattle.bridge_run.specs.declared.serve_end.ServeEnd.TheVariants.{Ended, LinkFault, WriteFault, Idle, Spent, Memory}
-use Rattle.bridge_run.specs.declared.rounds.Rounds.{Rounds}
-use Rattle.bridge_run.specs.Prescribed.{refuses, first_of}
-use Rattle.bridge_run.specs.Outside.{Outside}
+use Rattle.bridge_run.specs.declared.course.serve_end.ServeEnd.{ServeEnd}
+use Rattle.bridge_run.specs.declared.course.serve_end.ServeEnd.TheVariants.{Ended, LinkFault, WriteFault, Idle, Spent, Memory}
+use Rattle.bridge_run.specs.declared.course.rounds.Rounds.{Rounds}
+use Rattle.bridge_run.specs.events.Prescribed.{refuses, first_of}
+use Rattle.bridge_run.specs.course.Outside.{Outside}
 
 -- nothing has come, and no client is there
 abbrev pub begun : Bool → ℕ → ℕ → Rounds

@@ -9,13 +9,13 @@ use Rattle.redir_host.specs.step.Acts.{Act}
 use Rattle.redir_host.specs.step.Acts as act
 use Rattle.redir_host.specs.write.Output.{host_out}
 use Rattle.redir_host.specs.step.Stands.{HostStands}
-use Rattle.bridge_run.specs.declared.lent.Lent.{Lent}
-use Rattle.bridge_run.specs.declared.lent.Use.{Use}
-use Rattle.bridge_run.specs.declared.lent.Use.TheVariants.{Perform, Offer}
-use Rattle.bridge_run.specs.Events.{LinkEvent}
-use Rattle.bridge_run.specs.Recorded.{has_any}
-use Rattle.bridge_run.specs.Lent.{acts_of, has_come}
-use Rattle.bridge_run.specs.LentStops.{ActsStop}
+use Rattle.bridge_run.specs.declared.served.lent.Lent.{Lent}
+use Rattle.bridge_run.specs.declared.served.lent.Use.{Use}
+use Rattle.bridge_run.specs.declared.served.lent.Use.TheVariants.{Perform, Offer}
+use Rattle.bridge_run.specs.events.Events.{LinkEvent}
+use Rattle.bridge_run.specs.written.Recorded.{has_any}
+use Rattle.bridge_run.specs.served.Lent.{acts_of, has_come}
+use Rattle.bridge_run.specs.served.LentStops.{ActsStop}
 
 abbrev pub is_refusal : HostNote → Bool
 is_refusal (note.Refused place reason) = true

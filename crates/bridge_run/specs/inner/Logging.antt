@@ -4,16 +4,16 @@ use Rattle.usb_base.specs.declared.side.Side.{Side}
 use Rattle.usb_base.specs.declared.side.Side.TheVariants.{Client, Host}
 use Rattle.gate_outside.specs.Calls.{Call, Close, Called, went}
 use Rattle.gate_outside.specs.Link.{other}
-use Rattle.bridge_run.specs.Events.{LinkEvent, ClientQuiet, SideEnd}
-use Rattle.bridge_run.specs.declared.serve_end.ServeEnd.{ServeEnd}
-use Rattle.bridge_run.specs.declared.serve_end.ServeEnd.TheVariants.{Ended, LinkFault, WriteFault, Idle, Spent, Memory}
-use Rattle.bridge_run.specs.declared.rounds.Rounds.{Rounds}
-use Rattle.bridge_run.specs.Prescribed.{Prescribed, first_of}
-use Rattle.bridge_run.specs.Course.{Next, AtDoor, AtClient, AtHost}
-use Rattle.bridge_run.specs.Calls.{ends_next}
-use Rattle.bridge_run.specs.Ups.{client_at, client_behind, host_at, host_since, told_of, up_by}
-use Rattle.bridge_run.specs.Asks.{Ask, asks_of, taken, has_just_come, quiet_rounds, is_behind_host, last_fault}
-use Rattle.bridge_run.specs.Log.{Terms, events_of, events_before, IsFront, IsWritten, IsWrittenInPart, is_up, GoesOn, is_over, Settled, JustCame, Logged}
+use Rattle.bridge_run.specs.events.Events.{LinkEvent, ClientQuiet, SideEnd}
+use Rattle.bridge_run.specs.declared.course.serve_end.ServeEnd.{ServeEnd}
+use Rattle.bridge_run.specs.declared.course.serve_end.ServeEnd.TheVariants.{Ended, LinkFault, WriteFault, Idle, Spent, Memory}
+use Rattle.bridge_run.specs.declared.course.rounds.Rounds.{Rounds}
+use Rattle.bridge_run.specs.events.Prescribed.{Prescribed, first_of}
+use Rattle.bridge_run.specs.course.Course.{Next, AtDoor, AtClient, AtHost}
+use Rattle.bridge_run.specs.course.Calls.{ends_next}
+use Rattle.bridge_run.specs.written.Ups.{client_at, client_behind, host_at, host_since, told_of, up_by}
+use Rattle.bridge_run.specs.log.Asks.{Ask, asks_of, taken, has_just_come, quiet_rounds, is_behind_host, last_fault}
+use Rattle.bridge_run.specs.log.Log.{Terms, events_of, events_before, IsFront, IsWritten, IsWrittenInPart, is_up, GoesOn, is_over, Settled, JustCame, Logged}
 use Rattle.bridge_run.specs.inner.Keeping.{one_if, is_over as none_up}
 
 -- what is served stands for the events that came, and all is written that they send

@@ -1,8 +1,8 @@
 -- What recording counts.
 use Rattle.std.specs.Prelude.{◌≡◌, Result, Ok, Err}
 use Rattle.session_tape.specs.Tapes.{Counts, OneFault}
-use Rattle.bridge_run.specs.declared.serve_end.ServeEnd.{ServeEnd}
-use Rattle.bridge_run.specs.declared.serve_end.ServeEnd.TheVariants.{Ended, LinkFault, WriteFault, Idle, Spent, Memory}
+use Rattle.bridge_run.specs.declared.course.serve_end.ServeEnd.{ServeEnd}
+use Rattle.bridge_run.specs.declared.course.serve_end.ServeEnd.TheVariants.{Ended, LinkFault, WriteFault, Idle, Spent, Memory}
 
 -- a write fault counts one fault of the tape, want of memory none, and there is no other end
 abbrev pub TapeFaults : {T : Type 0} → Result T ServeEnd → Counts → Counts → Type 0

@@ -1,10 +1,10 @@
 -- What an event has sent.
 use Rattle.std.specs.Prelude.{◌≡◌, ℕ, ◌++◌, ◌∷◌, ◌||◌, List}
-use Rattle.bridge_run.specs.Events.{LinkEvent}
-use Rattle.bridge_run.specs.declared.sent.Sent.{Sent}
-use Rattle.bridge_run.specs.Prescribed.{Prescribed, gained}
-use Rattle.bridge_run.specs.RanOut.{RanOutWithin}
-use Rattle.bridge_run.specs.Log.{IsFront}
+use Rattle.bridge_run.specs.events.Events.{LinkEvent}
+use Rattle.bridge_run.specs.declared.events.sent.Sent.{Sent}
+use Rattle.bridge_run.specs.events.Prescribed.{Prescribed, gained}
+use Rattle.bridge_run.specs.events.RanOut.{RanOutWithin}
+use Rattle.bridge_run.specs.log.Log.{IsFront}
 
 pub record Sends (p : Prescribed) (events : List LinkEvent) (e : LinkEvent) (old new : Sent) : Type 0 where
   pub client : new.to_client ≡ old.to_client ++ gained p.to_client events e

@@ -3,16 +3,16 @@ use Rattle.std.specs.Prelude.{◌≡◌, ◌++◌, ◌∷◌, [], ℕ, if◌then
 use Rattle.usb_base.specs.declared.side.Side.{Side}
 use Rattle.usb_base.specs.declared.side.Side.TheVariants.{Client, Host}
 use Rattle.gate_outside.specs.Calls.{Call, Called, went}
-use Rattle.bridge_run.specs.Events.{LinkEvent}
-use Rattle.bridge_run.specs.declared.serve_end.ServeEnd.{ServeEnd}
-use Rattle.bridge_run.specs.declared.serve_end.ServeEnd.TheVariants.{Ended, LinkFault, WriteFault, Idle, Spent, Memory}
-use Rattle.bridge_run.specs.declared.rounds.Rounds.{Rounds}
-use Rattle.bridge_run.specs.Prescribed.{Prescribed}
-use Rattle.bridge_run.specs.Course.{Course}
-use Rattle.bridge_run.specs.Ups.{client_at, client_behind, host_at, host_since, to_clients, sent_to_host, told_of}
-use Rattle.bridge_run.specs.Asks.{last_fault}
-use Rattle.bridge_run.specs.RanOut.{RanOut}
-use Rattle.bridge_run.specs.Log.{Terms, events_of, events_before, IsFront, IsWritten, IsWrittenInPart, Settled, JustCame}
+use Rattle.bridge_run.specs.events.Events.{LinkEvent}
+use Rattle.bridge_run.specs.declared.course.serve_end.ServeEnd.{ServeEnd}
+use Rattle.bridge_run.specs.declared.course.serve_end.ServeEnd.TheVariants.{Ended, LinkFault, WriteFault, Idle, Spent, Memory}
+use Rattle.bridge_run.specs.declared.course.rounds.Rounds.{Rounds}
+use Rattle.bridge_run.specs.events.Prescribed.{Prescribed}
+use Rattle.bridge_run.specs.course.Course.{Course}
+use Rattle.bridge_run.specs.written.Ups.{client_at, client_behind, host_at, host_since, to_clients, sent_to_host, told_of}
+use Rattle.bridge_run.specs.log.Asks.{last_fault}
+use Rattle.bridge_run.specs.events.RanOut.{RanOut}
+use Rattle.bridge_run.specs.log.Log.{Terms, events_of, events_before, IsFront, IsWritten, IsWrittenInPart, Settled, JustCame}
 
 -- what is kept of the links is the course's
 pub record AreUp (k : Rounds) (c : Course) : Type 0 where

@@ -5,10 +5,10 @@ use Rattle.gate_outside.specs.Calls.{Call}
 use Rattle.gate_outside.specs.Link.{Link, Door}
 use Rattle.session_tape.specs.Tapes.{counts}
 use Rattle.model_device.specs.Meaning.{Meaning}
-use Rattle.bridge_run.specs.Course.{AtDoor}
-use Rattle.bridge_run.specs.Lent.{lent_sends}
-use Rattle.bridge_run.specs.LentStops.{LentStops}
-use Rattle.bridge_run.specs.Outside.{faults, outside, written}
+use Rattle.bridge_run.specs.course.Course.{AtDoor}
+use Rattle.bridge_run.specs.served.Lent.{lent_sends}
+use Rattle.bridge_run.specs.served.LentStops.{LentStops}
+use Rattle.bridge_run.specs.course.Outside.{faults, outside, written}
 use Rattle.usbgate_tapes.specs.declared.status.Status.{Status}
 use Rattle.usbgate_commands.specs.declared.serve.TheConstants.{BUDGET}
 use Rattle.usbgate_commands.specs.Logs.{HasLog}

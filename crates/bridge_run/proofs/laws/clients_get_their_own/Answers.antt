@@ -1,4 +1,4 @@
-use Rattle.bridge_run.proofs.lemmas.calls.Shared.{got-joined, got-sent, earlier-sent}
+use Rattle.bridge_run.proofs.lemmas.log.Shared.{got-joined, got-sent, earlier-sent}
 use Rattle.bridge_run.proofs.laws.clients_get_their_own.Goals as goal
 
 pub returns : goal.returns

@@ -1,4 +1,4 @@
-use Rattle.bridge_run.proofs.lemmas.events.Gather.{reached-few, sent-none, quiet-none, ended-waiting}
+use Rattle.bridge_run.proofs.lemmas.written.Gather.{reached-few, sent-none, quiet-none, ended-waiting}
 use Rattle.bridge_run.proofs.laws.few_lines_wait.Goals as goal
 
 pub returns : goal.returns

@@ -1,5 +1,5 @@
 use Rattle.std.proofs.Common.{inr, refl, sym, ap, ◌∙◌}
-use Rattle.bridge_run.specs.Outside.{written, faults}
+use Rattle.bridge_run.specs.course.Outside.{written, faults}
 use Rattle.usbgate_tapes.specs.tape.EventCommand.{over_events}
 use Rattle.usbgate_tapes.specs.Replay.{replay}
 use Rattle.usbgate_tapes.specs.model.Model.{model_of}

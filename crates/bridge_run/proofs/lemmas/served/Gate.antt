@@ -1,0 +1,46 @@
+-- What an event of a gate sends, by what its gate has gained.
+use Rattle.std.proofs.Common.{◌≡◌, ℕ, ◌||◌, Bool, false, List, ◌∷◌, ◌++◌, Option, Some, sym, ap, ◌∙◌}
+use Rattle.std.specs.List.{cons_option, flat_map, list_any}
+use Rattle.std.proofs.lemmas.Grind.{flat_map-append}
+use Rattle.usb_base.specs.declared.refusal.Refusal.{Refusal}
+use Rattle.gate_history.specs.declared.note.Note.{Note}
+use Rattle.gate_history.specs.step.Events.{Event as GateEvent}
+use Rattle.gate_history.specs.Headline.{client_output, host_output, notes as told_notes, Gains}
+use Rattle.gate_core.specs.state.Kept.{GateKept}
+use Rattle.gate_core.specs.step.Stands.{Takes}
+use Rattle.bridge_run.specs.declared.served.after_loss.AfterLoss.{AfterLoss}
+use Rattle.bridge_run.specs.declared.served.after_loss.AfterLoss.TheVariants.{Keep, Close}
+use Rattle.bridge_run.specs.declared.events.sent.Sent.{Sent}
+use Rattle.bridge_run.specs.events.Events.{LinkEvent}
+use Rattle.gate_history.specs.write.Refusals.{refusal_in}
+use Rattle.bridge_run.specs.served.Gate.{gate_event, gate_events, gate_notes, gate_sends, is_loss, lets_go}
+use Rattle.bridge_run.specs.events.Prescribed.{gained}
+use Rattle.bridge_run.specs.inner.Sends.{Sends}
+use Rattle.bridge_run.proofs.lemmas.served.Acts.{gained-is}
+
+-- of an output that has gained as much
+pub gained-of : (all : List LinkEvent → List ℕ) (past : List LinkEvent) (e : LinkEvent) (old new after : List ℕ) → all (e ∷ past) ≡ after → Gains old new (all past) after → new ≡ old ++ gained all past e
+gained-of all past e old new after is g = g.new-is ∙ ap (λ (l : List ℕ). old ++ l) (sym (gained-is (all past) g.more (all (e ∷ past)) (is ∙ g.after-is)))
+
+let-go : (setting was : AfterLoss) (first : ℕ) (past : List LinkEvent) (e : LinkEvent) (notes : List Note) (gone : Bool) → gained (gate_notes first) past e ≡ notes → (was ≡ Keep → gone ≡ false) → (was ≡ Close → gone ≡ list_any is_loss notes)
+    → was ≡ setting → gone ≡ lets_go setting first (e ∷ past)
+let-go Keep was first past e notes gone told keep close same = keep same
+let-go Close was first past e notes gone told keep close same = close same ∙ ap (list_any is_loss) (sym told)
+
+pub gate-sends : (setting was : AfterLoss) (first : ℕ) (past : List LinkEvent) (e : LinkEvent) (ge : GateEvent) (kept : GateKept) (old : Sent) (client host : List ℕ) (refusals : List Refusal) (gone : Bool) (notes : List Note)
+    → gate_event e ≡ Some ge → Takes first kept (gate_events past) ge old.to_client client old.to_host host notes → refusals ≡ old.refusals ++ flat_map refusal_in notes → (was ≡ Keep → gone ≡ false) → (was ≡ Close → gone ≡ list_any is_loss notes) → was ≡ setting
+    → Sends (gate_sends setting first) past e old (record { to_client = client; to_host = host; refusals = refusals; lets_go = old.lets_go || gone })
+gate-sends setting was first past e ge kept old client host refusals gone notes is t pushed keep close same =
+    let p = gate_sends setting first in
+    let came : gate_events (e ∷ past) ≡ ge ∷ gate_events past = ap (λ (o : Option GateEvent). cons_option o (gate_events past)) is in
+    let told : gate_notes first (e ∷ past) ≡ gate_notes first past ++ notes = ap (told_notes first) came ∙ t.told in
+    let told_is : gained (gate_notes first) past e ≡ notes = gained-is (gate_notes first past) notes (gate_notes first (e ∷ past)) told in
+    let refused : p.refusals (e ∷ past) ≡ p.refusals past ++ flat_map refusal_in notes = ap (flat_map refusal_in) told ∙ flat_map-append refusal_in (gate_notes first past) notes in
+    let refused_is : gained p.refusals past e ≡ flat_map refusal_in notes = gained-is (p.refusals past) (flat_map refusal_in notes) (p.refusals (e ∷ past)) refused in
+    record {
+      client = gained-of p.to_client past e old.to_client client (client_output first (ge ∷ gate_events past)) (ap (client_output first) came) t.client;
+      host = gained-of p.to_host past e old.to_host host (host_output first (ge ∷ gate_events past)) (ap (host_output first) came) t.host;
+      refusals = pushed ∙ ap (λ (l : List Refusal). old.refusals ++ l) (sym refused_is);
+      lets_go = ap (λ (b : Bool). old.lets_go || b) (let-go setting was first past e notes gone told_is keep close same);
+      grows = refused ∙ ap (λ (l : List Refusal). p.refusals past ++ l) (sym refused_is);
+    }

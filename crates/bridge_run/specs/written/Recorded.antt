@@ -1,0 +1,44 @@
+-- The lines of an event on a tape: what came, and a comment for each refusal. When they are written.
+use Rattle.std.specs.Prelude.{ℕ, ◌==◌, ltb, ◌&&◌, ◌||◌, not, Bool, true, false, if◌then◌else◌, List, [], ◌∷◌, ◌++◌, length}
+use Rattle.std.specs.List.{flat_map}
+use Rattle.usb_base.specs.declared.refusal.Refusal.{Refusal}
+use Rattle.session_tape.specs.Lines.{piece_line, end_line, refusal_comment}
+use Rattle.bridge_run.specs.declared.written.recording.TheConstants.{PIECE}
+use Rattle.bridge_run.specs.events.Events.{LinkEvent, SidePiece, SideEnd}
+
+-- a client that comes, or is quiet, has no line
+abbrev pub event_line : LinkEvent → List ℕ
+event_line (SidePiece side b) = piece_line side b
+event_line (SideEnd side) = end_line side
+event_line e = []
+
+abbrev pub lines_of : LinkEvent → List Refusal → List ℕ
+lines_of e refusals = event_line e ++ flat_map refusal_comment refusals
+
+-- ---- when lines are written
+
+abbrev pub has_any : {X : Type 0} → List X → Bool
+has_any [] = false
+has_any (x ∷ xs) = true
+
+-- an event sends bytes to a side, refuses one, or lets the client go
+abbrev pub sends_any : List ℕ → List ℕ → List Refusal → Bool → Bool
+sends_any to_client to_host refusals lets_go = has_any to_client || (has_any to_host || (has_any refusals || lets_go))
+
+-- no link is up, or all is taken that may be
+abbrev pub is_last : Bool → Bool → ℕ → Bool
+is_last client_up host_up left = (not client_up && not host_up) || (left == 0)
+
+-- how many bytes wait at most
+abbrev pub piece : ℕ
+piece = PIECE
+
+abbrev pub is_full : List ℕ → Bool
+is_full lines = not (ltb (length lines) piece)
+
+-- lines that are due are written, and then none wait
+abbrev pub written_if : Bool → List ℕ → List ℕ
+written_if due lines = if due then lines else []
+
+abbrev pub waiting_if : Bool → List ℕ → List ℕ
+waiting_if due lines = if due then [] else lines

@@ -1,0 +1,7 @@
+//! The course of serving, in rounds.
+
+pub mod lending;
+pub mod rounds;
+pub mod serve_end;
+pub mod serving;
+pub mod session;

@@ -1,0 +1,105 @@
+//! The gateway between a host that is dialled and clients that come to a door.
+
+ghost use Rattle.std.specs.Prelude.{◌≡◌, ◌≤◌, ℕ, Bool, [], false, true, Some, OnOk, IfErr};
+ghost use Rattle.usb_base.specs.declared.side.Side.TheVariants.{Client, Host};
+ghost use Rattle.bridge_run.specs.events.Prescribed.{Prescribed};
+ghost use Rattle.bridge_run.specs.course.Course.{Course, Making};
+ghost use Rattle.bridge_run.specs.course.Calls.{Goes};
+ghost use Rattle.bridge_run.specs.course.Outside.{Written, Faults, outside, written, faults, Tells, HasCause, HasReason};
+ghost use Rattle.bridge_run.specs.served.Gate.{gate_sends};
+ghost use Rattle.bridge_run.specs.served.GateStops.{gate_runs_out};
+ghost use Rattle.bridge_run.specs.course.Serves.{NothingYet, Leaves};
+ghost use Rattle.bridge_run.specs.log.Log.{Told, Logged};
+ghost use Rattle.bridge_run.specs.inner.Logging.{OpenLogs};
+ghost use Rattle.bridge_run.specs.inner.Follows.{HasFaults, IsCutEnd, IsOpen, Opens};
+ghost use Rattle.bridge_run.specs.inner.Idling.{NotIdle};
+
+use crate::course::rounds::Rounds;
+use crate::course::serve_end::ServeEnd;
+use crate::course::session::Session;
+use crate::served::after_loss::AfterLoss;
+use crate::served::gate::Gateway;
+use crate::written::link::write_link;
+use gate_core::Gate;
+use gate_outside::{Doors, Side, Sink};
+use session_tape::Tape;
+use std::alloc::Global;
+use usb_base::Bytes;
+
+/// How many bytes a poll takes at most.
+pub const ROOM: usize = 65_536;
+
+/// Dials the host, makes the clients' door, and goes in rounds. A round asks for a client where none is there, and
+/// polls the client and then the host, whose link is up. What comes is an event of a gate that draws its ids from
+/// `first_id` on. Its line is written to the tape, where that is made, and a comment for each refusal. What an event
+/// sends is written to the client and then to the host, where that link is up. Then a side that it refuses has its link
+/// closed, and its line is written to `out`; and where `after_loss` says so, a client whose imported device it loses
+/// has its link closed, too. The end of a client whose link is closed so comes next. It ends after `idle` rounds in a
+/// row that bring nothing, and once `budget` bytes have come, where each client counts as one. The first call that
+/// fails is the last.
+pub fn serve<D: Doors, K: Sink, T: Tape>(
+    alloc: Global,
+    host: &str,
+    listen: &str,
+    idle: u64,
+    budget: u64,
+    first_id: u64,
+    after_loss: AfterLoss,
+    doors: &mut D,
+    out: &mut K,
+    tape: &mut T,
+) -> ServeEnd
+    requires client_down { (D.link doors.old Client).up ≡ false }
+    requires host_down { (D.link doors.old Host).up ≡ false }
+    requires idle { 1 ≤ idle }
+    requires budget { 1 ≤ budget }
+    requires first_id { (1 ≤ first_id) × (first_id ≤ u32.MAX) }
+    // Over doors that tell, and a sink and a tape that may.
+    ensures leaves { (c : Course) → NothingYet idle budget c → Tells (outside (D.link doors.old) (D.door doors.old)) (written (K.contents out.old) (K.contents out.old) (T.contents tape.old)) c
+        → Leaves result (gate_runs_out first_id) (record { served = gate_sends after_loss first_id; idle = idle }) (Goes Making c) (outside (D.link doors.new) (D.door doors.new)) (written (K.contents out.old) (K.contents out.new) (T.contents tape.new)) }
+    // Over any doors, any sink and any tape.
+    ensures log { Logged result D.call_gives (gate_runs_out first_id) (Told K.write_gives out.old out.new) (record { host = Some host.now; door = listen.now; taped = T.made tape.old; idle = idle; budget = budget }) (gate_sends after_loss first_id) doors.old doors.new }
+    ensures cause { HasCause result (outside (D.link doors.old) (D.door doors.old)) (outside (D.link doors.new) (D.door doors.new)) (faults (K.faults out.old) (T.counts tape.old)) (faults (K.faults out.new) (T.counts tape.new)) }
+    ensures reason { HasReason result idle (outside (D.link doors.old) (D.door doors.old)) (outside (D.link doors.new) (D.door doors.new)) }
+{
+    let mut hello = Bytes::new(alloc);
+    let core = match Gate::make(alloc, first_id, &mut hello) {
+        Ok(core) => core,
+        Err(_) => return ServeEnd::Memory,
+    };
+    let mut buf = match vec![in alloc; 0; ROOM] {
+        Ok(buf) => buf,
+        Err(_) => return ServeEnd::Memory,
+    };
+    if let Err(end) = open(host, listen, hello.as_slice(), doors) {
+        return end;
+    }
+    let gateway = Gateway {
+        gate: core,
+        after_loss,
+    };
+    let mut session = Session::new(alloc, gateway, Rounds::new(true, idle, budget));
+    session.run(&mut buf, doors, out, tape)
+}
+
+/// Dials the host, makes the clients' door, and writes the hello.
+fn open<D: Doors>(host: &str, listen: &str, hello: &[u8], doors: &mut D) -> Result<(), ServeEnd>
+    requires client_down { (D.link doors.old Client).up ≡ false }
+    requires host_down { (D.link doors.old Host).up ≡ false }
+    ensures course { (p : Prescribed) (c : Course) (out : Written) → hello.now ≡ p.to_host [] → c.client_up ≡ false → Tells (outside (D.link doors.old) (D.door doors.old)) out c
+        → Opens result p (outside (D.link doors.new) (D.door doors.new)) out c }
+    ensures log { (taped : Bool) (idle budget : ℕ) (p : Prescribed) → hello.now ≡ p.to_host [] → OpenLogs result D.call_gives (record { host = Some host.now; door = listen.now; taped = taped; idle = idle; budget = budget }) p doors.old doors.new }
+    ensures faults { (sink : Faults) → HasFaults result (outside (D.link doors.old) (D.door doors.old)) (outside (D.link doors.new) (D.door doors.new)) sink sink }
+    ensures cut { IfErr result IsCutEnd }
+    ensures idles { OnOk result (NotIdle (outside (D.link doors.old) (D.door doors.old)) (outside (D.link doors.new) (D.door doors.new))) }
+    ensures opened { OnOk result (IsOpen (outside (D.link doors.new) (D.door doors.new))) }
+{
+    if let Err(_) = doors.dial(host) {
+        return Err(ServeEnd::LinkFault(Side::Host));
+    }
+    if let Err(_) = doors.listen(listen) {
+        return Err(ServeEnd::LinkFault(Side::Client));
+    }
+    write_link(doors, Side::Host, true, hello)?;
+    Ok(())
+}

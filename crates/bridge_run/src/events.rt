@@ -1,0 +1,5 @@
+//! What happens, and what it sends.
+
+pub mod event;
+pub mod sent;
+pub mod served;

@@ -1,0 +1,77 @@
+//! The gate as what is served.
+
+ghost use Rattle.std.specs.Prelude.{◌≡◌, false};
+ghost use Rattle.std.specs.List.{list_any};
+ghost use Rattle.bridge_run.specs.served.Gate.{is_loss};
+
+use crate::events::event::LinkEvent;
+use crate::events::sent::Sent;
+use crate::events::served::Served;
+use crate::served::after_loss::AfterLoss;
+use gate_core::Gate;
+use gate_history::{Event as GateEvent, Note, Notes, push_refusals};
+use usb_base::{Memory, Side};
+
+/// A gate, and what becomes of a client whose device is lost.
+#[derive(Drop)]
+pub struct Gateway {
+    pub(crate) gate: Gate,
+    pub(crate) after_loss: AfterLoss,
+}
+
+impl Served for Gateway {
+    ghost use Rattle.std.specs.Prelude.{ℕ, is_some};
+    ghost use Rattle.bridge_run.specs.declared.served.after_loss.AfterLoss.{AfterLoss as Setting};
+    ghost use Rattle.gate_core.specs.step.Stands.{Stands};
+    ghost use Rattle.bridge_run.specs.served.Gate.{gate_event, gate_events, gate_sends};
+    ghost use Rattle.bridge_run.specs.served.GateStops.{gate_runs_out};
+
+    // what becomes of such a client, and the first id
+    ghost First = { Setting × ℕ };
+
+    ghost sends = { λ first. gate_sends first.0 first.1 };
+
+    ghost stands = { λ first gateway events. (gateway.after_loss ≡ first.0) × Stands first.1 gateway.gate (gate_events events) };
+
+    ghost runs_out = { λ first. gate_runs_out first.1 };
+
+    // none at an event that is none to a gate
+    ghost takes_memory = { λ e. is_some (gate_event e) };
+
+    fn take(&mut self, event: LinkEvent, sent: &mut Sent) -> Result<(), Memory> {
+        // That a client has come, or is quiet, is nothing to a gate.
+        let told = match event {
+            LinkEvent::ClientComes | LinkEvent::ClientQuiet => return Ok(()),
+            LinkEvent::SidePiece(Side::Client, bytes) => GateEvent::ClientPiece(bytes),
+            LinkEvent::SidePiece(Side::Host, bytes) => GateEvent::HostPiece(bytes),
+            LinkEvent::SideEnd(Side::Client) => GateEvent::ClientEnd,
+            LinkEvent::SideEnd(Side::Host) => GateEvent::HostEnd,
+        };
+        let notes = self
+            .gate
+            .take(told, &mut sent.to_client, &mut sent.to_host)?;
+        sent.lets_go |= lets_go(self.after_loss, &notes);
+        push_refusals(&notes, &mut sent.refusals)
+    }
+}
+
+/// Whether the client is let go where these are the notes of an event.
+fn lets_go(after_loss: AfterLoss, notes: &Notes) -> bool
+    ensures keep { after_loss ≡ AfterLoss.Keep → result ≡ false }
+    ensures close { after_loss ≡ AfterLoss.Close → result ≡ list_any is_loss notes.now }
+{
+    match after_loss {
+        AfterLoss::Keep => false,
+        AfterLoss::Close => has_loss(notes),
+    }
+}
+
+/// Whether the notes tell that the imported device is lost.
+fn has_loss(notes: &Notes) -> bool
+    ensures { result ≡ list_any is_loss notes.now }
+{
+    notes
+        .as_slice()
+        .iter()
+        .any(|note| matches!(note, Note::DeviceGone))
+}

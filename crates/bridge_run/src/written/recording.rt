@@ -1,0 +1,100 @@
+//! What is recorded of an event.
+
+ghost use Rattle.std.specs.Prelude.{◌≡◌, ◌++◌, ◌||◌, true, OnOk, OnErr, IfErr, IfSome};
+ghost use Rattle.std.specs.List.{flat_map};
+ghost use Rattle.std.specs.Io.KnownBytes.{append_known};
+ghost use Rattle.session_tape.specs.Lines.{refusal_comment};
+ghost use Rattle.session_tape.specs.Tapes.{GrowsInPart};
+ghost use Rattle.bridge_run.specs.events.Events.{event_of};
+ghost use Rattle.bridge_run.specs.events.RanOut.{is_recorded};
+ghost use Rattle.bridge_run.specs.written.Recorded.{has_any, event_line, lines_of, is_full as are_full, written_if, waiting_if};
+ghost use Rattle.bridge_run.specs.inner.Follows.{IsCutEnd};
+ghost use Rattle.bridge_run.specs.inner.Recording.{TapeFaults};
+
+use crate::course::serve_end::ServeEnd;
+use crate::events::event::LinkEvent;
+use crate::events::sent::Sent;
+use session_tape::{Tape, push_end, push_piece, push_refusal, record};
+use std::alloc::Global;
+use usb_base::{Bytes, List, Memory, Refusal};
+
+/// How many bytes of lines are written at the latest.
+const PIECE: usize = 65_536;
+
+/// Puts the event's line behind those that wait, where the tape is made, and a comment for each refusal that it sends.
+/// Where they are due, or 64 KiB wait, all of them are written to the tape.
+pub fn record_event<T: Tape>(
+    alloc: Global,
+    event: LinkEvent,
+    sent: &Sent,
+    due: bool,
+    waiting: &mut Bytes,
+    tape: &mut T,
+) -> Result<(), ServeEnd>
+    ensures ok { OnOk result (T.contents tape.new ≡ append_known (T.contents tape.old) (written_if (due || are_full (waiting.old ++ lines_of (event_of event.entry) sent.now.refusals)) (waiting.old ++ lines_of (event_of event.entry) sent.now.refusals))) }
+    ensures waits { OnOk result (IfSome (T.contents tape.new) (λ held. waiting.new ≡ waiting_if (due || are_full (waiting.old ++ lines_of (event_of event.entry) sent.now.refusals)) (waiting.old ++ lines_of (event_of event.entry) sent.now.refusals))) }
+    ensures err { OnErr result (GrowsInPart (T.contents tape.old) (T.contents tape.new) (written_if (due || are_full (waiting.old ++ lines_of (event_of event.entry) sent.now.refusals)) (waiting.old ++ lines_of (event_of event.entry) sent.now.refusals))) }
+    ensures made { T.made tape.new ≡ T.made tape.old }
+    ensures cause { TapeFaults result (T.counts tape.old) (T.counts tape.new) }
+    ensures cut { IfErr result IsCutEnd }
+    ensures wants { IfErr result (λ end. end ≡ ServeEnd.Memory → (T.made tape.old ≡ true) × ((is_recorded (event_of event.entry) || has_any sent.now.refusals) ≡ true)) }
+{
+    if !tape.is_made() {
+        return Ok(());
+    }
+    push_event(event, waiting)?;
+    push_refusals(alloc, &sent.refusals, waiting)?;
+    let is_due = due || is_full(waiting);
+    write_waiting(is_due, waiting, tape)
+}
+
+/// Writes the lines that wait to the tape, where they are due and it is made. Then none wait.
+pub fn write_waiting<T: Tape>(due: bool, waiting: &mut Bytes, tape: &mut T) -> Result<(), ServeEnd>
+    ensures ok { OnOk result (T.contents tape.new ≡ append_known (T.contents tape.old) (written_if due waiting.old)) }
+    ensures waits { OnOk result (IfSome (T.contents tape.new) (λ held. waiting.new ≡ waiting_if due waiting.old)) }
+    ensures err { OnErr result (GrowsInPart (T.contents tape.old) (T.contents tape.new) (written_if due waiting.old)) }
+    ensures made { T.made tape.new ≡ T.made tape.old }
+    ensures cause { TapeFaults result (T.counts tape.old) (T.counts tape.new) }
+    ensures cut { IfErr result IsCutEnd }
+    ensures fault { IfErr result (λ end. end ≡ ServeEnd.WriteFault) }
+    ensures wanted { OnErr result ((due ≡ true) × (T.made tape.old ≡ true)) }
+{
+    if !due || !tape.is_made() {
+        return Ok(());
+    }
+    match record(tape, waiting.as_slice()) {
+        Ok(()) => {
+            waiting.clear();
+            Ok(())
+        }
+        Err(_) => Err(ServeEnd::WriteFault),
+    }
+}
+
+/// Whether as many bytes wait as are written at the latest.
+fn is_full(waiting: &Bytes) -> bool
+    ensures { result ≡ are_full waiting.now }
+{
+    waiting.len() >= PIECE
+}
+
+fn push_event(event: LinkEvent, text: &mut Bytes) -> Result<(), Memory>
+    ensures pushed { OnOk result (text.new ≡ text.old ++ event_line (event_of event.entry)) }
+    ensures wants { OnErr result (is_recorded (event_of event.entry) ≡ true) }
+{
+    match event {
+        LinkEvent::ClientComes | LinkEvent::ClientQuiet => Ok(()),
+        LinkEvent::SidePiece(side, bytes) => push_piece(side, bytes, text),
+        LinkEvent::SideEnd(side) => push_end(side, text),
+    }
+}
+
+fn push_refusals(alloc: Global, refusals: &List<Refusal>, text: &mut Bytes) -> Result<(), Memory>
+    ensures pushed { OnOk result (text.new ≡ text.old ++ flat_map refusal_comment refusals.now) }
+    ensures wants { OnErr result (has_any refusals.now ≡ true) }
+{
+    for refusal in refusals.as_slice() {
+        push_refusal(alloc, refusal, text)?;
+    }
+    Ok(())
+}
