@@ -1,7 +1,8 @@
 -- How a transfer ended: usbredir's bytes, and the error numbers of Linux that USB/IP has.
-use Rattle.std.specs.Prelude.{ℕ, Bool, true, false, [], ◌∷◌, get_or, ℤ, pos, negsuc}
+use Rattle.std.specs.Prelude.{ℕ, Bool, true, false, [], ◌∷◌, get_or, ℤ, pos}
 use Rattle.usb_base.specs.declared.status.UsbStatus.{UsbStatus}
 use Rattle.usb_base.specs.declared.status.UsbStatus.TheVariants.{Success, Cancelled, Inval, IoError, Stall, Timeout, Babble, Other}
+use Rattle.usb_base.specs.declared.errno.TheConstants.{EINVAL, EPIPE, EPROTO, EOVERFLOW, ECONNRESET, ETIMEDOUT}
 
 -- the statuses that have a name, by their bytes from 0 on
 abbrev pub status_of : ℕ → UsbStatus
@@ -21,12 +22,12 @@ abbrev pub is_success : UsbStatus → Bool
 is_success Success = true
 is_success _ = false
 
--- the negative number n is `negsuc (n - 1)`: -104 ECONNRESET, -22 EINVAL, -71 EPROTO, -32 EPIPE, -110 ETIMEDOUT, -75 EOVERFLOW
+-- negatives of Linux error numbers
 abbrev pub errno_of : UsbStatus → ℤ
 errno_of Success = pos 0
-errno_of Cancelled = negsuc 103
-errno_of Inval = negsuc 21
-errno_of Stall = negsuc 31
-errno_of Timeout = negsuc 109
-errno_of Babble = negsuc 74
-errno_of _ = negsuc 70
+errno_of Cancelled = ECONNRESET
+errno_of Inval = EINVAL
+errno_of Stall = EPIPE
+errno_of Timeout = ETIMEDOUT
+errno_of Babble = EOVERFLOW
+errno_of _ = EPROTO

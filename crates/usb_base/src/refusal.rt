@@ -16,7 +16,8 @@ pub struct Refusal {
     pub place: u64,
     /// What is wrong there.
     pub reason: Reason,
-    /// Of a `Mismatch` the type that was expected, and the one that came.
+    /// Of a `Mismatch` what was expected, and what came: the type of an answer, else its endpoint, else its length, of
+    /// which at most so much was expected.
     pub kept: Option<(u64, u64)>,
 }
 

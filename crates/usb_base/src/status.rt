@@ -3,6 +3,8 @@
 ghost use Rattle.std.specs.Prelude.{◌≡◌, ℕ, ◌<◌};
 ghost use Rattle.usb_base.specs.Status.{status_of, status_byte, errno_of, is_success};
 
+use crate::errno;
+
 /// How a transfer ended, as usbredir tells it (protocol description, section "usb_redir status codes").
 #[derive(Clone, Copy, PartialEq, Eq)]
 pub enum UsbStatus {
@@ -66,12 +68,12 @@ impl UsbStatus {
     {
         match self {
             UsbStatus::Success => 0,
-            UsbStatus::Cancelled => -104,
-            UsbStatus::Inval => -22,
-            UsbStatus::IoError | UsbStatus::Other(_) => -71,
-            UsbStatus::Stall => -32,
-            UsbStatus::Timeout => -110,
-            UsbStatus::Babble => -75,
+            UsbStatus::Cancelled => errno::ECONNRESET,
+            UsbStatus::Inval => errno::EINVAL,
+            UsbStatus::IoError | UsbStatus::Other(_) => errno::EPROTO,
+            UsbStatus::Stall => errno::EPIPE,
+            UsbStatus::Timeout => errno::ETIMEDOUT,
+            UsbStatus::Babble => errno::EOVERFLOW,
         }
     }
 }
