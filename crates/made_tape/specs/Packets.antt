@@ -1,6 +1,8 @@
 -- The packets of a made tape's client ("usbip_protocol", OP_REQ_IMPORT, USBIP_CMD_SUBMIT and USBIP_CMD_UNLINK). Its submits
 -- have no flags and no isochronous packets.
-use Rattle.std.specs.Prelude.{ℕ, ◌+◌, ◌*◌, ◌%◌, List, [], ◌∷◌, ◌++◌, codes, replicate}
+use Rattle.std.specs.Prelude.{ℕ, ◌+◌, ◌*◌, ◌%◌, List, [], ◌∷◌, replicate}
+use Rattle.usb_base.specs.Text.{padded}
+use Rattle.usbip_op.specs.declared.exported.TheConstants.{BUS_ID}
 use Rattle.usbip_op.specs.declared.packet.OpPacket.TheVariants.{ReqImport}
 use Rattle.usbip_op.specs.Spelling.{spelling as op_spelling}
 use Rattle.usbip_urb.specs.declared.packet.Head.{Head}
@@ -10,9 +12,9 @@ use Rattle.usbip_urb.specs.declared.code.TheConstants.{EXPORTED_DEVID, USBIP_DIR
 use Rattle.usbip_urb.specs.Spelling.{spelling}
 use Rattle.made_tape.specs.declared.packet.TheConstants.{UNLINKS}
 
--- of the device with the bus id 1-1
+-- of the one device that a gateway exports
 abbrev pub import_bytes : List ℕ
-import_bytes = op_spelling (ReqImport 0 (codes "1-1" ++ replicate 29 0))
+import_bytes = op_spelling (ReqImport 0 (padded 32 BUS_ID))
 
 abbrev pub head_of : (seqnum direction ep : ℕ) → Head
 head_of seqnum direction ep = record { seqnum = seqnum; devid = EXPORTED_DEVID; direction = direction; ep = ep }

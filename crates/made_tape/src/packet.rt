@@ -6,17 +6,11 @@ ghost use Rattle.usbip_urb.specs.Spelling.{spelling};
 ghost use Rattle.made_tape.specs.Packets.{import_bytes, submit_packet, configure_bytes, send_bytes, ask_bytes, take_back_bytes};
 
 use std::alloc::Global;
-use usb_base::{Bytes, List, Memory};
-use usbip_op::{OpPacket, write_op};
+use usb_base::{Bytes, List, Memory, padded};
+use usbip_op::{BUS_ID, OpPacket, write_op};
 use usbip_urb::{
     EXPORTED_DEVID, Head, Submit, USBIP_DIR_IN, USBIP_DIR_OUT, Unlink, UrbPacket, write_urb,
 };
-
-/// The bus id `1-1` in its field.
-const BUSID: [u8; 32] = [
-    b'1', b'-', b'1', 0, 0, 0, 0, 0, 0, 0, 0, 0, 0, 0, 0, 0, 0, 0, 0, 0, 0, 0, 0, 0, 0, 0, 0, 0, 0,
-    0, 0, 0,
-];
 
 /// SET_CONFIGURATION with the value 1.
 const CONFIGURE: [u8; 8] = [0, 9, 1, 0, 0, 0, 0, 0];
@@ -31,7 +25,7 @@ pub fn import(alloc: Global) -> Result<Bytes, Memory>
     let mut bytes = Bytes::new(alloc);
     let packet = OpPacket::ReqImport {
         status: 0,
-        busid: BUSID,
+        busid: padded(&BUS_ID),
     };
     write_op(&packet, &mut bytes)?;
     Ok(bytes)

@@ -1,7 +1,9 @@
 //! What the first four bytes of a packet say: the version, and then what the packet is; and what a list is kept
 //! to.
 
-ghost use Rattle.std.specs.Prelude.{◌≡◌};
+ghost use Rattle.std.specs.Prelude.{◌≡◌, codes};
+
+use crate::exported::{BUS_ID, BUS_NUMBER, DEVICE_NUMBER};
 
 /// The protocol's version 1.1.1.
 pub const USBIP_VERSION: u16 = 0x0111;
@@ -24,4 +26,5 @@ pub fn protocol_numbers()
     ensures list { (OP_REQ_DEVLIST ≡ 0x8005) × (OP_REP_DEVLIST ≡ 0x0005) }
     ensures import { (OP_REQ_IMPORT ≡ 0x8003) × (OP_REP_IMPORT ≡ 0x0003) }
     ensures devices { MAX_DEVICES ≡ 1024 }
+    ensures exported { (BUS_ID ≡ codes "1-1") × (BUS_NUMBER ≡ 1) × (DEVICE_NUMBER ≡ 2) }
 {}

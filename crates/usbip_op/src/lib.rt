@@ -4,6 +4,7 @@
 
 mod check;
 mod code;
+mod exported;
 mod next;
 mod packet;
 mod read;
@@ -14,6 +15,7 @@ pub use code::{
     MAX_DEVICES, OP_REP_DEVLIST, OP_REP_IMPORT, OP_REQ_DEVLIST, OP_REQ_IMPORT, USBIP_VERSION,
     protocol_numbers,
 };
+pub use exported::{BUS_ID, BUS_NUMBER, DEVICE_NUMBER};
 pub use next::next_op;
 pub use packet::{
     DeviceRow, IfaceRow, IfaceRows, Listed, ListedRows, OpError, OpPacket, OpRead, OpWay,

@@ -3,6 +3,9 @@
 
 ghost use Rattle.std.specs.Prelude.{◌≡◌, ◌+◌, ◌*◌};
 
+use usb_base::{LONGEST_CLIENT_PACKET, MAX_TRANSFER};
+use usbip_op::{BUS_NUMBER, DEVICE_NUMBER};
+
 /// Asks for a transfer.
 pub const USBIP_CMD_SUBMIT: u32 = 1;
 /// Asks to take back a submit.
@@ -20,21 +23,21 @@ pub const USBIP_DIR_IN: u32 = 1;
 /// A number_of_packets that means none, as 0 does.
 pub const NO_PACKETS: u32 = 0xFFFF_FFFF;
 
-/// The devid of the one device that this gateway exports: bus 1, device 2.
-pub const EXPORTED_DEVID: u32 = 0x0001_0002;
+/// The devid of the one device that this gateway exports: the number of its bus, and its own.
+pub const EXPORTED_DEVID: u32 = BUS_NUMBER << 16 | DEVICE_NUMBER;
 /// The greatest endpoint number.
 pub const MAX_ENDPOINT: u32 = 15;
 /// How many submits may be in flight.
 pub const MAX_LIVE: usize = 4096;
 /// The longest transfer, in bytes: 16 MiB.
-pub const MAX_LENGTH: u32 = 16_777_216;
+pub const MAX_LENGTH: u32 = MAX_TRANSFER;
 /// The most isochronous packets of a transfer.
 pub const MAX_PACKETS: u32 = 1024;
 /// The longest isochronous packet, in bytes.
 pub const MAX_PACKET_LENGTH: u32 = 65_535;
 
 /// The longest packet, in bytes: a submit with its head, the longest body and the most descriptors.
-pub const LONGEST_PACKET: usize = 16_793_648;
+pub const LONGEST_PACKET: usize = LONGEST_CLIENT_PACKET;
 
 /// How many bytes a packet has up to its body.
 pub const HEAD_SIZE: usize = 48;
@@ -51,4 +54,5 @@ pub fn protocol_numbers()
     ensures none { NO_PACKETS ≡ 0xFFFF_FFFF }
     ensures limits { (MAX_LIVE ≡ 4096) × (MAX_LENGTH ≡ 16777216) × (MAX_PACKETS ≡ 1024) × (MAX_PACKET_LENGTH ≡ 65535) }
     ensures longest { LONGEST_PACKET ≡ 48 + 16777216 + 1024 * 16 }
+    ensures parts { LONGEST_PACKET ≡ HEAD_SIZE + MAX_LENGTH + MAX_PACKETS * DESC_SIZE }
 {}
