@@ -130,6 +130,14 @@ read-ahead {S = S} r w step s t bytes old new (inr (is, same, none)) up e =
     ∙ ap (λ y. f old.stream y (broken_by step old.broken)) none ∙ ap (λ z. f old.stream old.ahead (broken_by z old.broken)) is in
     subst (λ z. Waited r w 0 old z) (sym stands) (waited-none r w old)
 
+-- the same of a link that is seen so, where no error came
+pub read-whole : {S : Type 0} {r w : S → List ℕ → Result ℕ Error → S → Type 0} {step : Step} {s t : S} {bytes : List ℕ} {old seen : State S} →
+    old ≡ seen → ReadsAhead r step s t old.ahead bytes → old.stream ≡ Some s → broken_by step old.broken ≡ old.broken →
+    Waited r w 0 seen (record old { stream = Some t; ahead = bytes })
+read-whole {S = S} {r = r} {w = w} {step = step} {s = s} {t = t} {bytes = bytes} {old = old} seen reads up whole =
+    let new : State S = record old { stream = Some t; ahead = bytes } in
+    subst (λ (o : State S). Waited r w 0 o new) seen (read-ahead r w step s t bytes old new reads up (ap (λ b. record new { broken = b }) (sym whole)))
+
 -- the link was written to once
 called-once : {S : Type 0} (r w : S → List ℕ → Result ℕ Error → S → Type 0) (step : Step) (piece : List ℕ) (answer : Result ℕ Error) (s t : S) (old new : State S) →
     old.stream ≡ Some s → w s piece answer t → step ≡ step_for answer →

@@ -3,6 +3,7 @@ use Rattle.std.specs.Prelude.{◌≡◌, ◌<◌, ◌⊎◌, ℕ, min, nat_lt, i
 use Rattle.std.specs.declared.io.Error.{Error}
 use Rattle.gate_outside.specs.declared.turn.Polled.{Polled}
 use Rattle.gate_outside.specs.declared.turn.Polled.TheVariants.{Took, NotYet, Ended}
+use Rattle.gate_sockets.specs.declared.limits.TheConstants.{RESTS}
 use Rattle.gate_sockets.specs.declared.step.Step.{Step}
 use Rattle.gate_sockets.specs.declared.step.Step.TheVariants.{Moved, Blocked, Cut, Broken}
 use Rattle.gate_sockets.specs.State.{State, closed, idled}
@@ -11,7 +12,7 @@ use Rattle.gate_sockets.specs.Step.{step_for}
 -- how many polls pass a link over of which a read has taken all that was there, or had to wait, where the system tells of
 -- nothing before
 abbrev pub most_rests : ℕ
-most_rests = 8
+most_rests = RESTS
 
 -- the link's state once it was read
 abbrev pub read_to : {S : Type 0} → S → State S → State S

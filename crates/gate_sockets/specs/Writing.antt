@@ -1,14 +1,15 @@
 -- What a write asks of its connection, and what is read ahead while it waits.
-use Rattle.std.specs.Prelude.{◌≡◌, ◌<◌, ◌≤◌, ℕ, Bool, true, false, List, [], length, take, Option, Some, None, Result, Ok, Err}
+use Rattle.std.specs.Prelude.{◌≡◌, ◌<◌, ◌≤◌, ◌+◌, ℕ, Bool, true, false, List, [], length, take, Option, Some, None, Result, Ok, Err}
 use Rattle.std.specs.declared.io.Error.{Error}
+use Rattle.gate_sockets.specs.declared.limits.TheConstants.{TRIES}
 use Rattle.gate_sockets.specs.declared.step.Step.{Step}
 use Rattle.gate_sockets.specs.declared.step.Step.TheVariants.{Moved, Blocked, Cut, Broken}
 use Rattle.gate_sockets.specs.Calls.{Call, Calls, came, went, tries, broken}
 use Rattle.gate_sockets.specs.State.{State, broke, faulted}
 
--- how often a write is tried that can't go on
+-- how often a write is tried that can't go on, the last try among them
 abbrev pub most_tries : ℕ
-most_tries = 1000001
+most_tries = TRIES + 1
 
 -- the connection took these calls, one after the other: what the reads gave stands behind what was read ahead, and an
 -- error has broken the link

@@ -8,6 +8,7 @@
 
 mod ahead;
 mod connection;
+mod limits;
 mod network;
 mod pace;
 mod ready;
@@ -17,5 +18,6 @@ mod tcp_doors;
 mod telling;
 
 pub use connection::Connection;
+pub use limits::socket_limits;
 pub use network::Network;
 pub use tcp_doors::TcpDoors;

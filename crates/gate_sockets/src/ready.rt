@@ -19,9 +19,10 @@ const READ_WAIT_MILLIS: u64 = 10;
 /// How often one looks without sleeping before one waits, behind something that came or went.
 const EAGER_LOOKS: u32 = 64;
 
-/// How often in a row that may be in vain before it is tried at each so many waits alone.
+/// How often in a row such looks may find nothing before most waits begin without them.
 const VAIN: u32 = 4;
 
+/// From then on, until they find something again, one wait of so many begins with them.
 const SELDOM: u32 = 16;
 
 /// How long a blocked write waits at most before it is tried again.

@@ -8,6 +8,7 @@ ghost use Rattle.gate_sockets.specs.Writing.{ReadOn, WroteOnce, Takes};
 
 use crate::ahead::Ahead;
 use crate::connection::Connection;
+use crate::limits::RESTS;
 use crate::network::Network;
 use crate::ready::Ready;
 use crate::step::{Step, step_of};
@@ -23,10 +24,6 @@ const CHUNK: usize = 16_384;
 
 /// How often in a row.
 const CHUNKS: u32 = 256;
-
-/// At which poll a link is read again of which a read has taken all that was there, or had to wait, where the system
-/// tells of nothing before.
-const RESTS: u32 = 8;
 
 /// A connection while there is one, and its counts.
 #[derive(Drop)]

@@ -7,6 +7,7 @@ ghost use Rattle.gate_sockets.specs.Writing.{ReadOn, WroteOnce};
 ghost use Rattle.gate_outside.specs.Link.{other};
 
 use crate::connection::Connection;
+use crate::limits::TRIES;
 use crate::network::Network;
 use crate::ready::Ready;
 use crate::socket::Socket;
@@ -17,18 +18,16 @@ use std::io;
 use std::io::ErrorKind;
 use std::marker::Model;
 use std::time::Duration;
-
-/// How often a write that is blocked is tried before its last try.
-const TRIES: u32 = 1_000_000;
+use usb_base::{LONGEST_CLIENT_PACKET, LONGEST_HOST_PACKET};
 
 /// How often a blocked write waits for its turn before anything is read ahead.
 const PATIENCE: u32 = 8;
 
 /// How many bytes of the client's link are read ahead at most: one less than its longest packet has.
-const CLIENT_AHEAD: usize = 16_793_647;
+const CLIENT_AHEAD: usize = LONGEST_CLIENT_PACKET - 1;
 
 /// How many of the host's, likewise.
-const HOST_AHEAD: usize = 16_777_295;
+const HOST_AHEAD: usize = LONGEST_HOST_PACKET - 1;
 
 /// Connections of a network. The contracts say what each call asked of them, and what they answered: a poll gives what
 /// was read ahead, or is one read and tells what that gave; the bytes that a write tells as written are those that the
