@@ -7,13 +7,7 @@ use Rattle.usb_base.specs.declared.endpoint.EpKind.TheVariants.{Iso, Interrupt}
 use Rattle.usb_base.specs.Endpoint.{is_in_endpoint}
 use Rattle.chapter9.specs.declared.part.Part.{Part}
 use Rattle.chapter9.specs.declared.part.Part.TheVariants.{Endpoint}
-
--- how many microseconds a frame has, at full and low speed, and a microframe, at high speed and above
-abbrev pub frame : ℕ
-frame = 1000
-
-abbrev pub microframe : ℕ
-microframe = 125
+use Rattle.usbgate_commands.specs.declared.interval.TheConstants.{FRAME, MICROFRAME}
 
 -- a unit of time, doubled once less than the interval says, which is from 1 to 16
 abbrev pub doubled : ℕ → ℕ → Option ℕ
@@ -21,18 +15,18 @@ doubled unit n = if nat_lt 0 n && nat_lt n 17 then Some (unit * 2 ^ (n - 1)) els
 
 -- so many frames
 abbrev pub frames : ℕ → Option ℕ
-frames n = if nat_lt 0 n then Some (frame * n) else None
+frames n = if nat_lt 0 n then Some (FRAME * n) else None
 
 -- at high speed and above intervals are powers of two in microframes
 abbrev pub in_microframes : EpKind → ℕ → Option ℕ
-in_microframes Interrupt n = doubled microframe n
-in_microframes Iso n = doubled microframe n
+in_microframes Interrupt n = doubled MICROFRAME n
+in_microframes Iso n = doubled MICROFRAME n
 in_microframes _ n = None
 
 -- at full and low speed they are in frames, of an isochronous endpoint as a power of two
 abbrev pub in_frames : EpKind → ℕ → Option ℕ
 in_frames Interrupt n = frames n
-in_frames Iso n = doubled frame n
+in_frames Iso n = doubled FRAME n
 in_frames _ n = None
 
 abbrev pub micros : Speed → EpKind → ℕ → Option ℕ

@@ -12,6 +12,12 @@ pub const FRAME: u64 = 1000;
 /// How many a microframe has, at high speed and above.
 pub const MICROFRAME: u64 = 125;
 
+/// A law: the units that definitions name are these.
+pub fn interval_units()
+    ensures frame { FRAME ≡ 1000 }
+    ensures microframe { MICROFRAME ≡ 125 }
+{}
+
 /// The shortest interval in microseconds of the IN endpoints among these descriptors that have one.
 #[tactic(auto, using(crate::proofs::Intervals::shorter_assoc))]
 pub fn shortest_micros(speed: Speed, parts: &[Part]) -> Option<u64>

@@ -15,6 +15,7 @@ mod words;
 mod wrong;
 
 pub use ended::ended_as;
+pub use interval::interval_units;
 pub use lending::Lending;
 pub use pace::pace_of;
 pub use serving::Serving;
