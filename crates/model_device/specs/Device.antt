@@ -10,6 +10,7 @@ use Rattle.usb_base.specs.declared.speed.Speed.{Speed}
 use Rattle.usb_base.specs.declared.transfer.Transfer.{Transfer}
 use Rattle.usb_base.specs.declared.transfer.Outcome.{Outcome}
 use Rattle.usb_base.specs.declared.transfer.StreamPacket.{StreamPacket}
+use Rattle.redir_wire.specs.declared.packet.TheConstants.{INTERFACE_CELLS}
 use Rattle.redir_wire.specs.declared.packet.Connect.{Connect}
 use Rattle.redir_wire.specs.declared.packet.InterfaceInfo.{InterfaceInfo}
 use Rattle.chapter9.specs.declared.part.Part.{Part}
@@ -78,7 +79,7 @@ identity_of speed set = record {
 }
 
 abbrev pub no_bytes : List ℕ
-no_bytes = replicate 32 0
+no_bytes = replicate INTERFACE_CELLS 0
 
 abbrev pub no_interface : InterfaceInfo
 no_interface = record { count = 0; interface = no_bytes; class = no_bytes; subclass = no_bytes; protocol = no_bytes }

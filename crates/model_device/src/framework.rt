@@ -12,7 +12,7 @@ ghost use Rattle.model_device.specs.Transfer.{asks_change};
 
 use chapter9::{DescriptorSet, DevState, Parts, WalkError, class_of, standard, table_of, walk};
 use control_route::{is_change, route_of};
-use redir_wire::{Connect, InterfaceInfo};
+use redir_wire::{Connect, INTERFACE_CELLS, InterfaceInfo};
 use std::alloc::Global;
 use usb_base::{EpAddr, EpKind, EpTable, Memory, Outcome, Speed, Transfer, le_u16_at};
 
@@ -74,10 +74,10 @@ impl Framework {
     {
         let mut info = InterfaceInfo {
             count: 0,
-            interface: [0; 32],
-            class: [0; 32],
-            subclass: [0; 32],
-            protocol: [0; 32],
+            interface: [0; INTERFACE_CELLS],
+            class: [0; INTERFACE_CELLS],
+            subclass: [0; INTERFACE_CELLS],
+            protocol: [0; INTERFACE_CELLS],
         };
         if self.state.is_configured() {
             info.count = 1;

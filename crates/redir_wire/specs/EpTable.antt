@@ -1,6 +1,7 @@
 -- The table of endpoints that an ep_info tells.
 use Rattle.std.specs.Prelude.{ℕ, zero, suc, List, [], ◌∷◌, ◌++◌, get_or}
 use Rattle.usb_base.specs.Endpoint.{kind_of_byte}
+use Rattle.usb_base.specs.declared.endpoint.TheConstants.{ENDPOINTS}
 use Rattle.usb_base.specs.declared.endpoint.EpRow.{EpRow}
 use Rattle.usb_base.specs.declared.endpoint.EpTable.{EpTable}
 use Rattle.redir_wire.specs.declared.packet.EpInfo.{EpInfo}
@@ -15,4 +16,4 @@ ep_rows e zero = []
 ep_rows e (suc n) = ep_rows e n ++ ep_row e n ∷ []
 
 abbrev pub table_of : EpInfo → EpTable
-table_of e = record { rows = ep_rows e 32 }
+table_of e = record { rows = ep_rows e ENDPOINTS }

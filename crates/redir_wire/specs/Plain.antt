@@ -6,6 +6,7 @@ use Rattle.usb_base.specs.declared.reason.Reason.{Reason}
 use Rattle.usb_base.specs.declared.reason.Reason.TheVariants.{Count}
 use Rattle.usb_base.specs.Number.{le_at}
 use Rattle.packet_stream.specs.Format.{Format}
+use Rattle.redir_wire.specs.declared.packet.TheConstants.{MAX_INTERFACES}
 use Rattle.redir_wire.specs.declared.packet.Caps.{Caps}
 use Rattle.redir_wire.specs.declared.packet.Way.{Way}
 use Rattle.redir_wire.specs.declared.packet.Header.{Header}
@@ -20,9 +21,9 @@ use Rattle.redir_wire.specs.Table.{fields_at, plain_numbered}
 abbrev pub is_plain : ℕ → Bool
 is_plain number = nat_lt number 100
 
--- an interface_info has at most 32 interfaces
+-- an interface_info has no more interfaces than its fields have cells
 abbrev pub count_check : BodyCheck
-count_check = record { place = 0; needed = 4; tried = λ number. number == 4; passes = λ h b. not (h.kind == 4) || nat_le (le_at w32 0 b) 32; reason = Count }
+count_check = record { place = 0; needed = 4; tried = λ number. number == 4; passes = λ h b. not (h.kind == 4) || nat_le (le_at w32 0 b) MAX_INTERFACES; reason = Count }
 
 -- no header that passes its checks has another number than a type's
 abbrev pub control_at : Caps → Header → List ℕ → RedirControl

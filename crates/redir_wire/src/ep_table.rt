@@ -4,7 +4,7 @@ ghost use Rattle.std.specs.Prelude.{◌≡◌};
 ghost use Rattle.redir_wire.specs.EpTable.{table_of};
 
 use crate::packet::EpInfo;
-use usb_base::{EpKind, EpRow, EpTable};
+use usb_base::{ENDPOINTS, EpKind, EpRow, EpTable};
 
 impl EpInfo {
     /// The table of the device's endpoints, by their indices.
@@ -12,7 +12,7 @@ impl EpInfo {
         ensures { result ≡ table_of self.now }
     {
         let mut table = EpTable::none();
-        for index in 0..32 {
+        for index in 0..ENDPOINTS {
             table.rows[index] = EpRow {
                 kind: EpKind::from_byte(self.kinds[index]),
                 interval: self.interval[index],

@@ -1,10 +1,13 @@
 //! The packets of usbredir that move no data of a transfer, as values (protocol description, version 0.7).
 
 use packet_stream::{Read, ReadError};
-use usb_base::List;
+use usb_base::{ENDPOINTS, List};
 
 /// How many interfaces an interface_info may have.
 pub const MAX_INTERFACES: u32 = 32;
+
+/// How many cells each field of an interface_info has.
+pub const INTERFACE_CELLS: usize = MAX_INTERFACES as usize;
 
 /// Which way a packet goes: to the guest, who uses the device, or to the host, who has it.
 #[derive(Clone, Copy, PartialEq, Eq)]
@@ -55,26 +58,26 @@ pub struct InterfaceInfo {
     /// How many interfaces there are, at most 32.
     pub count: u32,
     /// Their numbers.
-    pub interface: [u8; 32],
+    pub interface: [u8; INTERFACE_CELLS],
     /// Their class codes.
-    pub class: [u8; 32],
+    pub class: [u8; INTERFACE_CELLS],
     /// Their subclass codes.
-    pub subclass: [u8; 32],
+    pub subclass: [u8; INTERFACE_CELLS],
     /// Their protocol codes.
-    pub protocol: [u8; 32],
+    pub protocol: [u8; INTERFACE_CELLS],
 }
 
 /// `usb_redir_ep_info`: the endpoints. Cells 0 to 15 are those to the device, 16 to 31 those from it.
 #[derive(Drop)]
 pub struct EpInfo {
     /// 0 control, 1 isochronous, 2 bulk, 3 interrupt, 255 none.
-    pub kinds: [u8; 32],
+    pub kinds: [u8; ENDPOINTS],
     /// The polling intervals, as the endpoints' descriptors have them.
-    pub interval: [u8; 32],
+    pub interval: [u8; ENDPOINTS],
     /// The numbers of the interfaces that they belong to.
-    pub interface: [u8; 32],
+    pub interface: [u8; ENDPOINTS],
     /// Their largest packets in bytes, 0 where they aren't sent.
-    pub max_packet: [u16; 32],
+    pub max_packet: [u16; ENDPOINTS],
 }
 
 /// `usb_redir_header`: what stands before each packet's fields.

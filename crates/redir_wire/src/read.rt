@@ -21,7 +21,7 @@ use crate::packet::{
 use crate::types::plain_types;
 use packet_stream::ReadError;
 use std::alloc::Global;
-use usb_base::{Memory, Reason, array_at, le_u16_at, le_u32_at};
+use usb_base::{ENDPOINTS, Memory, Reason, array_at, le_u16_at, le_u32_at};
 
 /// Reads the packet whose header this is, from the bytes behind it, as far as they have come: None where fewer than
 /// the header announces are there. An interface_info with more than 32 interfaces is refused as soon as their
@@ -149,7 +149,11 @@ fn ep_info_at(sent: bool, bytes: &[u8]) -> EpInfo
     requires { 96 + sent_bytes sent 64 ≤ length bytes.now }
     ensures { result ≡ ep_info_at sent bytes.now }
 {
-    let max_packet = if sent { max_packet_at(bytes) } else { [0; 32] };
+    let max_packet = if sent {
+        max_packet_at(bytes)
+    } else {
+        [0; ENDPOINTS]
+    };
     EpInfo {
         kinds: array_at(bytes, 0),
         interval: array_at(bytes, 32),
@@ -158,12 +162,12 @@ fn ep_info_at(sent: bool, bytes: &[u8]) -> EpInfo
     }
 }
 
-fn max_packet_at(bytes: &[u8]) -> [u16; 32]
+fn max_packet_at(bytes: &[u8]) -> [u16; ENDPOINTS]
     requires { 160 ≤ length bytes.now }
     ensures { result ≡ numbers_of w16 32 (drop 96 bytes.now) }
 {
-    let mut sizes = [0; 32];
-    for i in 0..32 {
+    let mut sizes = [0; ENDPOINTS];
+    for i in 0..ENDPOINTS {
         sizes[i] = le_u16_at(bytes, 96 + i * 2);
     }
     sizes
