@@ -33,7 +33,7 @@ fn client_packet(place: u64, bytes: &[u8], out: &mut Output) {
 /// Appends the line of what a client sent.
 pub fn push_client(place: u64, packet: &ClientPacket, out: &mut Output) {
     match packet {
-        ClientPacket::Op(packet) => push_op(place, packet, out),
+        ClientPacket::Op(request) => push_op(place, &request.packet(), out),
         ClientPacket::Urb(packet) => push_urb(place, packet, out),
     }
 }

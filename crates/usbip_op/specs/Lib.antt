@@ -5,3 +5,4 @@ pub mod Devices
 pub mod Requests
 pub mod Replies
 pub mod Packets
+pub mod inner

@@ -9,6 +9,7 @@ mod next;
 mod packet;
 mod read;
 mod reply;
+mod request;
 mod write;
 
 pub use code::{
@@ -21,4 +22,5 @@ pub use packet::{
     DeviceRow, IfaceRow, IfaceRows, Listed, ListedRows, OpError, OpPacket, OpRead, OpWay,
 };
 pub use read::{packets_sound, read_op, read_request};
+pub use request::OpRequest;
 pub use write::{write_op, written_again};

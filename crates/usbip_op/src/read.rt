@@ -9,8 +9,10 @@ ghost use Rattle.usbip_op.specs.declared.packet.OpWay.{OpWay as Way};
 
 use crate::check::wrong_head;
 use crate::code::{OP_REQ_DEVLIST, OP_REQ_IMPORT};
-use crate::packet::{OpError, OpPacket, OpRead, OpWay};
+use crate::packet::{OpError, OpRead, OpWay};
 use crate::reply::read_reply;
+use crate::request::OpRequest;
+use packet_stream::Read;
 use std::alloc::Global;
 use usb_base::{array_at, be_u16_at, be_u32_at};
 
@@ -27,13 +29,25 @@ pub fn read_op(alloc: Global, way: OpWay, bytes: &[u8]) -> Result<OpRead, OpErro
     ensures exact { Answers takes_memory result (reading (packets_of way) bytes.now) }
 {
     match way {
-        OpWay::Request => read_request(bytes),
+        OpWay::Request => request_packet(bytes),
         OpWay::Reply => read_reply(alloc, bytes),
     }
 }
 
+/// Reads the request at the front of the bytes as a packet.
+fn request_packet(bytes: &[u8]) -> Result<OpRead, OpError>
+    ensures stands { IfTold result (StandsAtFront requests bytes.now) }
+    ensures exact { told result ≡ Some (reading requests bytes.now) }
+{
+    match read_request(bytes) {
+        Ok(Read::Whole(request, size)) => Ok(Read::Whole(request.packet(), size)),
+        Ok(Read::Short) => Ok(Read::Short),
+        Err(error) => Err(error),
+    }
+}
+
 /// Reads the request at the front of the bytes, as `read_op` does. It takes no memory.
-pub fn read_request(bytes: &[u8]) -> Result<OpRead, OpError>
+pub fn read_request(bytes: &[u8]) -> Result<Read<OpRequest>, OpError>
     ensures stands { IfTold result (StandsAtFront requests bytes.now) }
     ensures exact { told result ≡ Some (reading requests bytes.now) }
 {
@@ -41,19 +55,19 @@ pub fn read_request(bytes: &[u8]) -> Result<OpRead, OpError>
         return Err(OpError::Refused { place, reason });
     }
     if bytes.len() < 4 {
-        return Ok(OpRead::Short);
+        return Ok(Read::Short);
     }
     if be_u16_at(bytes, 2) == OP_REQ_DEVLIST {
         if bytes.len() < 8 {
-            return Ok(OpRead::Short);
+            return Ok(Read::Short);
         }
         let status = be_u32_at(bytes, 4);
-        return Ok(OpRead::Whole(OpPacket::ReqDevlist { status }, 8));
+        return Ok(Read::Whole(OpRequest::devlist(status), 8));
     }
     if bytes.len() < 40 {
-        return Ok(OpRead::Short);
+        return Ok(Read::Short);
     }
     let status = be_u32_at(bytes, 4);
     let busid = array_at(bytes, 8);
-    Ok(OpRead::Whole(OpPacket::ReqImport { status, busid }, 40))
+    Ok(Read::Whole(OpRequest::import(status, busid), 40))
 }

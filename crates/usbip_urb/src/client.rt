@@ -13,13 +13,13 @@ use crate::request::take_urb;
 use packet_stream::{PacketFormat, Read, ReadError};
 use std::alloc::Global;
 use usb_base::{PacketBytes, ReceiveBuffer, be_u16_at};
-use usbip_op::{OpPacket, USBIP_VERSION, read_request};
+use usbip_op::{OpRequest, USBIP_VERSION, read_request};
 
 /// What a client sends.
 #[derive(Drop)]
 pub enum ClientPacket {
     /// A list or an import request.
-    Op(OpPacket),
+    Op(OpRequest),
     /// A URB request.
     Urb(UrbPacket),
 }

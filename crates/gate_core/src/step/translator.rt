@@ -66,7 +66,9 @@ impl Translator {
         let before = out.lengths();
         let taken = match item {
             Item::Asked { place, packet } => match packet {
-                ClientPacket::Op(packet) => self.kept.answer_op(place, &packet, out),
+                ClientPacket::Op(request) => {
+                    self.kept.answer_op(place, &request.packet(), out)
+                }
                 ClientPacket::Urb(UrbPacket::Submit(submit)) => {
                     self.kept.submit(place, submit, out)
                 }

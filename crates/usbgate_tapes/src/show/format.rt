@@ -100,12 +100,15 @@ impl ShownFormat for ClientFormat {
         text: &mut Bytes,
     ) -> Result<(), Memory> {
         match packet {
-            ClientPacket::Op(op) => match op {
-                OpPacket::ReqDevlist { .. } | OpPacket::ReqImport { .. } => {
-                    show_client(alloc, place, op, text)
+            ClientPacket::Op(request) => {
+                let op = request.packet();
+                match op {
+                    OpPacket::ReqDevlist { .. } | OpPacket::ReqImport { .. } => {
+                        show_client(alloc, place, &op, text)
+                    }
+                    OpPacket::RepDevlist { .. } | OpPacket::RepImport { .. } => Ok(()),
                 }
-                OpPacket::RepDevlist { .. } | OpPacket::RepImport { .. } => Ok(()),
-            },
+            }
             ClientPacket::Urb(urb) => match urb {
                 UrbPacket::Submit(_) | UrbPacket::Unlink(_) => show_urb(alloc, place, urb, text),
                 UrbPacket::RetSubmit(_) | UrbPacket::RetUnlink(_) => Ok(()),

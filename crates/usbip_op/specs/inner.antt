@@ -1,0 +1,2 @@
+-- What a request keeps.
+pub mod Request

@@ -1,0 +1,58 @@
+//! A client's requests, as few bytes as they have.
+
+ghost use Rattle.std.specs.Prelude.{◌≡◌};
+ghost use Rattle.usbip_op.specs.declared.packet.OpPacket.TheVariants.{ReqDevlist, ReqImport};
+
+use crate::packet::OpPacket;
+use std::marker::Model;
+
+/// A list or an import request. It means an `OpPacket`, but has no room for a reply, so it is moved as the few bytes that
+/// it has.
+#[derive(Drop)]
+pub struct OpRequest {
+    status: u32,
+    /// The device that an import asks for.
+    busid: Option<[u8; 32]>,
+}
+
+impl Model for OpRequest {
+    ghost use Rattle.usbip_op.specs.declared.packet.OpPacket.{OpPacket};
+    ghost use Rattle.usbip_op.specs.inner.Request.{request_of};
+
+    ghost Value = { OpPacket };
+
+    ghost view = { λ request. request_of request.status request.busid };
+}
+
+impl OpRequest {
+    /// Asks for the list.
+    pub(crate) fn devlist(status: u32) -> OpRequest
+        ensures { result ≡ ReqDevlist status }
+    {
+        OpRequest {
+            status,
+            busid: None,
+        }
+    }
+
+    /// Asks for this device.
+    pub(crate) fn import(status: u32, busid: [u8; 32]) -> OpRequest
+        ensures { result ≡ ReqImport status busid }
+    {
+        OpRequest {
+            status,
+            busid: Some(busid),
+        }
+    }
+
+    /// The same as a packet.
+    pub fn packet(&self) -> OpPacket
+        ensures { result ≡ self.now }
+    {
+        let status = self.status;
+        match self.busid {
+            None => OpPacket::ReqDevlist { status },
+            Some(busid) => OpPacket::ReqImport { status, busid },
+        }
+    }
+}
