@@ -109,7 +109,10 @@ fn push_moved(packet: RedirData, id: u64, caps: Caps, out: &mut Bytes) -> Result
     ensures { AppendsSome result out.old out.new (packet_bytes id caps packet) }
 {
     push_head(&packet, id, caps, out)?;
-    out.append_list(packet.into_body())?;
+    let body = packet.into_body();
+    if !body.is_empty() {
+        out.append_list(body)?;
+    }
     Ok(())
 }
 
