@@ -6,8 +6,8 @@ ghost use Rattle.usbip_op.specs.declared.packet.OpPacket.TheVariants.{ReqDevlist
 use crate::packet::OpPacket;
 use std::marker::Model;
 
-/// A list or an import request. It means an `OpPacket`, but has no room for a reply, so it is moved as the few bytes that
-/// it has.
+/// A list or an import request. It means an `OpPacket`, but has no room for a reply, so that it is moved as the few
+/// bytes that it has.
 #[derive(Drop)]
 pub struct OpRequest {
     status: u32,

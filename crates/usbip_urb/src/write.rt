@@ -40,7 +40,9 @@ fn move_ret_submit(answer: RetSubmit, out: &mut Bytes) -> Result<(), Memory>
 {
     push_ret_fields(&answer, out)?;
     let RetSubmit { body, descs, .. } = answer;
-    out.append_list(body)?;
+    if !body.is_empty() {
+        out.append_list(body)?;
+    }
     push_descs(descs.as_slice(), out)?;
     Ok(())
 }

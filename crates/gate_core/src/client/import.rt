@@ -16,25 +16,25 @@ use gate_history::Note;
 use gate_parts::{Outputs, client_refusal, failed_import, import_reply, is_exported, list_reply};
 use redir_wire::Connect;
 use usb_base::{Memory, Reason};
-use usbip_op::{OpPacket, write_op};
+use usbip_op::{OpPacket, OpRequest, write_op};
 
 impl Kept {
     /// Answers a list or an import request.
     pub fn answer_op(
         &mut self,
         place: u64,
-        packet: &OpPacket,
+        request: &OpRequest,
         out: &mut Outputs,
     ) -> Result<(), Memory>
         requires kept { IsKept self.old }
         ensures kept { IsKept self.new }
         ensures ok { (st : State) (at : ℕ) → place ≡ capped at → Holds self.old st → st.client_over ≡ false
-            → OnOk result (Does st (mark_as st (asked_meaning st at (Op packet.now)) None) self.old self.new out.old out.new) }
+            → OnOk result (Does st (mark_as st (asked_meaning st at (Op request.now)) None) self.old self.new out.old out.new) }
         ensures err { OnErr result (StopsShort self.old self.new out.old out.new) }
     {
-        match packet {
+        match request.packet() {
             OpPacket::ReqDevlist { .. } => self.answer_list(place, out),
-            OpPacket::ReqImport { busid, .. } => { self.answer_import(place, busid, out) }
+            OpPacket::ReqImport { busid, .. } => self.answer_import(place, &busid, out),
             // No client sends these.
             OpPacket::RepDevlist { .. } => Ok(()),
             OpPacket::RepImport { .. } => Ok(()),

@@ -66,9 +66,7 @@ impl Translator {
         let before = out.lengths();
         let taken = match item {
             Item::Asked { place, packet } => match packet {
-                ClientPacket::Op(request) => {
-                    self.kept.answer_op(place, &request.packet(), out)
-                }
+                ClientPacket::Op(request) => self.kept.answer_op(place, &request, out),
                 ClientPacket::Urb(UrbPacket::Submit(submit)) => {
                     self.kept.submit(place, submit, out)
                 }
