@@ -84,17 +84,12 @@ impl<G: Gadget> Host<G> {
     {
         let request = self.queue.remove_first(ep);
         let id = request.id;
-        self.perform_reset(alloc, &request, out)?;
+        self.reset_for(alloc, &request, out)?;
         Ok(Performed::Done { id })
     }
 
-    /// Resets the device, and performs a request of endpoint 0. A get_configuration asks no more than the reset.
-    fn perform_reset(
-        &mut self,
-        alloc: Global,
-        request: &Request,
-        out: &mut Bytes,
-    ) -> Result<(), Memory>
+    /// Resets the device for a request of endpoint 0, and performs it. A get_configuration asks no more than the reset.
+    fn reset_for(&mut self, alloc: Global, request: &Request, out: &mut Bytes) -> Result<(), Memory>
         requires sound { IsSound self.old }
         requires request { IsRequest self.old.guest request.now }
         requires marked { request.now.reset ≡ true }
@@ -114,7 +109,7 @@ impl<G: Gadget> Host<G> {
             | Form::SetAlt { .. }
             | Form::GetAlt { .. } => {
                 self.change(alloc, &Route::Reset, &table, outcome.status, out)?;
-                self.perform_now(alloc, request, out)
+                self.carry_out(alloc, request, out)
             }
         }
     }
@@ -129,13 +124,8 @@ impl<G: Gadget> Host<G> {
         }
     }
 
-    /// Performs a request of endpoint 0, for which the device is always ready.
-    fn perform_now(
-        &mut self,
-        alloc: Global,
-        request: &Request,
-        out: &mut Bytes,
-    ) -> Result<(), Memory>
+    /// Carries out a request of endpoint 0, for which the device is always ready.
+    fn carry_out(&mut self, alloc: Global, request: &Request, out: &mut Bytes) -> Result<(), Memory>
         requires sound { IsSound self.old }
         requires request { IsRequest self.old.guest request.now }
         requires marked { request.now.reset ≡ true }

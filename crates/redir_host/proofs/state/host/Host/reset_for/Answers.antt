@@ -7,7 +7,7 @@ use Rattle.redir_host.specs.guest.Asking.{routed}
 use Rattle.redir_host.specs.device.Performing.{does, resets}
 use Rattle.redir_host.specs.device.Resets.{PerformsNow}
 use Rattle.redir_host.proofs.lemmas.step.Makes.{changed_sound, changed_request, reset_alone, reset_behind, reset_outcome, reset_request, reset_sound}
-use Rattle.redir_host.proofs.state.host.Host.perform_reset.Goals as goal
+use Rattle.redir_host.proofs.state.host.Host.reset_for.Goals as goal
 
 pub finish-requires-clause-outcome : goal.finish-requires-clause-outcome
 finish-requires-clause-outcome g c =
@@ -22,13 +22,13 @@ returns-in-GetConfiguration-clause-ok g c =
     c.finish.ensures.ok in
     search rules
 
-pub perform_now-requires-clause-sound : goal.perform_now-requires-clause-sound
-perform_now-requires-clause-sound g c =
+pub carry_out-requires-clause-sound : goal.carry_out-requires-clause-sound
+carry_out-requires-clause-sound g c =
     let m = g.G.Gadget.meaning in
     changed_sound m route.Reset c.table-table.result (is_success c.in_ok-outcome.outcome.status) c.reset.new.self c.change.new.self c.args.out.now c.change.new.out (reset_sound m c.args.self.now c.reset.new.self c.in_ok-outcome.outcome c.requires.sound c.in_ok-outcome.ensures) c.in_ok-change-in-Control.ensures.ok.makes
 
-pub perform_now-requires-clause-request : goal.perform_now-requires-clause-request
-perform_now-requires-clause-request g c =
+pub carry_out-requires-clause-request : goal.carry_out-requires-clause-request
+carry_out-requires-clause-request g c =
     let m = g.G.Gadget.meaning in
     changed_request m route.Reset c.table-table.result (is_success c.in_ok-outcome.outcome.status) c.reset.new.self c.change.new.self c.args.out.now c.change.new.out c.args.request.now (reset_request m c.args.self.now c.reset.new.self c.in_ok-outcome.outcome c.args.request.now c.requires.request c.in_ok-outcome.ensures) c.in_ok-change-in-Control.ensures.ok.makes
 
@@ -36,7 +36,7 @@ pub returns-in_ok-change-in-Control-clause-ok : goal.returns-in_ok-change-in-Con
 returns-in_ok-change-in-Control-clause-ok g c =
     let m = g.G.Gadget.meaning in
     let h = c.args.self.now in
-    let behind : OnOk c.perform_now.result (PerformsNow (resets m h c.args.request.now (m.perform h.gadget (routed route.Reset))) c.perform_now.new.self c.args.out.now c.perform_now.new.out) = on_ok_weaker c.perform_now.result
-    (λ now. reset_behind m h c.reset.new.self c.change.new.self c.perform_now.new.self c.args.request.now c.table-table.result (is_success c.in_ok-outcome.outcome.status) c.in_ok-outcome.outcome c.args.out.now c.change.new.out c.perform_now.new.out c.in_ok-outcome.ensures c.table-table.ensures refl c.in_ok-change-in-Control.ensures.ok now)
-    c.perform_now.ensures.ok in
+    let behind : OnOk c.carry_out.result (PerformsNow (resets m h c.args.request.now (m.perform h.gadget (routed route.Reset))) c.carry_out.new.self c.args.out.now c.carry_out.new.out) = on_ok_weaker c.carry_out.result
+    (λ now. reset_behind m h c.reset.new.self c.change.new.self c.carry_out.new.self c.args.request.now c.table-table.result (is_success c.in_ok-outcome.outcome.status) c.in_ok-outcome.outcome c.args.out.now c.change.new.out c.carry_out.new.out c.in_ok-outcome.ensures c.table-table.ensures refl c.in_ok-change-in-Control.ensures.ok now)
+    c.carry_out.ensures.ok in
     search rules
