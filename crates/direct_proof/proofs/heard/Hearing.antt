@@ -26,7 +26,7 @@ other-endpoint t is other = and-true (nat_lt (t.ep % 128) 16) (not (is_control t
     low : (n : ℕ) → n < 16 → nat_lt n 16 ≡ true
     low n h = grind (arith, h)
 
-few : (n : ℕ) → n ≤ 16777216 → nat_le n MAX_TRANSFER ≡ true
+few : (n : ℕ) → n ≤ MAX_TRANSFER → nat_le n MAX_TRANSFER ≡ true
 few n h = grind (arith, h)
 
 -- the packet asks just the transfer
