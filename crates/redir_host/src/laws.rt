@@ -20,13 +20,7 @@ ghost use Rattle.redir_host.specs.guest.Packets.{packet_move};
 ghost use Rattle.redir_host.specs.device.Performing.{perform_move};
 ghost use Rattle.redir_host.specs.state.Sound.{IsSound};
 
-use crate::guest::asking::MAX_TRANSFER;
 use model_device::Gadget;
-
-/// A law: the number that definitions name is this.
-pub fn host_numbers()
-    ensures longest { MAX_TRANSFER ≡ 16777216 }
-{}
 
 /// A law: one act more is the items that it brings, one after another, to the host and to all that was sent.
 pub fn acts_add_items<G: Gadget>()

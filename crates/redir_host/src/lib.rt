@@ -9,7 +9,7 @@ mod step;
 mod write;
 
 pub use laws::{
-    acts_add_items, acts_bring_the_split, answered_at_most_once, host_numbers, hosts_stay_sound,
+    acts_add_items, acts_bring_the_split, answered_at_most_once, hosts_stay_sound,
     nothing_else_is_answered, only_bytes_are_noted, performed_in_order, queues_are_lines,
     streams_answered_at_once,
 };

@@ -8,7 +8,7 @@ use Rattle.redir_data.specs.declared.packet.RedirPacket.TheVariants.{Carrying}
 use Rattle.model_device.specs.Transfer.{IsTransfer, is_control}
 use Rattle.redir_host.specs.declared.state.request.Asking.TheVariants.{Nothing, Asks}
 use Rattle.redir_host.specs.declared.state.request.Form.TheVariants as form
-use Rattle.redir_host.specs.declared.guest.asking.TheConstants.{MAX_TRANSFER}
+use Rattle.usb_base.specs.declared.limits.TheConstants.{MAX_TRANSFER}
 use Rattle.redir_host.specs.guest.Asking.{asking_of, asked_if, is_other}
 use Rattle.gate_history.specs.declared.verdict.Pipe.{Pipe}
 use Rattle.gate_history.specs.declared.verdict.Pipe.TheVariants.{Control, Bulk, InterruptOut}

@@ -15,7 +15,7 @@ use Rattle.redir_data.specs.Ranges.{BulkLengthFits}
 use Rattle.redir_data.specs.Written as carrying
 use Rattle.model_device.specs.Transfer.{IsTransfer, is_control}
 use Rattle.redir_host.specs.declared.state.host.Host.{Host}
-use Rattle.redir_host.specs.declared.guest.asking.TheConstants.{MAX_TRANSFER}
+use Rattle.usb_base.specs.declared.limits.TheConstants.{MAX_TRANSFER}
 use Rattle.redir_host.specs.declared.state.request.Form.{Form}
 use Rattle.redir_host.specs.declared.state.request.Form.TheVariants as form
 use Rattle.redir_host.specs.declared.state.request.Request.{Request}

@@ -18,7 +18,7 @@ use Rattle.redir_data.specs.Spelling.{data_count}
 use Rattle.redir_data.specs.Streams.{stream_format}
 use Rattle.control_route.specs.declared.route.Route.{Route}
 use Rattle.redir_host.specs.declared.state.host.Host.{Host}
-use Rattle.redir_host.specs.declared.guest.asking.TheConstants.{MAX_TRANSFER}
+use Rattle.usb_base.specs.declared.limits.TheConstants.{MAX_TRANSFER}
 use Rattle.redir_host.specs.declared.write.note.HostNote.{HostNote}
 use Rattle.redir_host.specs.declared.write.note.Performed.{Performed}
 use Rattle.redir_host.specs.declared.state.request.Form.{Form}

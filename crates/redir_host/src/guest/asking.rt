@@ -6,10 +6,7 @@ ghost use Rattle.redir_host.specs.guest.Asking.{asking_of, asked_if, is_other};
 
 use crate::state::request::{Asking, Form};
 use redir_data::RedirData;
-use usb_base::{Bytes, EpAddr, Setup, Transfer};
-
-/// The most bytes of one transfer of a bulk endpoint, 16 MiB.
-pub const MAX_TRANSFER: u32 = 16_777_216;
+use usb_base::{Bytes, EpAddr, MAX_TRANSFER, Setup, Transfer};
 
 /// What a packet asks. A packet of an isochronous endpoint, and one of an interrupt endpoint that is to give data, ask
 /// nothing: those endpoints are used by starting a stream.

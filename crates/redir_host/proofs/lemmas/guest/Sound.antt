@@ -32,7 +32,7 @@ use Rattle.redir_host.specs.declared.state.request.Form.TheVariants as form
 use Rattle.redir_host.specs.declared.state.request.Request.{Request}
 use Rattle.redir_host.specs.declared.state.running.StreamKind.{StreamKind}
 use Rattle.redir_host.specs.declared.state.running.StreamKind.TheVariants.{Iso, Interrupt}
-use Rattle.redir_host.specs.declared.guest.asking.TheConstants.{MAX_TRANSFER}
+use Rattle.usb_base.specs.declared.limits.TheConstants.{MAX_TRANSFER}
 use Rattle.redir_host.specs.guest.Asking.{is_other, asked_if, asking_of, routed}
 use Rattle.redir_host.specs.step.Makes.{IsTaken}
 use Rattle.redir_host.specs.step.Moves.{Move, quiet}
