@@ -1,7 +1,7 @@
 -- Each item of a legal trace keeps what holds.
-use Rattle.std.proofs.Common.{◌≡◌, ℕ, Bool, true, false, cond, not, List, [], ◌∷◌, ◌++◌, length, map, Option, Some, None, is_some, refl, sym, ap, subst, ◌∙◌, arith}
+use Rattle.std.proofs.Common.{◌≡◌, ℕ, Bool, true, false, cond, not, List, [], ◌∷◌, ◌++◌, map, Option, Some, None, is_some, refl, sym, ap, subst, ◌∙◌, arith}
 use Rattle.std.specs.Prelude.{filter, slice_get, drop, IsSomeAnd, IsSome}
-use Rattle.std.specs.List.{find, list_any}
+use Rattle.std.specs.List.{find}
 use Rattle.std.proofs.lemmas.Bool.{eqb-true}
 use Rattle.usb_base.specs.Status.{is_success}
 use Rattle.usb_base.specs.declared.transfer.Outcome.{Outcome}
@@ -12,12 +12,12 @@ use Rattle.gate_history.specs.declared.request.Request.{Request}
 use Rattle.gate_history.specs.declared.errno.TheConstants.{ESHUTDOWN}
 use Rattle.gate_history.specs.host.Fillings.{Given}
 use Rattle.gate_history.specs.declared.verdict.Verdict.TheVariants.{Now}
-use Rattle.gate_history.specs.client.Verdict.{verdict, goes_by_id, changes}
+use Rattle.gate_history.specs.client.Verdict.{verdict, goes_by_id}
 use Rattle.gate_history.specs.client.Ends.{is_waiting, is_cancelled}
 use Rattle.gate_history.specs.step.Meaning.{by_stream}
 use Rattle.gate_history.specs.state.Ups.{Up, no_streams, stream_at, stream_of}
 use Rattle.direct_device.specs.Direct.{Live, Waiting, Ran, Direct, no_way, number, is_number, normal_of, seen_of, is_at, without_first, change_in, cancelled}
-use Rattle.direct_device.specs.Acting.{Deed, Import, Submit, Unlink, Perform, Cancel, Answer, Offer, Arrive, Gone, ClientGone, act, made_of, is_ended, joins_live, is_taken, asked_back, marked, is_cancelled_by, is_flushed, performed_by, performed_first, cancelled_by, answered_by, filled_by, cut_for, without_number, offered_by, arrived_by}
+use Rattle.direct_device.specs.Acting.{Deed, Import, Submit, Unlink, Perform, Cancel, Answer, Offer, Arrive, Gone, ClientGone, act, made_of, is_ended, joins_live, is_taken, asked_back, marked, is_cancelled_by, is_flushed, performed_by, performed_first, cancelled_by, answered_by, filled_by, cut_for, without_number, offered_by, arrived_by, situation}
 use Rattle.direct_device.specs.Legal.{CanAnswerBy, IsAllowed}
 use Rattle.direct_device.specs.Performed.{NeverCancels}
 use Rattle.direct_device.proofs.Counts.{count-map}
@@ -37,7 +37,7 @@ keep-submit m d c r inv ok = record {
 }
   where
     now : d.gone ≡ true → made_of m d r ≡ Now ESHUTDOWN
-    now h = ap (λ (b : Bool). by_stream (stream_at d.streams r.transfer.ep) (verdict b (length d.live) (list_any (λ (l : Live). changes l.load.verdict) d.live) (m.table d.gadget) true r)) h ∙ gone-now (stream_at d.streams r.transfer.ep)
+    now h = ap (λ (b : Bool). by_stream (stream_at d.streams r.transfer.ep) (verdict (record (situation m d r) { lost = b }) r)) h ∙ gone-now (stream_at d.streams r.transfer.ep)
 
     there : goes_by_id (made_of m d r) ≡ true → d.gone ≡ false
     there goes = go d.gone refl

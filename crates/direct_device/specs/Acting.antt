@@ -12,6 +12,8 @@ use Rattle.stream_buffers.specs.Cuts.{Cut}
 use Rattle.control_route.specs.declared.route.Route.{Route}
 use Rattle.model_device.specs.Meaning.{Meaning}
 use Rattle.redir_host.specs.device.Changes.{is_touched}
+use Rattle.usb_base.specs.Endpoint.{row_of}
+use Rattle.gate_history.specs.declared.verdict.Situation.{Situation}
 use Rattle.gate_history.specs.declared.request.Request.{Request}
 use Rattle.gate_history.specs.declared.verdict.Verdict.{Verdict}
 use Rattle.gate_history.specs.declared.verdict.Verdict.TheVariants.{Now, IsoOut}
@@ -39,11 +41,19 @@ pub data Deed : Type 0 where
 
 -- ---- a submit
 
+-- what its verdict goes by
+abbrev pub situation : {S : Type 0} → Meaning S → Direct S → Request → Situation
+situation m d r = record {
+  lost = d.gone;
+  live = length d.live;
+  changing = list_any (λ (l : Live). changes l.load.verdict) d.live;
+  row = row_of (m.table d.gadget) r.transfer.ep;
+  wide = true;
+}
+
 -- a stream that is up keeps its row
 abbrev pub made_of : {S : Type 0} → Meaning S → Direct S → Request → Verdict
-made_of m d r =
-    let v : Verdict = verdict d.gone (length d.live) (list_any (λ (l : Live). changes l.load.verdict) d.live) (m.table d.gadget) true r in
-    by_stream (stream_at d.streams r.transfer.ep) v
+made_of m d r = by_stream (stream_at d.streams r.transfer.ep) (verdict (situation m d r) r)
 
 -- those that wait for packets of a stream which the submit ends
 abbrev pub is_ended : Verdict → Live → Bool

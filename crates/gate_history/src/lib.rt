@@ -20,4 +20,4 @@ pub use laws::{
 };
 pub use note::{Counts, Note, Notes, push_refusals};
 pub use request::{AnsweredSubmit, Request, is_in_setup};
-pub use verdict::{Pipe, Verdict};
+pub use verdict::{MAX_NARROW, Pipe, Situation, Verdict, narrow_limit};

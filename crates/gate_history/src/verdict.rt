@@ -27,6 +27,29 @@ impl Pipe {
     }
 }
 
+/// What a verdict goes by, beside the request itself: how things stand where the submit comes.
+#[derive(Clone, Copy)]
+pub struct Situation {
+    /// The device was lost since the client imported it.
+    pub lost: bool,
+    /// How many submits are live.
+    pub live: usize,
+    /// One of them is a change of the device's interfaces.
+    pub changing: bool,
+    /// What was told of the submit's endpoint.
+    pub row: EpRow,
+    /// Bulk packets have 32 bits for their lengths.
+    pub wide: bool,
+}
+
+/// The longest transfer where a packet has 16 bits for its length.
+pub const MAX_NARROW: u32 = 65_535;
+
+/// A law: the number that definitions name is this.
+pub fn narrow_limit()
+    ensures { MAX_NARROW ≡ 65535 }
+{}
+
 /// What is made of a submit.
 #[derive(Clone, Copy)]
 pub enum Verdict {

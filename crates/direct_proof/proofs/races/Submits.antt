@@ -1,8 +1,7 @@
 -- A submit that goes to the host by an id and ends no stream, or that is answered at once, keeps what is shared.
-use Rattle.std.proofs.Common.{◌≡◌, ℕ, nat_le, Bool, true, false, cond, List, [], ◌∷◌, length, map, Option, Some, None, is_some, refl, sym, ap, ◌∙◌, subst, inl, inr, ◌⊎◌, ◌+◌, not, ℤ}
-use Rattle.std.specs.List.{list_any, AllByRecursion as Each}
+use Rattle.std.proofs.Common.{◌≡◌, ℕ, nat_le, Bool, true, false, cond, List, [], ◌∷◌, length, Option, Some, None, is_some, refl, sym, ap, ◌∙◌, subst, inl, inr, ◌⊎◌, ◌+◌, not, ℤ}
+use Rattle.std.specs.List.{AllByRecursion as Each}
 use Rattle.usb_base.specs.declared.setup.Setup.{Setup}
-use Rattle.usb_base.specs.Endpoint.{row_of}
 use Rattle.usb_base.specs.declared.side.Side.TheVariants.{Client}
 use Rattle.usb_base.specs.declared.reason.Reason.TheVariants.{NotImported, DuplicateSeq}
 use Rattle.usb_base.specs.declared.endpoint.EpRow.{EpRow}
@@ -23,14 +22,13 @@ use Rattle.gate_history.specs.declared.item.Item.TheVariants.{Asked}
 use Rattle.gate_history.specs.declared.verdict.Pipe.{Pipe}
 use Rattle.gate_history.specs.declared.verdict.Verdict.{Verdict}
 use Rattle.gate_history.specs.declared.verdict.Verdict.TheVariants.{Now, Wire, Routed, IsoOut, Stream}
-use Rattle.gate_history.specs.client.Verdict.{by_transfer, by_endpoint, changes}
+use Rattle.gate_history.specs.client.Verdict.{by_transfer, by_endpoint}
 use Rattle.gate_history.specs.declared.errno.TheConstants.{ENOENT, EBUSY, ESHUTDOWN}
-use Rattle.gate_history.specs.state.Flight.{wide_bulk}
 use Rattle.gate_history.specs.state.Ups.{Up, is_ended}
 use Rattle.gate_history.specs.state.State.{State, change_waits, next_ids, has_number}
-use Rattle.gate_history.specs.step.Meaning.{verdict_of, mark_of, drawn_by, meaning, refused, accepts}
+use Rattle.gate_history.specs.step.Meaning.{verdict_of, mark_of, drawn_by, meaning, refused, accepts, situation}
 use Rattle.direct_run.specs.Moves.{World, ByClient}
-use Rattle.direct_device.specs.Direct.{normal_by, Live}
+use Rattle.direct_device.specs.Direct.{normal_by}
 use Rattle.direct_proof.specs.Runs.{IsRun}
 use Rattle.direct_proof.specs.Shared.{view, Shared}
 use Rattle.direct_proof.specs.Moves.{move}
@@ -48,8 +46,7 @@ use Rattle.direct_proof.proofs.shared.New.{IsDrawn}
 use Rattle.gate_history.specs.client.Verdict.{goes_by_id, verdict}
 use Rattle.gate_history.specs.state.Ups.{stream_at}
 use Rattle.gate_history.specs.step.Meaning.{by_stream}
-use Rattle.direct_device.specs.Acting.{made_of}
-use Rattle.direct_proof.specs.Requests.{live_of}
+use Rattle.direct_device.specs.Acting.{made_of, situation as direct_situation}
 use Rattle.direct_proof.proofs.races.Kinds.{IsRaceVerdict}
 use Rattle.direct_proof.proofs.submits.AtOnce.{keep-now, kept-now}
 use Rattle.direct_proof.proofs.submits.Ranged.{submit-load}
@@ -85,8 +82,8 @@ wire-behind st r pipe is transfer = go (change_waits st) refl
     by c e t None k = absurd (never st.lost (nat_le MAX_LIVE (length st.live))
         (ap (λ (v : Verdict). cond st.lost (Now ESHUTDOWN) (cond (nat_le MAX_LIVE (length st.live)) (Now EBUSY) v)) (sym same) ∙ is))
       where
-        same : by_transfer (change_waits st) st.facts.table (wide_bulk st.agreed) r r.transfer.setup ≡ Now ENOENT
-        same = ap (by_transfer (change_waits st) st.facts.table (wide_bulk st.agreed) r) k ∙ ap (λ (b : Bool). cond b (Now ENOENT) (by_endpoint (wide_bulk st.agreed) r (row_of st.facts.table r.transfer.ep))) (e ∙ t)
+        same : by_transfer (situation st r) r r.transfer.setup ≡ Now ENOENT
+        same = ap (by_transfer (situation st r) r) k ∙ ap (λ (b : Bool). cond b (Now ENOENT) (by_endpoint (situation st r) r)) (e ∙ t)
 
     go : (c : Bool) → change_waits st ≡ c → (change_waits st ≡ false) ⊎ (is_control r.transfer.ep ≡ true)
     go false e = inl e
@@ -164,9 +161,9 @@ keep-taken {S = S} m laws w j place s rel run read inside new fits = go (verdict
     -- the device attached directly answers it so, too
     same-now : (status : ℤ) → verdict_of st r ≡ Now status → (b : Bool) → st.lost ≡ b → made_of m (view w j) r ≡ Now status
     same-now status e true off =
-        (λ i. by_stream up (verdict ((sym (rel.sides.seen inside) ∙ off) i) (length (map live_of st.live)) (list_any (λ (l : Live). changes l.load.verdict) (map live_of st.live)) (m.table w.host.gadget) true r))
+        (λ i. by_stream up (verdict (record (direct_situation m (view w j) r) { lost = (sym (rel.sides.seen inside) ∙ off) i }) r))
         ∙ kept-now up ESHUTDOWN
-        ∙ (λ i. cond (sym off i) (Now ESHUTDOWN) (cond (nat_le MAX_LIVE (length st.live)) (Now EBUSY) (by_transfer (change_waits st) st.facts.table (wide_bulk st.agreed) r r.transfer.setup)))
+        ∙ (λ i. cond (sym off i) (Now ESHUTDOWN) (cond (nat_le MAX_LIVE (length st.live)) (Now EBUSY) (by_transfer (situation st r) r r.transfer.setup)))
         ∙ e
     same-now status e false there = same-verdict m w j rel inside there r (addressed s read.0).index ∙ ap (by_stream up) e ∙ kept-now up status
 

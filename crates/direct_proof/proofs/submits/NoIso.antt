@@ -1,6 +1,6 @@
 -- No submit goes to the device as isochronous packets: no device has such an endpoint.
 use Rattle.std.specs.Bool.{beq}
-use Rattle.std.proofs.Common.{◌≡◌, ℕ, ◌<◌, ◌&&◌, nat_lt, nat_le, not, Bool, true, false, cond, length, Option, Some, None, refl, sym, ap, ◌∙◌, subst, arith, ◌-◌, ◌==◌}
+use Rattle.std.proofs.Common.{◌≡◌, ℕ, ◌<◌, ◌&&◌, nat_lt, nat_le, not, Bool, true, false, cond, Option, Some, None, refl, sym, ap, ◌∙◌, subst, arith, ◌-◌, ◌==◌}
 use Rattle.std.specs.Prelude.{get_or}
 use Rattle.std.proofs.lemmas.Bool.{ltb-true}
 use Rattle.usb_base.specs.declared.setup.Setup.{Setup}
@@ -18,16 +18,17 @@ use Rattle.control_route.specs.declared.route.Route.TheVariants as route
 use Rattle.control_route.specs.Routes.{route_of}
 use Rattle.model_device.specs.Gadget.{IsGadget}
 use Rattle.model_device.specs.Meaning.{Meaning}
+use Rattle.gate_history.specs.declared.verdict.TheConstants.{MAX_NARROW}
+use Rattle.gate_history.specs.declared.verdict.Situation.{Situation}
 use Rattle.gate_history.specs.declared.errno.TheConstants.{ENOENT, EBUSY, EINVAL, EMSGSIZE, ESHUTDOWN}
-use Rattle.gate_history.specs.state.Flight.{wide_bulk}
-use Rattle.gate_history.specs.step.Meaning.{verdict_of}
+use Rattle.gate_history.specs.step.Meaning.{verdict_of, situation}
 use Rattle.gate_history.specs.declared.request.Request.{Request}
 use Rattle.gate_history.specs.client.Requests.{request_of, is_in_setup}
-use Rattle.gate_history.specs.state.State.{State, change_waits}
+use Rattle.gate_history.specs.state.State.{State}
 use Rattle.gate_history.specs.declared.verdict.Pipe.TheVariants.{InterruptOut}
 use Rattle.gate_history.specs.declared.verdict.Verdict.{Verdict}
 use Rattle.gate_history.specs.declared.verdict.Verdict.TheVariants.{Now, Wire, IsoOut, Stream}
-use Rattle.gate_history.specs.client.Verdict.{max_narrow, none_of, by_route, by_setup, by_kind, is_control, is_iso, is_invalid, is_narrow, by_transfer, verdict}
+use Rattle.gate_history.specs.client.Verdict.{none_of, by_route, by_setup, by_kind, is_control, is_iso, is_invalid, is_narrow, by_transfer, verdict}
 use Rattle.gate_history.specs.client.Carried.{IsDirected}
 use Rattle.gate_history.proofs.lemmas.client.Carried.{is_request}
 use Rattle.direct_run.specs.Moves.{World}
@@ -38,53 +39,50 @@ use Rattle.direct_proof.proofs.submits.Tables.{row-told}
 use Rattle.direct_proof.proofs.submits.Verdicts.{table-known}
 
 -- what is known where it would
-abbrev ShowsIso : EpTable → Bool → Request → Verdict → Type 0
-ShowsIso table changing r (IsoOut row) = (changing ≡ false) × (r.is_in ≡ false) × ((row_of table r.transfer.ep).kind ≡ kind.Iso) × (r.transfer.setup ≡ None)
-ShowsIso table changing r _ = Unit {0}
+abbrev ShowsIso : Situation → Request → Verdict → Type 0
+ShowsIso here r (IsoOut row) = (here.changing ≡ false) × (r.is_in ≡ false) × (here.row.kind ≡ kind.Iso) × (r.transfer.setup ≡ None)
+ShowsIso here r _ = Unit {0}
 
-module _ (table : EpTable) (changing : Bool) (r : Request) where
-  unless : (b : Bool) (status : _) (v : Verdict) → (b ≡ false → ShowsIso table changing r v) → ShowsIso table changing r (cond b (Now status) v)
+module _ (here : Situation) (r : Request) where
+  unless : (b : Bool) (status : _) (v : Verdict) → (b ≡ false → ShowsIso here r v) → ShowsIso here r (cond b (Now status) v)
   unless true status v h = tt
   unless false status v h = h refl
 
-  route-shows : (x : Route) → ShowsIso table changing r (by_route x)
+  route-shows : (x : Route) → ShowsIso here r (by_route x)
   route-shows route.Local = tt
   route-shows _ = tt
 
-  setup-shows : (s : Setup) → ShowsIso table changing r (by_setup r s)
+  setup-shows : (s : Setup) → ShowsIso here r (by_setup r s)
   setup-shows s =
       unless (not (none_of r.descs)) EINVAL _ (λ none.
       unless (not (s.length == 0) && not (beq (is_in_setup s) r.is_in)) EINVAL _ (λ one.
       unless (not (s.length == r.transfer.wanted)) EINVAL _ (λ same.
       route-shows (route_of s))))
 
-  kind-shows : changing ≡ false → r.transfer.setup ≡ None → (k : EpKind) → (row_of table r.transfer.ep).kind ≡ k → ShowsIso table changing r (by_kind r (row_of table r.transfer.ep) k)
+  kind-shows : here.changing ≡ false → r.transfer.setup ≡ None → (k : EpKind) → here.row.kind ≡ k → ShowsIso here r (by_kind r here.row k)
   kind-shows still none kind.Control e = tt
   kind-shows still none kind.Iso e = go r.is_in refl
     where
-      go : (b : Bool) → r.is_in ≡ b → ShowsIso table changing r (cond b (Stream (row_of table r.transfer.ep)) (IsoOut (row_of table r.transfer.ep)))
+      go : (b : Bool) → r.is_in ≡ b → ShowsIso here r (cond b (Stream here.row) (IsoOut here.row))
       go true h = tt
       go false h = (still, h, e, none)
   kind-shows still none kind.Bulk e = tt
-  kind-shows still none kind.Interrupt e = elim r.is_in as (λ (b : Bool). ShowsIso table changing r (cond b (Stream (row_of table r.transfer.ep)) (Wire InterruptOut))) [ true ↦ tt | false ↦ tt ]
+  kind-shows still none kind.Interrupt e = elim r.is_in as (λ (b : Bool). ShowsIso here r (cond b (Stream here.row) (Wire InterruptOut))) [ true ↦ tt | false ↦ tt ]
   kind-shows still none kind.Invalid e = tt
 
-  shows : (lost : Bool) (live : ℕ) (wide : Bool) → ShowsIso table changing r (verdict lost live changing table wide r)
-  shows lost live wide = unless lost ESHUTDOWN _ (λ there. unless (nat_le MAX_LIVE live) EBUSY _ (λ room. by r.transfer.setup refl))
+  shows : ShowsIso here r (verdict here r)
+  shows = unless here.lost ESHUTDOWN _ (λ there. unless (nat_le MAX_LIVE here.live) EBUSY _ (λ room. by r.transfer.setup refl))
     where
-      row : EpRow
-      row = row_of table r.transfer.ep
-
-      by : (o : Option Setup) → r.transfer.setup ≡ o → ShowsIso table changing r (by_transfer changing table wide r o)
+      by : (o : Option Setup) → r.transfer.setup ≡ o → ShowsIso here r (by_transfer here r o)
       by (Some s) has = setup-shows s
       by None has =
-          unless changing ENOENT _ (λ still.
-          unless (is_invalid row.kind) ENOENT _ (λ valid.
-          unless (is_control row.kind) EINVAL _ (λ moves.
-          unless (beq (is_iso row.kind) (none_of r.descs)) EINVAL _ (λ iso.
+          unless here.changing ENOENT _ (λ still.
+          unless (is_invalid here.row.kind) ENOENT _ (λ valid.
+          unless (is_control here.row.kind) EINVAL _ (λ moves.
+          unless (beq (is_iso here.row.kind) (none_of r.descs)) EINVAL _ (λ iso.
           unless (not (laid r.descs r.transfer.wanted)) EINVAL _ (λ lies.
-          unless (is_narrow wide r.is_in row.kind && nat_lt max_narrow r.transfer.wanted) EMSGSIZE _ (λ narrow.
-          kind-shows still has row.kind refl))))))
+          unless (is_narrow here r here.row.kind && nat_lt MAX_NARROW r.transfer.wanted) EMSGSIZE _ (λ narrow.
+          kind-shows still has here.row.kind refl))))))
 
 pub no-iso : {S : Type 0} (m : Meaning S) → IsGadget m → (w : World S) (j : Shared) → Related m w j → w.gate.imported ≡ true → w.gate.lost ≡ false → (s : UrbSubmit) → IsSubmit s → (row : EpRow) → verdict_of w.gate (request_of s) ≡ IsoOut row → ⊥
 no-iso {S = S} m laws w j rel inside there s is row e = laws.no_iso_out w.host.gadget ep low same
@@ -101,8 +99,8 @@ no-iso {S = S} m laws w j rel inside there s is row e = laws.no_iso_out w.host.g
     at : IsAddressed r.transfer
     at = addressed s is
 
-    known : ShowsIso st.facts.table (change_waits st) r (IsoOut row)
-    known = subst (ShowsIso st.facts.table (change_waits st) r) e (shows st.facts.table (change_waits st) r st.lost (length st.live) (wide_bulk st.agreed))
+    known : ShowsIso (situation st r) r (IsoOut row)
+    known = subst (ShowsIso (situation st r) r) e (shows (situation st r) r)
 
     out : is_in_endpoint ep ≡ false
     out = subst (λ (o : Option Setup). IsDirected r.is_in o ep) known.3 (is_request s is).directed ∙ known.1

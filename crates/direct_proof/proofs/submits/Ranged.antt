@@ -7,8 +7,7 @@ use Rattle.usb_base.specs.declared.setup.Setup.{Setup}
 use Rattle.usb_base.specs.declared.endpoint.EpKind.{EpKind}
 use Rattle.usb_base.specs.declared.endpoint.EpKind.TheVariants as kind
 use Rattle.usb_base.specs.declared.endpoint.EpRow.{EpRow}
-use Rattle.usb_base.specs.declared.endpoint.EpTable.{EpTable}
-use Rattle.usb_base.specs.Endpoint.{is_in_endpoint, row_of}
+use Rattle.usb_base.specs.Endpoint.{is_in_endpoint}
 use Rattle.usbip_urb.specs.declared.packet.Submit.{Submit as UrbSubmit}
 use Rattle.usbip_urb.specs.declared.packet.UrbPacket.TheVariants as urb
 use Rattle.usbip_urb.specs.declared.client.ClientPacket.TheVariants.{Urb}
@@ -24,16 +23,18 @@ use Rattle.model_device.specs.Transfer.{IsTransfer, is_control}
 use Rattle.model_device.specs.Submit.{normal}
 use Rattle.model_device.proofs.Submits.{asks_transfer}
 use Rattle.redir_host.specs.guest.Asking.{routed}
+use Rattle.gate_history.specs.declared.verdict.TheConstants.{MAX_NARROW}
+use Rattle.gate_history.specs.declared.verdict.Situation.{Situation}
 use Rattle.gate_history.specs.declared.errno.TheConstants.{ENOENT, EBUSY, EINVAL, EMSGSIZE, ESHUTDOWN}
 use Rattle.gate_history.specs.state.Flight.{wide_bulk}
-use Rattle.gate_history.specs.step.Meaning.{verdict_of}
+use Rattle.gate_history.specs.step.Meaning.{verdict_of, situation}
 use Rattle.gate_history.specs.declared.request.Request.{Request}
 use Rattle.gate_history.specs.client.Requests.{request_of, address, is_in_setup}
-use Rattle.gate_history.specs.state.State.{State, change_waits}
+use Rattle.gate_history.specs.state.State.{State}
 use Rattle.gate_history.specs.declared.verdict.Pipe.TheVariants.{Control, InterruptOut}
 use Rattle.gate_history.specs.declared.verdict.Verdict.{Verdict}
 use Rattle.gate_history.specs.declared.verdict.Verdict.TheVariants.{Now, Wire, Routed, IsoOut, Stream}
-use Rattle.gate_history.specs.client.Verdict.{max_narrow, none_of, by_route, by_setup, by_kind, is_iso, is_invalid, is_narrow, by_endpoint, by_transfer, verdict, goes_by_id}
+use Rattle.gate_history.specs.client.Verdict.{none_of, by_route, by_setup, by_kind, is_iso, is_invalid, is_narrow, by_endpoint, by_transfer, verdict, goes_by_id}
 use Rattle.gate_history.specs.client.Verdict as of_kind
 use Rattle.gate_history.specs.client.Carried.{IsDirected, IsRequest, IsCarried}
 use Rattle.gate_history.proofs.lemmas.client.Carried.{is_request, carried, not-false}
@@ -113,35 +114,35 @@ setup-fits r s has way =
     unless (not (s.length == r.transfer.wanted)) EINVAL _ r (λ same.
     route-fits r s (route_of s) has way refl (eqb-true s.length r.transfer.wanted (not-false (s.length == r.transfer.wanted) same)))))
 
-kind-fits : (wide : Bool) (r : Request) (row : EpRow) (k : EpKind) → r.transfer.setup ≡ None → is_control r.transfer.ep ≡ false → is_in_endpoint r.transfer.ep ≡ r.is_in → r.transfer.wanted ≤ 16777216 → (is_narrow wide r.is_in k && nat_lt max_narrow r.transfer.wanted) ≡ false → FitsIt (by_kind r row k) r
-kind-fits wide r row kind.Control none other way few narrow = tt
-kind-fits wide r row kind.Iso none other way few narrow = elim r.is_in as (λ (b : Bool). FitsIt (cond b (Stream row) (IsoOut row)) r) [ true ↦ tt | false ↦ tt ]
-kind-fits wide r row kind.Bulk none other way few narrow = (none, other, few)
-kind-fits wide r row kind.Interrupt none other way few narrow = go r.is_in refl
+kind-fits : (here : Situation) (r : Request) (row : EpRow) (k : EpKind) → r.transfer.setup ≡ None → is_control r.transfer.ep ≡ false → is_in_endpoint r.transfer.ep ≡ r.is_in → r.transfer.wanted ≤ 16777216 → (is_narrow here r k && nat_lt MAX_NARROW r.transfer.wanted) ≡ false → FitsIt (by_kind r row k) r
+kind-fits here r row kind.Control none other way few narrow = tt
+kind-fits here r row kind.Iso none other way few narrow = elim r.is_in as (λ (b : Bool). FitsIt (cond b (Stream row) (IsoOut row)) r) [ true ↦ tt | false ↦ tt ]
+kind-fits here r row kind.Bulk none other way few narrow = (none, other, few)
+kind-fits here r row kind.Interrupt none other way few narrow = go r.is_in refl
   where
     go : (b : Bool) → r.is_in ≡ b → FitsIt (cond b (Stream row) (Wire InterruptOut)) r
     go true h = tt
-    go false h = (none, other, way ∙ h, ltb-false max_narrow r.transfer.wanted (sym (ap (λ (x : Bool). not x && nat_lt max_narrow r.transfer.wanted) h) ∙ narrow))
-kind-fits wide r row kind.Invalid none other way few narrow = tt
+    go false h = (none, other, way ∙ h, ltb-false MAX_NARROW r.transfer.wanted (sym (ap (λ (x : Bool). not x && nat_lt MAX_NARROW r.transfer.wanted) h) ∙ narrow))
+kind-fits here r row kind.Invalid none other way few narrow = tt
 
-endpoint-fits : (wide : Bool) (r : Request) (row : EpRow) → r.transfer.setup ≡ None → is_control r.transfer.ep ≡ false → is_in_endpoint r.transfer.ep ≡ r.is_in → r.transfer.wanted ≤ 16777216 → FitsIt (by_endpoint wide r row) r
-endpoint-fits wide r row none other way few =
-    unless (is_invalid row.kind) ENOENT _ r (λ valid.
-    unless (of_kind.is_control row.kind) EINVAL _ r (λ moves.
-    unless (beq (is_iso row.kind) (none_of r.descs)) EINVAL _ r (λ iso.
+endpoint-fits : (here : Situation) (r : Request) → r.transfer.setup ≡ None → is_control r.transfer.ep ≡ false → is_in_endpoint r.transfer.ep ≡ r.is_in → r.transfer.wanted ≤ 16777216 → FitsIt (by_endpoint here r) r
+endpoint-fits here r none other way few =
+    unless (is_invalid here.row.kind) ENOENT _ r (λ valid.
+    unless (of_kind.is_control here.row.kind) EINVAL _ r (λ moves.
+    unless (beq (is_iso here.row.kind) (none_of r.descs)) EINVAL _ r (λ iso.
     unless (not (laid r.descs r.transfer.wanted)) EINVAL _ r (λ lies.
-    unless (is_narrow wide r.is_in row.kind && nat_lt max_narrow r.transfer.wanted) EMSGSIZE _ r (λ narrow.
-    kind-fits wide r row row.kind none other way few narrow)))))
+    unless (is_narrow here r here.row.kind && nat_lt MAX_NARROW r.transfer.wanted) EMSGSIZE _ r (λ narrow.
+    kind-fits here r here.row here.row.kind none other way few narrow)))))
 
-verdict-fits : (lost : Bool) (live : ℕ) (changing : Bool) (table : EpTable) (wide : Bool) (r : Request) → IsAddressed r.transfer → IsRequest r → FitsIt (verdict lost live changing table wide r) r
-verdict-fits lost live changing table wide r at is =
-    unless lost ESHUTDOWN _ r (λ there.
-    unless (nat_le MAX_LIVE live) EBUSY _ r (λ room.
+verdict-fits : (here : Situation) (r : Request) → IsAddressed r.transfer → IsRequest r → FitsIt (verdict here r) r
+verdict-fits here r at is =
+    unless here.lost ESHUTDOWN _ r (λ there.
+    unless (nat_le MAX_LIVE here.live) EBUSY _ r (λ room.
     by r.transfer.setup refl))
   where
-    by : (o : Option Setup) → r.transfer.setup ≡ o → FitsIt (by_transfer changing table wide r o) r
+    by : (o : Option Setup) → r.transfer.setup ≡ o → FitsIt (by_transfer here r o) r
     by (Some s) has = setup-fits r s has (subst (λ (x : Option Setup). IsDirected r.is_in x r.transfer.ep) has is.directed)
-    by None has = unless changing ENOENT _ r (λ still. endpoint-fits wide r (row_of table r.transfer.ep) has (sym at.has_setup ∙ ap is_some has) (subst (λ (x : Option Setup). IsDirected r.is_in x r.transfer.ep) has is.directed) is.few_bytes)
+    by None has = unless here.changing ENOENT _ r (λ still. endpoint-fits here r has (sym at.has_setup ∙ ap is_some has) (subst (λ (x : Option Setup). IsDirected r.is_in x r.transfer.ep) has is.directed) is.few_bytes)
 
 -- ---- a submit
 
@@ -158,11 +159,11 @@ submit-load st s v read is by_id = record { transfer = transfer v is by_id; verd
     asks = is_request s read.0
 
     transfer : (u : Verdict) → verdict_of st r ≡ u → goes_by_id u ≡ true → IsTransfer (normal_by r u)
-    transfer (Wire pipe) e h = wire-transfer r at asks.directed (subst (λ (u : Verdict). IsCarried (wide_bulk st.agreed) u r) e (carried st.lost (length st.live) (change_waits st) st.facts.table (wide_bulk st.agreed) r asks)).data_there
+    transfer (Wire pipe) e h = wire-transfer r at asks.directed (subst (λ (u : Verdict). IsCarried (wide_bulk st.agreed) u r) e (carried (situation st r) r asks)).data_there
     transfer (Routed x) e h = routed-transfer x
     transfer _ e h = absurd (cc)
 
     fits : (u : Verdict) → verdict_of st r ≡ u → goes_by_id u ≡ true → FitsVerdict u r.transfer
-    fits (Wire pipe) e h = subst (λ (u : Verdict). FitsIt u r) e (verdict-fits st.lost (length st.live) (change_waits st) st.facts.table (wide_bulk st.agreed) r at asks)
-    fits (Routed x) e h = subst (λ (u : Verdict). FitsIt u r) e (verdict-fits st.lost (length st.live) (change_waits st) st.facts.table (wide_bulk st.agreed) r at asks)
+    fits (Wire pipe) e h = subst (λ (u : Verdict). FitsIt u r) e (verdict-fits (situation st r) r at asks)
+    fits (Routed x) e h = subst (λ (u : Verdict). FitsIt u r) e (verdict-fits (situation st r) r at asks)
     fits _ e h = absurd (cc)

@@ -10,17 +10,19 @@ use Rattle.redir_wire.specs.EpTable.{table_of}
 use Rattle.model_device.specs.Meaning.{Meaning}
 use Rattle.redir_host.specs.device.Facts.{ep_info_of}
 use Rattle.redir_host.specs.declared.state.running.StreamKind.TheVariants.{Iso, Interrupt}
+use Rattle.usb_base.specs.declared.endpoint.EpRow.{EpRow}
+use Rattle.gate_history.specs.declared.verdict.Situation.{Situation}
 use Rattle.gate_history.specs.declared.request.Request.{Request}
 use Rattle.gate_history.specs.declared.verdict.Verdict.{Verdict}
 use Rattle.gate_history.specs.declared.verdict.Verdict.TheVariants.{Now}
 use Rattle.gate_history.specs.client.Verdict.{verdict, by_transfer, by_endpoint, changes, goes_by_id}
-use Rattle.gate_history.specs.declared.errno.TheConstants.{EBUSY, ESHUTDOWN}
+use Rattle.gate_history.specs.declared.errno.TheConstants.{EBUSY, ESHUTDOWN, ENOENT}
 use Rattle.gate_history.specs.step.Marks.{Submission}
 use Rattle.gate_history.specs.client.Submits.{Pending}
 use Rattle.gate_history.specs.state.Ups.{stream_at}
 use Rattle.gate_history.specs.state.Flight.{wide_bulk}
 use Rattle.gate_history.specs.state.State.{submits, change_waits}
-use Rattle.gate_history.specs.step.Meaning.{verdict_of, by_stream, fact_of}
+use Rattle.gate_history.specs.step.Meaning.{verdict_of, by_stream, fact_of, situation}
 use Rattle.gate_history.proofs.lemmas.Lists.{both, list_any-map, Each-filter}
 use Rattle.gate_history.specs.declared.facts.Facts.{Facts}
 use Rattle.gate_history.specs.state.Facts.{tell}
@@ -154,18 +156,27 @@ module _ {S : Type 0} (m : Meaning S) (w : World S) (j : Shared) (rel : Related 
 
   pub same-verdict : (r : Request) → endpoint_index r.transfer.ep < 32 → made_of m (view w j) r ≡ by_stream (stream_at w.gate.streams r.transfer.ep) (verdict_of w.gate r)
   same-verdict r address = ap (by_stream (stream_at w.gate.streams r.transfer.ep))
-      ((λ i. verdict (sym (rel.sides.seen inside) i) (length-map w.gate.live live_of i) (changing i) (m.table w.host.gadget) (sym wide i) r) ∙ by_changing (change_waits w.gate) refl)
+      ((λ i. verdict (record {
+        lost = sym (rel.sides.seen inside) i;
+        live = length-map w.gate.live live_of i;
+        changing = changing i;
+        row = row_of (m.table w.host.gadget) r.transfer.ep;
+        wide = sym wide i;
+      }) r) ∙ by_row)
     where
       changing : list_any (λ (l : Live). changes l.load.verdict) (map live_of w.gate.live) ≡ change_waits w.gate
       changing = list_any-map (λ (l : Live). changes l.load.verdict) live_of w.gate.live ∙ sym (list_any-map (λ (x : Submission). changes x.verdict) (λ (p : Pending). p.submit) w.gate.live)
 
-      by_transfers : (t u : EpTable) (c : Bool) (setup : Option Setup) → (c ≡ false → row_of t r.transfer.ep ≡ row_of u r.transfer.ep) → by_transfer c t (wide_bulk w.gate.agreed) r setup ≡ by_transfer c u (wide_bulk w.gate.agreed) r setup
-      by_transfers t u c (Some s) h = refl
-      by_transfers t u true None h = refl
-      by_transfers t u false None h = ap (by_endpoint (wide_bulk w.gate.agreed) r) (h refl)
+      by_transfers : (here : Situation) (row : EpRow) (setup : Option Setup) → (here.changing ≡ false → row ≡ here.row) → by_transfer (record here { row = row }) r setup ≡ by_transfer here r setup
+      by_transfers here row (Some s) h = refl
+      by_transfers here row None h = go here.changing h
+        where
+          go : (c : Bool) → (c ≡ false → row ≡ here.row) → cond c (Now ENOENT) (by_endpoint (record here { row = row }) r) ≡ cond c (Now ENOENT) (by_endpoint here r)
+          go true h = refl
+          go false h = λ i. by_endpoint (record here { row = h refl i }) r
 
       rows : change_waits w.gate ≡ false → row_of (m.table w.host.gadget) r.transfer.ep ≡ row_of w.gate.facts.table r.transfer.ep
       rows h = sym (row-told (m.table w.host.gadget) r.transfer.ep address) ∙ ap (λ (t : EpTable). row_of t r.transfer.ep) (sym (table-known h))
 
-      by_changing : (c : Bool) → change_waits w.gate ≡ c → verdict w.gate.lost (length w.gate.live) (change_waits w.gate) (m.table w.host.gadget) (wide_bulk w.gate.agreed) r ≡ verdict_of w.gate r
-      by_changing c e = ap (λ (v : Verdict). cond w.gate.lost (Now ESHUTDOWN) (cond (nat_le MAX_LIVE (length w.gate.live)) (Now EBUSY) v)) (by_transfers (m.table w.host.gadget) w.gate.facts.table (change_waits w.gate) r.transfer.setup rows)
+      by_row : verdict (record (situation w.gate r) { row = row_of (m.table w.host.gadget) r.transfer.ep }) r ≡ verdict_of w.gate r
+      by_row = ap (λ (v : Verdict). cond w.gate.lost (Now ESHUTDOWN) (cond (nat_le MAX_LIVE (length w.gate.live)) (Now EBUSY) v)) (by_transfers (situation w.gate r) (row_of (m.table w.host.gadget) r.transfer.ep) r.transfer.setup rows)

@@ -28,7 +28,7 @@ ghost use Rattle.gate_core.specs.inner.Holds.{IsKept, Holds, Does, StopsShort, I
 use crate::state::kept::Kept;
 use control_route::Route;
 use gate_history::errno::ESHUTDOWN;
-use gate_history::{Note, Pipe, Request, Verdict};
+use gate_history::{Note, Pipe, Request, Situation, Verdict};
 use gate_parts::{
     Outputs, StreamIds, client_refusal, decide, draw, packet_count, row_of, wire_packet,
     write_route, write_without_packets,
@@ -76,14 +76,14 @@ impl Kept {
     {
         let changing = self.lives.change_waits();
         let wide = self.caps.contains(Caps::WIDE_BULK_LENGTH);
-        decide(
-            self.lost,
-            self.lives.len(),
+        let here = Situation {
+            lost: self.lost,
+            live: self.lives.len(),
             changing,
-            &self.facts.table,
+            row: self.facts.table.row(request.transfer.ep),
             wide,
-            request,
-        )
+        };
+        decide(here, request)
     }
 
     /// A submit is answered at once.

@@ -1,13 +1,11 @@
--- What is made of a submit: the first of these rules that applies. It takes what it needs to know as plain arguments,
--- and is read without the rest of the gate.
+-- What is made of a submit: the first of these rules that applies. What they go by beside the request is a record of
+-- plain facts, and they are read without the rest of the gate.
 use Rattle.std.specs.Bool.{beq}
-use Rattle.std.specs.Prelude.{ℕ, ◌==◌, ◌&&◌, nat_lt, nat_le, not, Bool, true, false, if◌then◌else◌, List, [], ◌∷◌, Option, Some, None, pos}
+use Rattle.std.specs.Prelude.{◌==◌, ◌&&◌, nat_lt, nat_le, not, Bool, true, false, if◌then◌else◌, List, [], ◌∷◌, Option, Some, None, pos}
 use Rattle.usb_base.specs.declared.setup.Setup.{Setup}
 use Rattle.usb_base.specs.declared.endpoint.EpKind.{EpKind}
 use Rattle.usb_base.specs.declared.endpoint.EpKind.TheVariants as kind
 use Rattle.usb_base.specs.declared.endpoint.EpRow.{EpRow}
-use Rattle.usb_base.specs.declared.endpoint.EpTable.{EpTable}
-use Rattle.usb_base.specs.Endpoint.{row_of}
 use Rattle.usbip_urb.specs.Buffers.{laid}
 use Rattle.usbip_urb.specs.declared.code.TheConstants.{MAX_LIVE}
 use Rattle.control_route.specs.declared.route.Route.{Route}
@@ -16,15 +14,13 @@ use Rattle.control_route.specs.Routes.{route_of}
 use Rattle.control_route.specs.Changes.{is_change}
 use Rattle.gate_history.specs.declared.verdict.Pipe.{Pipe}
 use Rattle.gate_history.specs.declared.verdict.Pipe.TheVariants.{Control, Bulk, InterruptOut}
+use Rattle.gate_history.specs.declared.verdict.Situation.{Situation}
+use Rattle.gate_history.specs.declared.verdict.TheConstants.{MAX_NARROW}
 use Rattle.gate_history.specs.declared.verdict.Verdict.{Verdict}
 use Rattle.gate_history.specs.declared.verdict.Verdict.TheVariants.{Now, Wire, Routed, IsoOut, Stream}
 use Rattle.gate_history.specs.declared.request.Request.{Request}
 use Rattle.gate_history.specs.declared.errno.TheConstants.{ENOENT, EBUSY, EINVAL, EMSGSIZE, ESHUTDOWN}
 use Rattle.gate_history.specs.client.Requests.{is_in_setup}
-
--- the longest transfer where a packet has 16 bits for its length
-abbrev pub max_narrow : ℕ
-max_narrow = 65535
 
 abbrev pub none_of : {A : Type 0} → List A → Bool
 none_of [] = true
@@ -67,33 +63,31 @@ is_invalid kind.Invalid = true
 is_invalid _ = false
 
 -- the packet of this transfer has 16 bits for its length
-abbrev pub is_narrow : Bool → Bool → EpKind → Bool
-is_narrow wide is_in kind.Bulk = not wide
-is_narrow wide is_in kind.Interrupt = not is_in
-is_narrow wide is_in _ = false
+abbrev pub is_narrow : Situation → Request → EpKind → Bool
+is_narrow here r kind.Bulk = not here.wide
+is_narrow here r kind.Interrupt = not r.is_in
+is_narrow here r _ = false
 
-abbrev pub by_endpoint : Bool → Request → EpRow → Verdict
-by_endpoint wide r row =
-    if is_invalid row.kind then Now ENOENT
-    else if is_control row.kind then Now EINVAL
-    else if beq (is_iso row.kind) (none_of r.descs) then Now EINVAL
+abbrev pub by_endpoint : Situation → Request → Verdict
+by_endpoint here r =
+    if is_invalid here.row.kind then Now ENOENT
+    else if is_control here.row.kind then Now EINVAL
+    else if beq (is_iso here.row.kind) (none_of r.descs) then Now EINVAL
     else if not (laid r.descs r.transfer.wanted) then Now EINVAL
-    else if is_narrow wide r.is_in row.kind && nat_lt max_narrow r.transfer.wanted then Now EMSGSIZE
-    else by_kind r row row.kind
+    else if is_narrow here r here.row.kind && nat_lt MAX_NARROW r.transfer.wanted then Now EMSGSIZE
+    else by_kind r here.row here.row.kind
 
 -- ---- both
 
-abbrev pub by_transfer : Bool → EpTable → Bool → Request → Option Setup → Verdict
-by_transfer changing table wide r (Some setup) = by_setup r setup
-by_transfer changing table wide r None = if changing then Now ENOENT else by_endpoint wide r (row_of table r.transfer.ep)
+abbrev pub by_transfer : Situation → Request → Option Setup → Verdict
+by_transfer here r (Some setup) = by_setup r setup
+by_transfer here r None = if here.changing then Now ENOENT else by_endpoint here r
 
--- the device was lost since the import, so many submits are live, one of them is a change, the endpoints are these,
--- and bulk packets have 32 bits for their lengths
-abbrev pub verdict : Bool → ℕ → Bool → EpTable → Bool → Request → Verdict
-verdict lost live changing table wide r =
-    if lost then Now ESHUTDOWN
-    else if nat_le MAX_LIVE live then Now EBUSY
-    else by_transfer changing table wide r r.transfer.setup
+abbrev pub verdict : Situation → Request → Verdict
+verdict here r =
+    if here.lost then Now ESHUTDOWN
+    else if nat_le MAX_LIVE here.live then Now EBUSY
+    else by_transfer here r r.transfer.setup
 
 -- ---- what a verdict says of a submit
 

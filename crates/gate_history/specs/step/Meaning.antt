@@ -10,7 +10,7 @@ use Rattle.usb_base.specs.declared.reason.Reason.TheVariants.{NotImported, Alrea
 use Rattle.usb_base.specs.declared.refusal.Refusal.{Refusal}
 use Rattle.usb_base.specs.declared.transfer.Outcome.{Outcome}
 use Rattle.usb_base.specs.declared.transfer.StreamPacket.{StreamPacket}
-use Rattle.usb_base.specs.Endpoint.{is_in_endpoint}
+use Rattle.usb_base.specs.Endpoint.{row_of, is_in_endpoint}
 use Rattle.stream_buffers.specs.Held.{is_full}
 use Rattle.usb_base.specs.Status.{status_of}
 use Rattle.usbip_op.specs.declared.packet.OpPacket.TheVariants as op
@@ -29,6 +29,7 @@ use Rattle.gate_history.specs.declared.item.Item.{Item}
 use Rattle.gate_history.specs.declared.item.Item.TheVariants.{Asked, ClientWrong, ClientLeft, Told, HostWrong, HostLeft}
 use Rattle.gate_history.specs.declared.request.Request.{Request}
 use Rattle.gate_history.specs.client.Requests.{request_of}
+use Rattle.gate_history.specs.declared.verdict.Situation.{Situation}
 use Rattle.gate_history.specs.declared.verdict.Verdict.{Verdict}
 use Rattle.gate_history.specs.declared.verdict.Verdict.TheVariants.{Stream}
 use Rattle.gate_history.specs.client.Verdict.{verdict, none_of, is_iso, goes_by_id}
@@ -60,8 +61,18 @@ imported_as st connect = option_map_or (λ c. Imports (import_reply st.facts c))
 
 -- ---- submits
 
+-- what its verdict goes by
+abbrev pub situation : State → Request → Situation
+situation st r = record {
+  lost = st.lost;
+  live = length st.live;
+  changing = change_waits st;
+  row = row_of st.facts.table r.transfer.ep;
+  wide = wide_bulk st.agreed;
+}
+
 abbrev pub verdict_of : State → Request → Verdict
-verdict_of st r = verdict st.lost (length st.live) (change_waits st) st.facts.table (wide_bulk st.agreed) r
+verdict_of st r = verdict (situation st r) r
 
 -- the ids of the packets that ask the host for it
 abbrev pub drawn_for : State → Request → Verdict → List ℕ

@@ -9,42 +9,31 @@ ghost use Rattle.gate_history.specs.client.Carried.{IsRequest, IsCarried};
 
 use control_route::{Route, route_of};
 use gate_history::errno::{EBUSY, EINVAL, EMSGSIZE, ENOENT, ESHUTDOWN};
-use gate_history::{Pipe, Request, Verdict, is_in_setup};
-use usb_base::{EpKind, EpRow, EpTable, Setup};
+use gate_history::{MAX_NARROW, Pipe, Request, Situation, Verdict, is_in_setup};
+use usb_base::{EpKind, EpRow, Setup};
 use usbip_urb::{MAX_LIVE, laid};
 
-/// The longest transfer where a packet has 16 bits for its length.
-const MAX_NARROW: u32 = 65_535;
-
-/// The first rule that applies to a submit. The device was `lost` since the import, so many submits are `live`, one
-/// of them is a `changing` of the device's interfaces, these are its endpoints, and bulk packets are `wide`: they have
-/// 32 bits for their lengths. Answers by the errors of Linux: ESHUTDOWN, EBUSY, ENOENT, EINVAL and EMSGSIZE.
-pub fn decide(
-    lost: bool,
-    live: usize,
-    changing: bool,
-    table: &EpTable,
-    wide: bool,
-    request: &Request,
-) -> Verdict
-    ensures value { result ≡ verdict lost live changing table.now wide request.now }
-    ensures carried { IsRequest request.now → IsCarried wide result request.now }
+/// The first rule that applies to a submit that comes `here`. Answers by the errors of Linux: ESHUTDOWN, EBUSY, ENOENT,
+/// EINVAL and EMSGSIZE.
+pub fn decide(here: Situation, request: &Request) -> Verdict
+    ensures value { result ≡ verdict here request.now }
+    ensures carried { IsRequest request.now → IsCarried here.wide result request.now }
     ensures reads { IsRequest request.now → goes_by_id result ≡ true
         → (request.now.transfer.wanted ≡ 0) ⊎ IsRead request.now.is_in (kind_of result request.now.transfer.ep) }
-    ensures room { goes_by_id result ≡ true → live < MAX_LIVE }
-    ensures waits { is_waiting result ≡ true → live < MAX_LIVE }
+    ensures room { goes_by_id result ≡ true → here.live < MAX_LIVE }
+    ensures waits { is_waiting result ≡ true → here.live < MAX_LIVE }
     ensures lies { is_waiting result ≡ true → IsTrue (laid request.now.descs request.now.transfer.wanted) }
 {
-    if lost {
+    if here.lost {
         return Verdict::Now(ESHUTDOWN);
     }
-    if live >= MAX_LIVE {
+    if here.live >= MAX_LIVE {
         return Verdict::Now(EBUSY);
     }
     match &request.transfer.setup {
         Some(setup) => by_setup(request, setup),
-        None if changing => Verdict::Now(ENOENT),
-        None => by_endpoint(wide, request, table.row(request.transfer.ep)),
+        None if here.changing => Verdict::Now(ENOENT),
+        None => by_endpoint(here, request),
     }
 }
 
@@ -77,9 +66,10 @@ pub fn by_route(route: Route) -> Verdict
 }
 
 /// A transfer of another endpoint, by what was told of it.
-pub fn by_endpoint(wide: bool, request: &Request, row: EpRow) -> Verdict
-    ensures { result ≡ by_endpoint wide request.now row }
+pub fn by_endpoint(here: Situation, request: &Request) -> Verdict
+    ensures { result ≡ by_endpoint here request.now }
 {
+    let row = here.row;
     if row.kind == EpKind::Invalid {
         return Verdict::Now(ENOENT);
     }
@@ -92,19 +82,19 @@ pub fn by_endpoint(wide: bool, request: &Request, row: EpRow) -> Verdict
     if !laid(&request.descs, request.transfer.wanted) {
         return Verdict::Now(EINVAL);
     }
-    if is_narrow(wide, request.is_in, row.kind) && request.transfer.wanted > MAX_NARROW {
+    if is_narrow(here, request) && request.transfer.wanted > MAX_NARROW {
         return Verdict::Now(EMSGSIZE);
     }
     by_kind(request, row)
 }
 
 /// Whether the packet of such a transfer has 16 bits for its length.
-pub fn is_narrow(wide: bool, is_in: bool, kind: EpKind) -> bool
-    ensures { result ≡ is_narrow wide is_in kind }
+pub fn is_narrow(here: Situation, request: &Request) -> bool
+    ensures { result ≡ is_narrow here request.now here.row.kind }
 {
-    match kind {
-        EpKind::Bulk => !wide,
-        EpKind::Interrupt => !is_in,
+    match here.row.kind {
+        EpKind::Bulk => !here.wide,
+        EpKind::Interrupt => !request.is_in,
         EpKind::Control | EpKind::Iso | EpKind::Invalid => false,
     }
 }

@@ -1,6 +1,6 @@
 -- A change that the gateway accepts keeps what is shared.
 use Rattle.direct_proof.proofs.streams.changes.ChangeLists.{past, setup-alone, by-routed, debts-changer, new-debts, new-numbers, holds-front, zero-route, behind-more, clean-true, before-all, by_id}
-use Rattle.std.proofs.Common.{◌≡◌, ℕ, ◌==◌, ◌||◌, not, true, false, cond, List, [], ◌∷◌, ◌++◌, length, map, filter, Option, Some, None, is_some, refl, sym, ap, ◌∙◌, subst, append-nil, append_assoc}
+use Rattle.std.proofs.Common.{◌≡◌, ℕ, ◌==◌, ◌||◌, not, true, false, cond, List, [], ◌∷◌, ◌++◌, map, filter, Option, Some, None, is_some, refl, sym, ap, ◌∙◌, subst, append-nil, append_assoc}
 use Rattle.std.specs.List.{list_any, AllByRecursion as Each}
 use Rattle.std.proofs.lemmas.List.{length-map}
 use Rattle.usb_base.specs.declared.setup.Setup.{Setup}
@@ -11,6 +11,7 @@ use Rattle.redir_data.specs.declared.packet.RedirPacket.{RedirPacket}
 use Rattle.control_route.specs.declared.route.Route.{Route}
 use Rattle.control_route.specs.Changes.{is_change}
 use Rattle.model_device.specs.Meaning.{Meaning}
+use Rattle.usb_base.specs.Endpoint.{row_of}
 use Rattle.gate_history.specs.declared.request.Request.{Request}
 use Rattle.gate_history.specs.client.Requests.{request_of}
 use Rattle.gate_history.specs.declared.item.Item.TheVariants.{Asked}
@@ -24,8 +25,8 @@ use Rattle.gate_history.specs.step.Marks.{Submission}
 use Rattle.gate_history.specs.client.Submits.{Pending}
 use Rattle.gate_history.specs.client.Ends.{is_touched}
 use Rattle.gate_history.specs.write.Output.{fresh}
-use Rattle.gate_history.specs.state.State.{submits, has_number, is_number as has_seq, change_waits}
-use Rattle.gate_history.specs.step.Meaning.{mark_as, by_stream, verdict_of}
+use Rattle.gate_history.specs.state.State.{submits, has_number, is_number as has_seq}
+use Rattle.gate_history.specs.step.Meaning.{mark_as, by_stream, verdict_of, situation}
 use Rattle.gate_history.specs.write.Answers.{without_packets}
 use Rattle.gate_history.specs.state.Ups.{stream_at, lower, is_ended}
 use Rattle.gate_history.proofs.lemmas.Lists.{list_any-map, filter-map, map-map, Each-append}
@@ -162,8 +163,14 @@ module _ {S : Type 0} (m : Meaning S) (w : World S) (j : Shared) (place : ℕ) (
       go None e f = absurd f
       go (Some y) e f =
           ap (by_stream (stream_at d.streams r.transfer.ep)) (
-          (λ i. verdict (sym (rel.sides.seen imported) i) (length-map w.gate.live live_of i) ((list_any-map (λ (l : Live). changes l.load.verdict) live_of w.gate.live ∙ sym (list_any-map (λ (z : Submission). changes z.verdict) (λ (p : Pending). p.submit) w.gate.live)) i) (m.table w.host.gadget) (wide i) r)
-          ∙ setup-alone w.gate.lost (length w.gate.live) (change_waits w.gate) (m.table w.host.gadget) w.gate.facts.table (wide_bulk w.gate.agreed) r y e ∙ v)
+          (λ i. verdict (record {
+            lost = sym (rel.sides.seen imported) i;
+            live = length-map w.gate.live live_of i;
+            changing = (list_any-map (λ (l : Live). changes l.load.verdict) live_of w.gate.live ∙ sym (list_any-map (λ (z : Submission). changes z.verdict) (λ (p : Pending). p.submit) w.gate.live)) i;
+            row = row_of (m.table w.host.gadget) r.transfer.ep;
+            wide = wide i;
+          }) r)
+          ∙ setup-alone (situation w.gate r) (row_of (m.table w.host.gadget) r.transfer.ep) r y e ∙ v)
           ∙ by-routed (stream_at d.streams r.transfer.ep) x
 
   new-live : list_any (λ (l : Live). is_number r.number l.load) d.live ≡ false

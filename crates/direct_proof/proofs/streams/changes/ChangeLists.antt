@@ -4,11 +4,12 @@ use Rattle.std.specs.Prelude.{ℤ}
 use Rattle.std.specs.List.{list_any, AllByRecursion as Each}
 use Rattle.usbip_urb.specs.declared.code.TheConstants.{MAX_LIVE}
 use Rattle.usb_base.specs.declared.setup.Setup.{Setup}
-use Rattle.usb_base.specs.declared.endpoint.EpTable.{EpTable}
 use Rattle.control_route.specs.declared.route.Route.{Route}
 use Rattle.control_route.specs.declared.route.Route.TheVariants as route
 use Rattle.control_route.specs.Changes.{is_change}
 use Rattle.model_device.specs.Transfer.{is_control}
+use Rattle.usb_base.specs.declared.endpoint.EpRow.{EpRow}
+use Rattle.gate_history.specs.declared.verdict.Situation.{Situation}
 use Rattle.gate_history.proofs.lemmas.Lists.{Each-append}
 use Rattle.gate_history.specs.declared.request.Request.{Request}
 use Rattle.gate_history.specs.declared.verdict.Verdict.{Verdict}
@@ -40,11 +41,11 @@ pub past : (b : Bool) (status : ℤ) (v : Verdict) (x : Route) → cond b (Now s
 past true status v x h = absurd (cc)
 past false status v x h = (refl, h)
 
--- of a control transfer no table is read
-pub setup-alone : (lost : Bool) (live : ℕ) (changing : Bool) (t u : EpTable) (wide : Bool) (r : Request) (s : Setup) → r.transfer.setup ≡ Some s → verdict lost live changing t wide r ≡ verdict lost live changing u wide r
-setup-alone lost live changing t u wide r s h =
-    (λ i. cond lost (Now ESHUTDOWN) (cond (nat_le MAX_LIVE live) (Now EBUSY) (by_transfer changing t wide r (h i))))
-    ∙ (λ i. cond lost (Now ESHUTDOWN) (cond (nat_le MAX_LIVE live) (Now EBUSY) (by_transfer changing u wide r (sym h i))))
+-- of a control transfer no row is read
+pub setup-alone : (here : Situation) (row : EpRow) (r : Request) (s : Setup) → r.transfer.setup ≡ Some s → verdict (record here { row = row }) r ≡ verdict here r
+setup-alone here row r s h =
+    (λ i. cond here.lost (Now ESHUTDOWN) (cond (nat_le MAX_LIVE here.live) (Now EBUSY) (by_transfer (record here { row = row }) r (h i))))
+    ∙ (λ i. cond here.lost (Now ESHUTDOWN) (cond (nat_le MAX_LIVE here.live) (Now EBUSY) (by_transfer here r (sym h i))))
 
 pub by-routed : (up : Option Up) (x : Route) → by_stream up (Routed x) ≡ Routed x
 by-routed None x = refl

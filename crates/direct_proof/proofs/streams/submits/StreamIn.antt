@@ -12,11 +12,10 @@ use Rattle.usbip_urb.specs.declared.packet.UrbPacket.TheVariants as urb
 use Rattle.usbip_urb.specs.declared.client.ClientPacket.TheVariants.{Urb}
 use Rattle.usbip_urb.specs.Sizes.{is_out}
 use Rattle.model_device.specs.Meaning.{Meaning}
-use Rattle.gate_history.specs.state.Flight.{wide_bulk}
 use Rattle.gate_history.specs.declared.item.Item.TheVariants.{Asked}
 use Rattle.gate_history.specs.client.Requests.{request_of, address, is_in_setup}
-use Rattle.gate_history.specs.state.State.{has_number, change_waits}
-use Rattle.gate_history.specs.step.Meaning.{verdict_of}
+use Rattle.gate_history.specs.state.State.{has_number}
+use Rattle.gate_history.specs.step.Meaning.{verdict_of, situation}
 use Rattle.gate_history.specs.declared.verdict.Verdict.TheVariants.{Stream}
 use Rattle.direct_run.specs.Moves.{World, ByClient}
 use Rattle.direct_proof.specs.Moves.{move}
@@ -77,8 +76,8 @@ pub stream-in : {S : Type 0} (m : Meaning S) (w : World S) (j : Shared) (s : Urb
 stream-in {S = S} m w j s row rel imported v =
     in-of (request_of s).transfer.ep s.head.ep (in-address s f.reads f.plain) (past-table w.gate.facts.table (request_of s).transfer.ep row (ap (λ (t : EpTable). length t.rows) (still.table ∙ still.session.table) ∙ rows-long (ep_info_of both_caps (m.table w.host.gadget)) 32) f.row-is f.kind_is)
   where
-    f : IsStreamed w.gate.lost (change_waits w.gate) w.gate.facts.table (request_of s) row
-    f = streamed w.gate.lost (length w.gate.live) (change_waits w.gate) w.gate.facts.table (wide_bulk w.gate.agreed) (request_of s) row v
+    f : IsStreamed (situation w.gate (request_of s)) (request_of s) row
+    f = streamed (situation w.gate (request_of s)) (request_of s) row v
 
     still : IsStill m w j
     still = is-still m w j rel imported f.here f.calm

@@ -22,9 +22,9 @@ use Rattle.gate_history.specs.state.StreamIds.{StreamIds, stream_ids_after, star
 use Rattle.gate_history.specs.step.Marks.{Submission}
 use Rattle.gate_history.specs.client.Submits.{Pending}
 use Rattle.gate_history.specs.write.Output.{fresh}
-use Rattle.gate_history.specs.state.State.{next_ids, has_number, is_number as has_seq, change_waits}
+use Rattle.gate_history.specs.state.State.{next_ids, has_number, is_number as has_seq}
 use Rattle.gate_history.specs.write.Packets.{starts, start_packet}
-use Rattle.gate_history.specs.step.Meaning.{mark_as, by_stream, verdict_of}
+use Rattle.gate_history.specs.step.Meaning.{mark_as, by_stream, verdict_of, situation}
 use Rattle.gate_history.specs.state.Ups.{Up, stream_at, stream_of, hold, raise, held_of}
 use Rattle.gate_history.proofs.lemmas.Lists.{list_any-map}
 use Rattle.gate_history.proofs.lemmas.state.StreamIds.{start-stream_ids}
@@ -38,7 +38,6 @@ use Rattle.direct_proof.specs.Requests.{live_of}
 use Rattle.direct_proof.specs.Related.{Related}
 use Rattle.direct_proof.specs.Kinds.{IsIn}
 use Rattle.direct_proof.proofs.shared.Traces.{map-append}
-use Rattle.direct_proof.proofs.submits.Submitting.{same-verdict}
 use Rattle.direct_proof.proofs.shared.Keeps.{Keeps}
 use Rattle.direct_proof.proofs.streams.Keeping.{Does, does-then, keeps-made}
 use Rattle.direct_proof.proofs.shared.UpsFound.{in-place, by-address}
@@ -68,8 +67,8 @@ module _ {S : Type 0} (m : Meaning S) (w : World S) (j : Shared) (place : ℕ) (
   abbrev d : Direct S
   d = view w j
 
-  facts : IsStreamed w.gate.lost (change_waits w.gate) w.gate.facts.table r first
-  facts = streamed w.gate.lost (length w.gate.live) (change_waits w.gate) w.gate.facts.table (wide_bulk w.gate.agreed) r first v
+  facts : IsStreamed (situation w.gate r) r first
+  facts = streamed (situation w.gate r) r first v
 
   still : IsStill m w j
   still = is-still m w j rel imported facts.here facts.calm
@@ -86,8 +85,13 @@ module _ {S : Type 0} (m : Meaning S) (w : World S) (j : Shared) (place : ℕ) (
   made : (row : EpRow) → by_stream (stream_at w.gate.streams ep) (Stream first) ≡ Stream row → made_of m d r ≡ Stream row
   made row kept =
       ap (by_stream (stream_at d.streams ep)) (
-      (λ i. verdict (sym (rel.sides.seen imported) i) (length-map w.gate.live live_of i) ((list_any-map (λ (l : Live). changes l.load.verdict) live_of w.gate.live ∙ sym (list_any-map (λ (x : Submission). changes x.verdict) (λ (p : Pending). p.submit) w.gate.live)) i) (m.table w.host.gadget) (wide i) r)
-      ∙ same-verdict w.gate.lost (length w.gate.live) (change_waits w.gate) (m.table w.host.gadget) w.gate.facts.table (wide_bulk w.gate.agreed) r (sym same-row)
+      (λ i. verdict (record {
+        lost = sym (rel.sides.seen imported) i;
+        live = length-map w.gate.live live_of i;
+        changing = (list_any-map (λ (l : Live). changes l.load.verdict) live_of w.gate.live ∙ sym (list_any-map (λ (x : Submission). changes x.verdict) (λ (p : Pending). p.submit) w.gate.live)) i;
+        row = sym same-row i;
+        wide = wide i;
+      }) r)
       ∙ v)
       ∙ kept
 

@@ -3,12 +3,11 @@ use Rattle.std.specs.Bool.{beq}
 use Rattle.std.proofs.Common.{◌≡◌, inl, inr, ℕ, ◌+◌, ◌≤◌, ◌==◌, ◌&&◌, nat_lt, nat_le, not, Bool, true, false, cond, if◌then◌else◌, length, Option, Some, None, unwrap_or, refl, sym, ap, subst, ◌∙◌, arith}
 use Rattle.std.proofs.lemmas.Bool.{cases_Bool, eqb-true, ltb-false, le-ltb, lt-ltb, true≢false}
 use Rattle.std.proofs.lemmas.Bool.Decides.{eqb_tells}
-use Rattle.usb_base.specs.Endpoint.{is_in_endpoint, row_of}
+use Rattle.usb_base.specs.Endpoint.{is_in_endpoint}
 use Rattle.usb_base.specs.declared.setup.Setup.{Setup}
 use Rattle.usb_base.specs.declared.endpoint.EpKind.{EpKind}
 use Rattle.usb_base.specs.declared.endpoint.EpKind.TheVariants as kind
 use Rattle.usb_base.specs.declared.endpoint.EpRow.{EpRow}
-use Rattle.usb_base.specs.declared.endpoint.EpTable.{EpTable}
 use Rattle.usb_base.specs.declared.transfer.Transfer.{Transfer}
 use Rattle.usbip_urb.specs.Buffers.{laid}
 use Rattle.usbip_urb.specs.Sizes.{is_out, body_size}
@@ -33,9 +32,11 @@ use Rattle.gate_history.specs.declared.request.Request.{Request}
 use Rattle.gate_history.specs.client.Requests.{request_of, transfer_by, address, is_in_setup}
 use Rattle.gate_history.specs.declared.verdict.Pipe.{Pipe}
 use Rattle.gate_history.specs.declared.verdict.Pipe.TheVariants.{Control, Bulk, InterruptOut}
+use Rattle.gate_history.specs.declared.verdict.Situation.{Situation}
+use Rattle.gate_history.specs.declared.verdict.TheConstants.{MAX_NARROW}
 use Rattle.gate_history.specs.declared.verdict.Verdict.{Verdict}
 use Rattle.gate_history.specs.declared.verdict.Verdict.TheVariants.{Now, Wire, IsoOut, Stream}
-use Rattle.gate_history.specs.client.Verdict.{max_narrow, none_of, by_route, by_setup, by_kind, is_control, is_iso, is_invalid, is_narrow, by_endpoint, by_transfer, verdict}
+use Rattle.gate_history.specs.client.Verdict.{none_of, by_route, by_setup, by_kind, is_control, is_iso, is_invalid, is_narrow, by_endpoint, by_transfer, verdict}
 use Rattle.gate_history.specs.client.Carried.{IsDirected, IsRequest, HasItsSetup, LengthFits, IsSent, IsCarried}
 use Rattle.gate_history.specs.state.Flight.{wide_ids, wide_bulk}
 use Rattle.gate_history.specs.write.Packets.{no_setup, wire_packet}
@@ -74,8 +75,12 @@ unless wide false status v t h = h refl
 data-way : (is_in : Bool) (ep wanted n : ℕ) → is_in_endpoint ep ≡ is_in → n ≡ body_size (not is_in) wanted → n ≡ data_count ToHost ep wanted
 data-way is_in ep wanted n way e = e ∙ ap (λ (b : Bool). body_size (not b) wanted) (sym way)
 
+bulk : (wide : Bool) (r : Request) → r.transfer.wanted ≤ 16777216 → length r.transfer.body ≡ data_count ToHost r.transfer.ep r.transfer.wanted → (not wide && nat_lt MAX_NARROW r.transfer.wanted) ≡ false → IsCarried wide (Wire Bulk) r
+bulk true r few there fits = record { setup = tt; length_fits = tt; few_bytes = few; data_there = there }
+bulk false r few there fits = record { setup = tt; length_fits = (let h = ltb-false _ _ fits in omega arith); few_bytes = few; data_there = there }
+
 interrupt : (wide : Bool) (row : EpRow) (is_in : Bool) (r : Request) → r.transfer.wanted ≤ 16777216 → length r.transfer.body ≡ data_count ToHost r.transfer.ep r.transfer.wanted →
-    (not is_in && nat_lt max_narrow r.transfer.wanted) ≡ false → IsCarried wide (if is_in then Stream row else Wire InterruptOut) r
+    (not is_in && nat_lt MAX_NARROW r.transfer.wanted) ≡ false → IsCarried wide (if is_in then Stream row else Wire InterruptOut) r
 interrupt wide row true r few there fits = tt
 interrupt wide row false r few there fits = record { setup = tt; length_fits = (let h = ltb-false _ _ fits in omega arith); few_bytes = few; data_there = there }
 
@@ -85,27 +90,26 @@ isochronous : (wide : Bool) (row : EpRow) (is_in : Bool) (r : Request) → r.is_
 isochronous wide row true r same way whole lies = tt
 isochronous wide row false r same way whole lies = record { out = way; to_device = same; lies = lies; whole = whole }
 
-by_kind-carried : (wide : Bool) (r : Request) (row : EpRow) (k : EpKind) → is_in_endpoint r.transfer.ep ≡ r.is_in → length r.transfer.body ≡ body_size (not r.is_in) r.transfer.wanted → laid r.descs r.transfer.wanted ≡ true → r.transfer.wanted ≤ 16777216 → length r.transfer.body ≡ data_count ToHost r.transfer.ep r.transfer.wanted →
-    (is_narrow wide r.is_in k && nat_lt max_narrow r.transfer.wanted) ≡ false → IsCarried wide (by_kind r row k) r
-by_kind-carried wide r row kind.Control way whole lies few there fits = tt
-by_kind-carried wide r row kind.Iso way whole lies few there fits = isochronous wide row r.is_in r refl way whole lies
-by_kind-carried true r row kind.Bulk way whole lies few there fits = record { setup = tt; length_fits = tt; few_bytes = few; data_there = there }
-by_kind-carried false r row kind.Bulk way whole lies few there fits = record { setup = tt; length_fits = (let h = ltb-false _ _ fits in omega arith); few_bytes = few; data_there = there }
-by_kind-carried wide r row kind.Interrupt way whole lies few there fits = interrupt wide row r.is_in r few there fits
-by_kind-carried wide r row kind.Invalid way whole lies few there fits = tt
+by_kind-carried : (here : Situation) (r : Request) (row : EpRow) (k : EpKind) → is_in_endpoint r.transfer.ep ≡ r.is_in → length r.transfer.body ≡ body_size (not r.is_in) r.transfer.wanted → laid r.descs r.transfer.wanted ≡ true → r.transfer.wanted ≤ 16777216 → length r.transfer.body ≡ data_count ToHost r.transfer.ep r.transfer.wanted →
+    (is_narrow here r k && nat_lt MAX_NARROW r.transfer.wanted) ≡ false → IsCarried here.wide (by_kind r row k) r
+by_kind-carried here r row kind.Control way whole lies few there fits = tt
+by_kind-carried here r row kind.Iso way whole lies few there fits = isochronous here.wide row r.is_in r refl way whole lies
+by_kind-carried here r row kind.Bulk way whole lies few there fits = bulk here.wide r few there fits
+by_kind-carried here r row kind.Interrupt way whole lies few there fits = interrupt here.wide row r.is_in r few there fits
+by_kind-carried here r row kind.Invalid way whole lies few there fits = tt
 
 not-not-false : (b : Bool) → not b ≡ false → b ≡ true
 not-not-false true e = refl
 not-not-false false e = absurd (true≢false e)
 
-by_endpoint-carried : (wide : Bool) (r : Request) (row : EpRow) → IsRequest r → is_in_endpoint r.transfer.ep ≡ r.is_in → IsCarried wide (by_endpoint wide r row) r
-by_endpoint-carried wide r row is way =
-    unless wide (is_invalid row.kind) ENOENT _ r (λ valid.
-    unless wide (is_control row.kind) EINVAL _ r (λ other.
-    unless wide (beq (is_iso row.kind) (none_of r.descs)) EINVAL _ r (λ iso.
-    unless wide (not (laid r.descs r.transfer.wanted)) EINVAL _ r (λ lies.
-    unless wide (is_narrow wide r.is_in row.kind && nat_lt max_narrow r.transfer.wanted) EMSGSIZE _ r (λ fits.
-    by_kind-carried wide r row row.kind way is.body (not-not-false _ lies) is.few_bytes (data-way r.is_in r.transfer.ep r.transfer.wanted _ way is.body) fits)))))
+by_endpoint-carried : (here : Situation) (r : Request) → IsRequest r → is_in_endpoint r.transfer.ep ≡ r.is_in → IsCarried here.wide (by_endpoint here r) r
+by_endpoint-carried here r is way =
+    unless here.wide (is_invalid here.row.kind) ENOENT _ r (λ valid.
+    unless here.wide (is_control here.row.kind) EINVAL _ r (λ other.
+    unless here.wide (beq (is_iso here.row.kind) (none_of r.descs)) EINVAL _ r (λ iso.
+    unless here.wide (not (laid r.descs r.transfer.wanted)) EINVAL _ r (λ lies.
+    unless here.wide (is_narrow here r here.row.kind && nat_lt MAX_NARROW r.transfer.wanted) EMSGSIZE _ r (λ fits.
+    by_kind-carried here r here.row here.row.kind way is.body (not-not-false _ lies) is.few_bytes (data-way r.is_in r.transfer.ep r.transfer.wanted _ way is.body) fits)))))
 
 -- ---- endpoint 0
 
@@ -145,19 +149,18 @@ by_setup-carried wide r s is has way =
 
 -- ---- both
 
-by_transfer-carried : (changing : Bool) (table : EpTable) (wide : Bool) (r : Request) (o : Option Setup) → IsRequest r → r.transfer.setup ≡ o → IsDirected r.is_in o r.transfer.ep →
-    IsCarried wide (by_transfer changing table wide r o) r
-by_transfer-carried changing table wide r None is has way =
-    unless wide changing ENOENT _ r (λ still. by_endpoint-carried wide r (row_of table r.transfer.ep) is way)
-by_transfer-carried changing table wide r (Some s) is has way = by_setup-carried wide r s is has way
+by_transfer-carried : (here : Situation) (r : Request) (o : Option Setup) → IsRequest r → r.transfer.setup ≡ o → IsDirected r.is_in o r.transfer.ep →
+    IsCarried here.wide (by_transfer here r o) r
+by_transfer-carried here r None is has way =
+    unless here.wide here.changing ENOENT _ r (λ still. by_endpoint-carried here r is way)
+by_transfer-carried here r (Some s) is has way = by_setup-carried here.wide r s is has way
 
 -- what a verdict lets on the wire a packet can carry
-pub carried : (lost : Bool) (live : ℕ) (changing : Bool) (table : EpTable) (wide : Bool) (r : Request) → IsRequest r →
-    IsCarried wide (verdict lost live changing table wide r) r
-carried lost live changing table wide r is =
-    unless wide lost ESHUTDOWN _ r (λ there.
-    unless wide (nat_le MAX_LIVE live) EBUSY _ r (λ room.
-    by_transfer-carried changing table wide r r.transfer.setup is refl is.directed))
+pub carried : (here : Situation) (r : Request) → IsRequest r → IsCarried here.wide (verdict here r) r
+carried here r is =
+    unless here.wide here.lost ESHUTDOWN _ r (λ there.
+    unless here.wide (nat_le MAX_LIVE here.live) EBUSY _ r (λ room.
+    by_transfer-carried here r r.transfer.setup is refl is.directed))
 
 -- ---- its packet
 

@@ -7,10 +7,9 @@ use Rattle.usb_base.specs.declared.setup.Setup.{Setup}
 use Rattle.usb_base.specs.declared.endpoint.EpKind.{EpKind}
 use Rattle.usb_base.specs.declared.endpoint.EpKind.TheVariants as kind
 use Rattle.usb_base.specs.declared.endpoint.EpRow.{EpRow}
-use Rattle.usb_base.specs.declared.endpoint.EpTable.{EpTable}
 use Rattle.usb_base.specs.declared.refusal.Refusal.{Refusal}
 use Rattle.usb_base.specs.declared.transfer.Outcome.{Outcome}
-use Rattle.usb_base.specs.Endpoint.{row_of, is_in_endpoint}
+use Rattle.usb_base.specs.Endpoint.{is_in_endpoint}
 use Rattle.usbip_op.specs.declared.packet.OpPacket.{OpPacket}
 use Rattle.usbip_op.specs.declared.packet.OpPacket.TheVariants as op
 use Rattle.usbip_urb.specs.declared.packet.UrbPacket.{UrbPacket}
@@ -35,9 +34,11 @@ use Rattle.gate_history.specs.declared.item.Item.TheVariants.{Asked, ClientWrong
 use Rattle.gate_history.specs.declared.errno.TheConstants.{ENOENT, EBUSY, EINVAL, EMSGSIZE, ESHUTDOWN}
 use Rattle.gate_history.specs.declared.request.Request.{Request}
 use Rattle.gate_history.specs.client.Requests.{request_of, is_in_setup}
+use Rattle.gate_history.specs.declared.verdict.Situation.{Situation}
+use Rattle.gate_history.specs.declared.verdict.TheConstants.{MAX_NARROW}
 use Rattle.gate_history.specs.declared.verdict.Verdict.{Verdict}
 use Rattle.gate_history.specs.declared.verdict.Verdict.TheVariants.{Now, Wire, Routed, IsoOut, Stream}
-use Rattle.gate_history.specs.client.Verdict.{max_narrow, none_of, is_invalid, is_control, is_iso, is_narrow, by_route, by_kind, by_endpoint, by_transfer, verdict, goes_by_id}
+use Rattle.gate_history.specs.client.Verdict.{none_of, is_invalid, is_control, is_iso, is_narrow, by_route, by_kind, by_transfer, verdict, goes_by_id}
 use Rattle.gate_history.specs.step.Marks.{Submission, Effect, Opens, Waits}
 use Rattle.gate_history.specs.state.Sides.{imports}
 use Rattle.gate_history.specs.client.Submits.{opened}
@@ -48,19 +49,19 @@ use Rattle.gate_history.specs.state.State.{State, has_number}
 use Rattle.gate_history.specs.client.Replies.{is_exported}
 use Rattle.gate_history.specs.write.Packets.{HasRoute}
 use Rattle.gate_history.specs.host.Responses.{Response, response_of}
-use Rattle.gate_history.specs.step.Meaning.{imported_as, asked_meaning, verdict_of, drawn_for, submission, by_stream, accepted_as, accepts, answered_as, answer_to, by_response, arrives, told_meaning, meaning}
+use Rattle.gate_history.specs.step.Meaning.{imported_as, asked_meaning, situation, verdict_of, drawn_for, submission, by_stream, accepted_as, accepts, answered_as, answer_to, by_response, arrives, told_meaning, meaning}
 use Rattle.gate_history.proofs.lemmas.Lists.{Each}
 
 -- ---- of a verdict
 
 -- a submit that isn't answered at once finds room
-pub verdict-room : (lost : Bool) (n : ℕ) (changing : Bool) (t : EpTable) (wide : Bool) (r : Request) → is_none (at_once (verdict lost n changing t wide r)) ≡ true → n < MAX_LIVE
-verdict-room lost n changing t wide r h = go lost (leb MAX_LIVE n) refl h
+pub verdict-room : (here : Situation) (r : Request) → is_none (at_once (verdict here r)) ≡ true → here.live < MAX_LIVE
+verdict-room here r h = go here.lost (leb MAX_LIVE here.live) refl h
   where
-    go : (l b : Bool) → leb MAX_LIVE n ≡ b → is_none (at_once (cond l (Now ESHUTDOWN) (cond b (Now EBUSY) (by_transfer changing t wide r r.transfer.setup)))) ≡ true → n < MAX_LIVE
+    go : (l b : Bool) → leb MAX_LIVE here.live ≡ b → is_none (at_once (cond l (Now ESHUTDOWN) (cond b (Now EBUSY) (by_transfer here r r.transfer.setup)))) ≡ true → here.live < MAX_LIVE
     go true b e k = absurd (false≢true k)
     go false true e k = absurd (false≢true k)
-    go false false e k = leb-false MAX_LIVE n e
+    go false false e k = leb-false MAX_LIVE here.live e
 
 -- a request that goes by its route has packets
 
@@ -83,23 +84,21 @@ sends-kind r row _ = tt
 unless : (b : Bool) (status : ℤ) (w : Verdict) → HasRoute w → HasRoute (cond b (Now status) w)
 unless b status w h = sends-if b (Now status) w tt h
 
-sends-transfer : (changing : Bool) (table : EpTable) (wide : Bool) (r : Request) (o : Option Setup) → HasRoute (by_transfer changing table wide r o)
-sends-transfer changing table wide r (Some s) =
+sends-transfer : (here : Situation) (r : Request) (o : Option Setup) → HasRoute (by_transfer here r o)
+sends-transfer here r (Some s) =
     unless (not (none_of r.descs)) EINVAL _
     (unless (not (eqb s.length 0) && not (beq (is_in_setup s) r.is_in)) EINVAL _
     (unless (not (eqb s.length r.transfer.wanted)) EINVAL _ (sends-route (route_of s))))
-sends-transfer changing table wide r None = unless changing ENOENT _ (by_row (row_of table r.transfer.ep))
-  where
-    by_row : (row : EpRow) → HasRoute (by_endpoint wide r row)
-    by_row row =
-        unless (is_invalid row.kind) ENOENT _
-        (unless (is_control row.kind) EINVAL _
-        (unless (beq (is_iso row.kind) (none_of r.descs)) EINVAL _
-        (unless (not (laid r.descs r.transfer.wanted)) EINVAL _
-        (unless (is_narrow wide r.is_in row.kind && nat_lt max_narrow r.transfer.wanted) EMSGSIZE _ (sends-kind r row row.kind)))))
+sends-transfer here r None =
+    unless here.changing ENOENT _
+    (unless (is_invalid here.row.kind) ENOENT _
+    (unless (is_control here.row.kind) EINVAL _
+    (unless (beq (is_iso here.row.kind) (none_of r.descs)) EINVAL _
+    (unless (not (laid r.descs r.transfer.wanted)) EINVAL _
+    (unless (is_narrow here r here.row.kind && nat_lt MAX_NARROW r.transfer.wanted) EMSGSIZE _ (sends-kind r here.row here.row.kind))))))
 
-pub verdict-sends : (lost : Bool) (n : ℕ) (changing : Bool) (table : EpTable) (wide : Bool) (r : Request) → HasRoute (verdict lost n changing table wide r)
-verdict-sends lost n changing table wide r = unless lost ESHUTDOWN _ (unless (leb MAX_LIVE n) EBUSY _ (sends-transfer changing table wide r r.transfer.setup))
+pub verdict-sends : (here : Situation) (r : Request) → HasRoute (verdict here r)
+verdict-sends here r = unless here.lost ESHUTDOWN _ (unless (leb MAX_LIVE here.live) EBUSY _ (sends-transfer here r r.transfer.setup))
 
 -- a stream that is up keeps its row, and changes nothing else
 
@@ -219,8 +218,8 @@ module _ (st : State) (r : Request) (in_session : st.imported ≡ true) (new : h
   opening-submit =
       let up = stream_at st.streams r.transfer.ep in
       opening-accepted (by_stream up (verdict_of st r))
-      (λ k. verdict-room st.lost (length st.live) _ st.facts.table _ r (kept-room up (verdict_of st r) k))
-      (kept-sends up (verdict_of st r) (verdict-sends st.lost (length st.live) _ st.facts.table _ r))
+      (λ k. verdict-room (situation st r) r (kept-room up (verdict_of st r) k))
+      (kept-sends up (verdict_of st r) (verdict-sends (situation st r) r))
 
 not-false : (b : Bool) → not b ≡ false → b ≡ true
 not-false true e = refl

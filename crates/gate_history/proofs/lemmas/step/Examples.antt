@@ -2,7 +2,7 @@
 use Rattle.std.proofs.Common.{◌≡◌, ℕ, true, false, List, [], ◌∷◌, ◌++◌, length, map, Some, None, refl}
 use Rattle.std.specs.Prelude.{ℤ, pos, replicate, codes}
 use Rattle.usb_base.specs.Number.{be_at, le_at}
-use Rattle.usb_base.specs.Endpoint.{no_endpoints}
+use Rattle.usb_base.specs.declared.endpoint.EpRow.{EpRow}
 use Rattle.usb_base.specs.declared.side.Side.TheVariants.{Client, Host}
 use Rattle.usb_base.specs.declared.reason.Reason.TheVariants.{Version, AlreadyImported, NotImported, DuplicateSeq, Mismatch}
 use Rattle.usbip_op.specs.declared.packet.OpPacket.TheVariants as op
@@ -176,8 +176,8 @@ too_long = refl
 limits : (MAX_LIVE ≡ 4096) × (MAX_HELD ≡ 1024) × (MAX_PACKETS ≡ 1024)
 limits = (refl, refl, refl)
 
-full : (r : Request) → verdict false 4096 false no_endpoints true r ≡ Now EBUSY
-full r = refl
+full : (row : EpRow) (r : Request) → verdict (record { lost = false; live = 4096; changing = false; row = row; wide = true }) r ≡ Now EBUSY
+full row r = refl
 
 -- ---- refusals of a client
 

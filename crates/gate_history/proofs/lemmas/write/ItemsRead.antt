@@ -34,7 +34,7 @@ use Rattle.gate_history.specs.declared.item.Item.{Item}
 use Rattle.gate_history.specs.declared.item.Item.TheVariants.{Asked, ClientWrong, ClientLeft, Told, HostWrong, HostLeft}
 use Rattle.gate_history.specs.step.Machine.{ask, live_after}
 use Rattle.gate_history.specs.step.Marks.{Submission, Fact, Effect, Idle, Replies, Disconnects, Ends, Refuses}
-use Rattle.gate_history.specs.step.Meaning.{importable, imported_as, asked_meaning, verdict_of, drawn_for, submission, by_stream, accepted_as, accepts, answered_as, answer_to, by_response, arrives, told_meaning, meaning, mark_as, drawn_by}
+use Rattle.gate_history.specs.step.Meaning.{importable, imported_as, asked_meaning, situation, verdict_of, drawn_for, submission, by_stream, accepted_as, accepts, answered_as, answer_to, by_response, arrives, told_meaning, meaning, mark_as, drawn_by}
 use Rattle.gate_history.specs.write.Output.{cancel, cancels, fresh, present, acknowledgements, to_host}
 use Rattle.gate_history.specs.write.Packets.{stops, asked_packets}
 use Rattle.gate_history.specs.declared.request.Request.{Request}
@@ -146,7 +146,7 @@ asks-urb : (st : State) (place : ℕ) (p : UrbPacket) → AskedFits (Urb p) → 
 asks-urb st place (urb.Submit s) fits =
     either st (not st.imported) _ _ (refuses st _)
     (either st (has_number st s.head.seqnum) _ _ (refuses st _)
-    (submits-fit st (request_of s) (verdict_of st (request_of s)) (carried st.lost _ _ st.facts.table (wide_bulk st.agreed) (request_of s) (is_request s fits.0)) fits.1))
+    (submits-fit st (request_of s) (verdict_of st (request_of s)) (carried (situation st (request_of s)) (request_of s) (is_request s fits.0)) fits.1))
 asks-urb st place (urb.Unlink u) fits = either st (not st.imported) _ _ (refuses st _) (record { opens = tt; sends = tt; acks = tt; agrees-none = refl })
 asks-urb st place (urb.RetSubmit r) fits = idle st
 asks-urb st place (urb.RetUnlink r) fits = idle st

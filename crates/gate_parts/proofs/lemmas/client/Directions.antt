@@ -11,8 +11,7 @@ use Rattle.usb_base.specs.declared.setup.Setup.{Setup}
 use Rattle.usb_base.specs.declared.endpoint.EpKind.{EpKind}
 use Rattle.usb_base.specs.declared.endpoint.EpKind.TheVariants as kind
 use Rattle.usb_base.specs.declared.endpoint.EpRow.{EpRow}
-use Rattle.usb_base.specs.declared.endpoint.EpTable.{EpTable}
-use Rattle.usb_base.specs.Endpoint.{row_of, is_in_endpoint}
+use Rattle.usb_base.specs.Endpoint.{is_in_endpoint}
 use Rattle.usbip_urb.specs.Buffers.{laid}
 use Rattle.usbip_urb.specs.declared.code.TheConstants.{MAX_LIVE}
 use Rattle.control_route.specs.declared.route.Route.{Route}
@@ -22,9 +21,11 @@ use Rattle.gate_history.specs.declared.errno.TheConstants.{ENOENT, EBUSY, EINVAL
 use Rattle.gate_history.specs.declared.request.Request.{Request}
 use Rattle.gate_history.specs.client.Requests.{address, is_in_setup}
 use Rattle.gate_history.specs.declared.verdict.Pipe.TheVariants.{InterruptOut}
+use Rattle.gate_history.specs.declared.verdict.Situation.{Situation}
+use Rattle.gate_history.specs.declared.verdict.TheConstants.{MAX_NARROW}
 use Rattle.gate_history.specs.declared.verdict.Verdict.{Verdict}
 use Rattle.gate_history.specs.declared.verdict.Verdict.TheVariants.{Now, Wire, Routed, IsoOut, Stream}
-use Rattle.gate_history.specs.client.Verdict.{max_narrow, none_of, is_invalid, is_control, is_iso, is_narrow, by_route, by_setup, by_kind, by_endpoint, by_transfer, verdict, goes_by_id}
+use Rattle.gate_history.specs.client.Verdict.{none_of, is_invalid, is_control, is_iso, is_narrow, by_route, by_setup, by_kind, by_endpoint, by_transfer, verdict, goes_by_id}
 use Rattle.gate_history.specs.host.Responses.{route_gets}
 use Rattle.gate_history.specs.client.Carried.{IsDirected, IsRequest}
 use Rattle.gate_parts.specs.state.Rows.{kind_of, IsRead}
@@ -125,36 +126,36 @@ by_kind-reads r row kind.Bulk way = λ k. inr way
 by_kind-reads r row kind.Interrupt way = elim r.is_in as (λ b. goes_by_id (cond b (Stream row) (Wire InterruptOut)) ≡ true → (r.transfer.wanted ≡ 0) ⊎ IsRead r.is_in (kind_of (cond b (Stream row) (Wire InterruptOut)) r.transfer.ep)) [ true ↦ (λ k. absurd (false≢true k)) | false ↦ (λ k. inr way) ]
 by_kind-reads r row kind.Invalid way = λ k. absurd (false≢true k)
 
-by_endpoint-reads : (wide : Bool) (r : Request) (row : EpRow) → is_in_endpoint r.transfer.ep ≡ r.is_in → Reads r.is_in r.transfer.ep r.transfer.wanted (by_endpoint wide r row)
-by_endpoint-reads wide r row way =
-    unless r.is_in (is_invalid row.kind) r.transfer.ep r.transfer.wanted ENOENT _ (λ valid.
-    unless r.is_in (is_control row.kind) r.transfer.ep r.transfer.wanted EINVAL _ (λ other.
-    unless r.is_in (beq (is_iso row.kind) (none_of r.descs)) r.transfer.ep r.transfer.wanted EINVAL _ (λ iso.
+by_endpoint-reads : (here : Situation) (r : Request) → is_in_endpoint r.transfer.ep ≡ r.is_in → Reads r.is_in r.transfer.ep r.transfer.wanted (by_endpoint here r)
+by_endpoint-reads here r way =
+    unless r.is_in (is_invalid here.row.kind) r.transfer.ep r.transfer.wanted ENOENT _ (λ valid.
+    unless r.is_in (is_control here.row.kind) r.transfer.ep r.transfer.wanted EINVAL _ (λ other.
+    unless r.is_in (beq (is_iso here.row.kind) (none_of r.descs)) r.transfer.ep r.transfer.wanted EINVAL _ (λ iso.
     unless r.is_in (not (laid r.descs r.transfer.wanted)) r.transfer.ep r.transfer.wanted EINVAL _ (λ lies.
-    unless r.is_in (is_narrow wide r.is_in row.kind && nat_lt max_narrow r.transfer.wanted) r.transfer.ep r.transfer.wanted EMSGSIZE _ (λ fits.
-    by_kind-reads r row row.kind way)))))
+    unless r.is_in (is_narrow here r here.row.kind && nat_lt MAX_NARROW r.transfer.wanted) r.transfer.ep r.transfer.wanted EMSGSIZE _ (λ fits.
+    by_kind-reads r here.row here.row.kind way)))))
 
 -- ---- both
 
-by_transfer-reads : (changing : Bool) (table : EpTable) (wide : Bool) (r : Request) (o : Option Setup) → IsDirected r.is_in o r.transfer.ep → Reads r.is_in r.transfer.ep r.transfer.wanted (by_transfer changing table wide r o)
-by_transfer-reads changing table wide r None way = unless r.is_in changing r.transfer.ep r.transfer.wanted ENOENT _ (λ still. by_endpoint-reads wide r (row_of table r.transfer.ep) way)
-by_transfer-reads changing table wide r (Some s) way = by_setup-reads r s way
+by_transfer-reads : (here : Situation) (r : Request) (o : Option Setup) → IsDirected r.is_in o r.transfer.ep → Reads r.is_in r.transfer.ep r.transfer.wanted (by_transfer here r o)
+by_transfer-reads here r None way = unless r.is_in here.changing r.transfer.ep r.transfer.wanted ENOENT _ (λ still. by_endpoint-reads here r way)
+by_transfer-reads here r (Some s) way = by_setup-reads r s way
 
-pub verdict-reads : (lost : Bool) (live : ℕ) (changing : Bool) (table : EpTable) (wide : Bool) (r : Request) → IsRequest r → Reads r.is_in r.transfer.ep r.transfer.wanted (verdict lost live changing table wide r)
-verdict-reads lost live changing table wide r is =
-    unless r.is_in lost r.transfer.ep r.transfer.wanted ESHUTDOWN _ (λ there.
-    unless r.is_in (nat_le MAX_LIVE live) r.transfer.ep r.transfer.wanted EBUSY _ (λ room.
-    by_transfer-reads changing table wide r r.transfer.setup is.directed))
+pub verdict-reads : (here : Situation) (r : Request) → IsRequest r → Reads r.is_in r.transfer.ep r.transfer.wanted (verdict here r)
+verdict-reads here r is =
+    unless r.is_in here.lost r.transfer.ep r.transfer.wanted ESHUTDOWN _ (λ there.
+    unless r.is_in (nat_le MAX_LIVE here.live) r.transfer.ep r.transfer.wanted EBUSY _ (λ room.
+    by_transfer-reads here r r.transfer.setup is.directed))
 
 -- ---- one that goes by an id finds room
 
-pub by_id-room : (lost : Bool) (n : ℕ) (changing : Bool) (table : EpTable) (wide : Bool) (r : Request) → goes_by_id (verdict lost n changing table wide r) ≡ true → n < MAX_LIVE
-by_id-room lost n changing table wide r h = go lost (nat_le MAX_LIVE n) refl h
+pub by_id-room : (here : Situation) (r : Request) → goes_by_id (verdict here r) ≡ true → here.live < MAX_LIVE
+by_id-room here r h = go here.lost (nat_le MAX_LIVE here.live) refl h
   where
-    go : (l b : Bool) → nat_le MAX_LIVE n ≡ b → goes_by_id (cond l (Now ESHUTDOWN) (cond b (Now EBUSY) (by_transfer changing table wide r r.transfer.setup))) ≡ true → n < MAX_LIVE
+    go : (l b : Bool) → nat_le MAX_LIVE here.live ≡ b → goes_by_id (cond l (Now ESHUTDOWN) (cond b (Now EBUSY) (by_transfer here r r.transfer.setup))) ≡ true → here.live < MAX_LIVE
     go true b e k = absurd (false≢true k)
     go false true e k = absurd (false≢true k)
-    go false false e k = leb-false MAX_LIVE n e
+    go false false e k = leb-false MAX_LIVE here.live e
 
 -- ---- its status is one of 32 bits
 
@@ -186,13 +187,13 @@ by_kind-fits r row kind.Bulk = tt
 by_kind-fits r row kind.Interrupt = either-fits r.is_in (Stream row) (Wire InterruptOut) tt tt
 by_kind-fits r row kind.Invalid = (search rules)
 
-by_endpoint-fits : (wide : Bool) (r : Request) (row : EpRow) → StatusFits (by_endpoint wide r row)
-by_endpoint-fits wide r row =
-    either-fits (is_invalid row.kind) (Now ENOENT) _ (search rules)
-    (either-fits (is_control row.kind) (Now EINVAL) _ (search rules)
-    (either-fits (beq (is_iso row.kind) (none_of r.descs)) (Now EINVAL) _ (search rules)
+by_endpoint-fits : (here : Situation) (r : Request) → StatusFits (by_endpoint here r)
+by_endpoint-fits here r =
+    either-fits (is_invalid here.row.kind) (Now ENOENT) _ (search rules)
+    (either-fits (is_control here.row.kind) (Now EINVAL) _ (search rules)
+    (either-fits (beq (is_iso here.row.kind) (none_of r.descs)) (Now EINVAL) _ (search rules)
     (either-fits (not (laid r.descs r.transfer.wanted)) (Now EINVAL) _ (search rules)
-    (either-fits (is_narrow wide r.is_in row.kind && nat_lt max_narrow r.transfer.wanted) (Now EMSGSIZE) _ (search rules) (by_kind-fits r row row.kind)))))
+    (either-fits (is_narrow here r here.row.kind && nat_lt MAX_NARROW r.transfer.wanted) (Now EMSGSIZE) _ (search rules) (by_kind-fits r here.row here.row.kind)))))
 
 by_setup-fits : (r : Request) (s : Setup) → StatusFits (by_setup r s)
 by_setup-fits r s =
@@ -200,13 +201,13 @@ by_setup-fits r s =
     (either-fits (not (s.length == 0) && not (beq (is_in_setup s) r.is_in)) (Now EINVAL) _ (search rules)
     (either-fits (not (s.length == r.transfer.wanted)) (Now EINVAL) _ (search rules) (by_route-fits (route_of s))))
 
-by_transfer-fits : (changing : Bool) (table : EpTable) (wide : Bool) (r : Request) (o : Option Setup) → StatusFits (by_transfer changing table wide r o)
-by_transfer-fits changing table wide r None = either-fits changing (Now ENOENT) _ (search rules) (by_endpoint-fits wide r (row_of table r.transfer.ep))
-by_transfer-fits changing table wide r (Some s) = by_setup-fits r s
+by_transfer-fits : (here : Situation) (r : Request) (o : Option Setup) → StatusFits (by_transfer here r o)
+by_transfer-fits here r None = either-fits here.changing (Now ENOENT) _ (search rules) (by_endpoint-fits here r)
+by_transfer-fits here r (Some s) = by_setup-fits r s
 
-pub verdict-fits : (lost : Bool) (live : ℕ) (changing : Bool) (table : EpTable) (wide : Bool) (r : Request) → StatusFits (verdict lost live changing table wide r)
-verdict-fits lost live changing table wide r =
-    either-fits lost (Now ESHUTDOWN) _ (search rules) (either-fits (nat_le MAX_LIVE live) (Now EBUSY) _ (search rules) (by_transfer-fits changing table wide r r.transfer.setup))
+pub verdict-fits : (here : Situation) (r : Request) → StatusFits (verdict here r)
+verdict-fits here r =
+    either-fits here.lost (Now ESHUTDOWN) _ (search rules) (either-fits (nat_le MAX_LIVE here.live) (Now EBUSY) _ (search rules) (by_transfer-fits here r r.transfer.setup))
 
 -- ---- and it goes as some packets, or waits for none
 

@@ -15,5 +15,5 @@ returns-in-Some-clause-reads c is =
 pub returns-in-Some-clause-carried : goal.returns-in-Some-clause-carried
 returns-in-Some-clause-carried c is =
     let r = c.args.request.now in
-    subst (λ (v : Verdict). IsCarried c.args.wide v r) (sym c.by_setup.ensures)
-    (by_setup-carried c.args.wide r c.in-Some.setup is c.in-Some.is (subst (λ (o : Option Setup). IsDirected r.is_in o r.transfer.ep) c.in-Some.is is.directed))
+    subst (λ (v : Verdict). IsCarried c.args.here.wide v r) (sym c.by_setup.ensures)
+    (by_setup-carried c.args.here.wide r c.in-Some.setup is c.in-Some.is (subst (λ (o : Option Setup). IsDirected r.is_in o r.transfer.ep) c.in-Some.is is.directed))

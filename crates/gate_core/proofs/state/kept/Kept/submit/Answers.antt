@@ -1,4 +1,4 @@
-use Rattle.std.proofs.Common.{◌≡◌, ◌+◌, ℕ, not, cond, true, false, refl, sym, ap, subst, ◌∙◌, arith, w32, length}
+use Rattle.std.proofs.Common.{◌≡◌, ◌+◌, ℕ, not, cond, true, false, refl, sym, ap, subst, ◌∙◌, arith, w32}
 use Rattle.std.specs.List.{list_any}
 use Rattle.usb_base.specs.declared.reason.Reason.TheVariants.{NotImported, DuplicateSeq}
 use Rattle.usb_base.specs.declared.side.Side.TheVariants.{Client}
@@ -8,8 +8,8 @@ use Rattle.usb_base.specs.Number.{capped}
 use Rattle.gate_history.specs.declared.request.Request.{Request}
 use Rattle.gate_history.specs.client.Requests.{request_of}
 use Rattle.gate_history.specs.step.Marks.{Effect, Refuses}
-use Rattle.gate_history.specs.state.State.{State, is_number, submits, change_waits}
-use Rattle.gate_history.specs.step.Meaning.{mark_as, refused, accepts, verdict_of, asked_meaning}
+use Rattle.gate_history.specs.state.State.{State, is_number, submits}
+use Rattle.gate_history.specs.step.Meaning.{mark_as, refused, accepts, situation, verdict_of, asked_meaning}
 use Rattle.gate_core.specs.declared.state.kept.Kept.{Kept}
 use Rattle.gate_parts.specs.declared.write.outputs.Outputs.{Outputs}
 use Rattle.gate_core.specs.inner.Holds.{Holds, Does}
@@ -18,7 +18,6 @@ use Rattle.std.specs.Prelude.{FitsSigned, Result, OnOk, None}
 use Rattle.std.proofs.lemmas.Int.{to_z-of_z}
 use Rattle.gate_history.specs.declared.verdict.Verdict.{Verdict}
 use Rattle.gate_history.specs.declared.verdict.Verdict.TheVariants.{Now, Wire, Routed, IsoOut}
-use Rattle.gate_history.specs.state.Flight.{wide_bulk}
 use Rattle.gate_parts.proofs.lemmas.client.Directions.{StatusFits, verdict-fits}
 use Rattle.gate_core.proofs.lemmas.client.Accept.{opens}
 use Rattle.gate_core.proofs.lemmas.step.Quiet.{as-effect}
@@ -70,7 +69,7 @@ pub returns-in-Now-clause-ok : goal.returns-in-Now-clause-ok
 returns-in-Now-clause-ok c st at place h sound going =
     let r = c.of-request.result in
     let now : Now c.in-Now.status ≡ verdict_of st r = sym (c.in-Now.is) ∙ c.verdict.ensures.value st h in
-    let fits : FitsSigned w32 c.in-Now.status = subst StatusFits (sym now) (verdict-fits st.lost (length st.live) (change_waits st) st.facts.table (wide_bulk st.agreed) r) in
+    let fits : FitsSigned w32 c.in-Now.status = subst StatusFits (sym now) (verdict-fits (situation st r) r) in
     goes-on c.answer_now.result c.args.self.now c.answer_now.new.self st at c.args.submit r _ _ c.args.out.now c.answer_now.new.out h c.of-request.ensures.value c.if-not-self.false (sym c.has.ensures ∙ c.if-has.false)
     (opens st r (Now _) refl) (ap (λ s. Now s) (to_z-of_z w32 c.in-Now.status fits) ∙ now) (c.answer_now.ensures.ok st h sound)
 
