@@ -10,7 +10,7 @@ use Rattle.usb_base.specs.declared.transfer.Outcome.{Outcome}
 use Rattle.stream_buffers.specs.Cuts.{Cut}
 use Rattle.model_device.specs.Meaning.{Meaning}
 use Rattle.gate_history.proofs.lemmas.Lists.{Each}
-use Rattle.gate_history.specs.declared.errno.TheConstants.{ECONNRESET, EREMOTEIO}
+use Rattle.usb_base.specs.declared.errno.TheConstants.{ECONNRESET, EREMOTEIO}
 use Rattle.gate_history.specs.step.Marks.{Submission}
 use Rattle.gate_history.specs.declared.request.Request.{Request}
 use Rattle.gate_history.specs.client.Verdict.{is_wire, goes_by_id, none_of}

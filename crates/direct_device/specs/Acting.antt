@@ -18,7 +18,7 @@ use Rattle.gate_history.specs.declared.request.Request.{Request}
 use Rattle.gate_history.specs.declared.verdict.Verdict.{Verdict}
 use Rattle.gate_history.specs.declared.verdict.Verdict.TheVariants.{Now, IsoOut}
 use Rattle.gate_history.specs.client.Verdict.{verdict, is_wire, goes_by_id, changes}
-use Rattle.gate_history.specs.declared.errno.TheConstants.{ECONNRESET, ESHUTDOWN}
+use Rattle.usb_base.specs.declared.errno.TheConstants.{ECONNRESET, ESHUTDOWN}
 use Rattle.gate_history.specs.host.Fillings.{Given, cut_of}
 use Rattle.gate_history.specs.client.Ends.{is_waiting, is_touched as ends_by_change, answers_by, lost_answer}
 use Rattle.gate_history.specs.state.Ups.{Up, no_streams, stream_at, stream_of, hold, opened_streams}

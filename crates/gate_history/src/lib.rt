@@ -2,7 +2,6 @@
 //! whole, and what is sent to each side for them. No table, buffer or cursor is named here.
 #![tactic(auto)]
 
-pub mod errno;
 mod event;
 mod facts;
 mod item;
@@ -19,5 +18,5 @@ pub use laws::{
     rests_are_short, sent_can_be_read, states_are_sound, streams_hold_few, submits_end_once,
 };
 pub use note::{Counts, Note, Notes, push_refusals};
-pub use request::{AnsweredSubmit, Request, is_in_setup};
+pub use request::{AnsweredSubmit, Request, is_in_setup, short_flag};
 pub use verdict::{MAX_NARROW, Pipe, Situation, Verdict, narrow_limit};

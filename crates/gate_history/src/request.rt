@@ -93,6 +93,11 @@ pub fn is_in_setup(setup: &Setup) -> bool
 /// In transfer_flags: a read that gives fewer bytes than were asked for has failed.
 pub const URB_SHORT_NOT_OK: u32 = 0x0001;
 
+/// A law: the flag that definitions name is Linux's.
+pub fn short_flag()
+    ensures { URB_SHORT_NOT_OK ≡ 1 }
+{}
+
 /// What the answer of a submit has of the submit.
 #[derive(Clone, Copy)]
 pub struct AnsweredSubmit<'a> {

@@ -23,7 +23,7 @@ use Rattle.gate_history.specs.declared.verdict.Pipe.{Pipe}
 use Rattle.gate_history.specs.declared.verdict.Verdict.{Verdict}
 use Rattle.gate_history.specs.declared.verdict.Verdict.TheVariants.{Now, Wire, Routed, IsoOut, Stream}
 use Rattle.gate_history.specs.client.Verdict.{by_transfer, by_endpoint}
-use Rattle.gate_history.specs.declared.errno.TheConstants.{ENOENT, EBUSY, ESHUTDOWN}
+use Rattle.usb_base.specs.declared.errno.TheConstants.{ENOENT, EBUSY, ESHUTDOWN}
 use Rattle.gate_history.specs.state.Ups.{Up, is_ended}
 use Rattle.gate_history.specs.state.State.{State, change_waits, next_ids, has_number}
 use Rattle.gate_history.specs.step.Meaning.{verdict_of, mark_of, drawn_by, meaning, refused, accepts, situation}

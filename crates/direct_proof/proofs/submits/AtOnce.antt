@@ -26,7 +26,7 @@ use Rattle.gate_history.specs.write.Output.{fresh, present}
 use Rattle.gate_history.specs.write.Answers.{without_packets}
 use Rattle.gate_history.specs.write.Notes.{is_by_answer}
 use Rattle.gate_history.specs.declared.note.Note.TheVariants as note
-use Rattle.gate_history.specs.declared.errno.TheConstants.{ESHUTDOWN}
+use Rattle.usb_base.specs.declared.errno.TheConstants.{ESHUTDOWN}
 use Rattle.gate_history.proofs.lemmas.Lists.{filter-all, filter-none, list_any-map}
 use Rattle.gate_history.proofs.lemmas.step.NoCancel.{asks-none, none-cancelled, stays-uncancelled}
 use Rattle.direct_run.specs.Moves.{World, ByClient}

@@ -16,7 +16,7 @@ use Rattle.gate_history.specs.step.Marks.{Submission, Effect, Opens}
 use Rattle.gate_history.specs.client.Submits.{Pending}
 use Rattle.gate_history.specs.client.Ends.{ends, at_once, ByStatus, is_touched, answers_at}
 use Rattle.gate_history.specs.state.Ids.{last_of}
-use Rattle.gate_history.specs.declared.errno.TheConstants.{ESHUTDOWN}
+use Rattle.usb_base.specs.declared.errno.TheConstants.{ESHUTDOWN}
 use Rattle.gate_history.specs.state.StreamIds.{asking}
 use Rattle.gate_history.specs.state.Ups.{stream_at, stream_of, opened_streams}
 use Rattle.gate_history.specs.state.State.{State, has_number, next_ids}

@@ -16,7 +16,7 @@ use Rattle.gate_history.specs.declared.request.Request.{Request}
 use Rattle.gate_history.specs.declared.verdict.Verdict.{Verdict}
 use Rattle.gate_history.specs.declared.verdict.Verdict.TheVariants.{Now}
 use Rattle.gate_history.specs.client.Verdict.{verdict, by_transfer, by_endpoint, changes, goes_by_id}
-use Rattle.gate_history.specs.declared.errno.TheConstants.{EBUSY, ESHUTDOWN, ENOENT}
+use Rattle.usb_base.specs.declared.errno.TheConstants.{EBUSY, ESHUTDOWN, ENOENT}
 use Rattle.gate_history.specs.step.Marks.{Submission}
 use Rattle.gate_history.specs.client.Submits.{Pending}
 use Rattle.gate_history.specs.state.Ups.{stream_at}

@@ -11,7 +11,7 @@ use Rattle.gate_history.specs.step.Marks.{Submission, Effect, Unlinks}
 use Rattle.gate_history.specs.client.Submits.{Pending}
 use Rattle.gate_history.specs.client.Ends.{is_waiting, ends, ByUnlink, answers_at}
 use Rattle.gate_history.specs.write.Answers.{ret_unlink}
-use Rattle.gate_history.specs.declared.errno.TheConstants.{ECONNRESET}
+use Rattle.usb_base.specs.declared.errno.TheConstants.{ECONNRESET}
 use Rattle.gate_history.specs.write.Output.{is_target as gate_target, is_taken as gate_taken, cancels, cancel, to_host, to_client, present}
 use Rattle.gate_history.specs.write.Notes.{is_by_answer, notes_of}
 use Rattle.gate_history.specs.state.State.{State, submits}

@@ -16,7 +16,7 @@ use Rattle.redir_wire.specs.Header.{IdFits}
 use Rattle.gate_core.specs.declared.state.kept.Kept.{Kept}
 use Rattle.usbip_urb.specs.Spelling.{spelling}
 use Rattle.usb_base.specs.Number.{capped}
-use Rattle.gate_history.specs.declared.errno.TheConstants.{ECONNRESET}
+use Rattle.usb_base.specs.declared.errno.TheConstants.{ECONNRESET}
 use Rattle.gate_history.specs.write.Answers.{ret_unlink}
 use Rattle.gate_history.specs.state.Flight.{wide_ids}
 use Rattle.gate_history.specs.write.Bytes.{host_packet_bytes}

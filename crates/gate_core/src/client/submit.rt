@@ -27,7 +27,6 @@ ghost use Rattle.gate_core.specs.inner.Holds.{IsKept, Holds, Does, StopsShort, I
 
 use crate::state::kept::Kept;
 use control_route::Route;
-use gate_history::errno::ESHUTDOWN;
 use gate_history::{Note, Pipe, Request, Situation, Verdict};
 use gate_parts::{
     Outputs, StreamIds, client_refusal, decide, draw, packet_count, row_of, wire_packet,
@@ -36,6 +35,7 @@ use gate_parts::{
 use redir_data::move_data;
 use redir_wire::{Caps, Way};
 use unlink_race::{Live, LiveKind, StreamEnd};
+use usb_base::errno::ESHUTDOWN;
 use usb_base::{Bytes, Memory, Reason};
 use usbip_urb::Submit;
 

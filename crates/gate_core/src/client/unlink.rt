@@ -18,9 +18,9 @@ ghost use Rattle.gate_core.specs.inner.Holds.{IsKept, Holds, Does, StopsShort};
 
 use crate::state::kept::Kept;
 use gate_history::Note;
-use gate_history::errno::ECONNRESET;
 use gate_parts::{Outputs, client_refusal, write_cancel, write_ret_unlink};
 use unlink_race::LiveKind;
+use usb_base::errno::ECONNRESET;
 use usb_base::{Memory, Reason};
 use usbip_urb::Unlink;
 

@@ -8,7 +8,7 @@ use Rattle.usb_base.specs.declared.status.UsbStatus.{UsbStatus}
 use Rattle.usb_base.specs.declared.status.UsbStatus.TheVariants as status
 use Rattle.usbip_urb.specs.declared.packet.UrbPacket.{UrbPacket}
 use Rattle.control_route.specs.Changes.{touches}
-use Rattle.gate_history.specs.declared.errno.TheConstants.{ESHUTDOWN, ECONNRESET}
+use Rattle.usb_base.specs.declared.errno.TheConstants.{ESHUTDOWN, ECONNRESET}
 use Rattle.gate_history.specs.declared.verdict.Verdict.{Verdict}
 use Rattle.gate_history.specs.declared.verdict.Verdict.TheVariants.{Now, Routed, IsoOut, Stream}
 use Rattle.gate_history.specs.client.Verdict.{goes_by_id, is_wire}

@@ -8,7 +8,7 @@ use Rattle.usbip_urb.specs.declared.packet.IsoDesc.{IsoDesc}
 use Rattle.usbip_urb.specs.declared.packet.UrbPacket.{UrbPacket}
 use Rattle.usbip_urb.specs.declared.packet.UrbPacket.TheVariants as urb
 use Rattle.usbip_urb.specs.Buffers.{total}
-use Rattle.gate_history.specs.declared.errno.TheConstants.{EREMOTEIO}
+use Rattle.usb_base.specs.declared.errno.TheConstants.{EREMOTEIO}
 use Rattle.gate_history.specs.declared.request.Request.{Request}
 use Rattle.gate_history.specs.declared.request.TheConstants.{URB_SHORT_NOT_OK}
 use Rattle.gate_history.specs.client.Verdict.{none_of}

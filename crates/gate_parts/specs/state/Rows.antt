@@ -18,7 +18,7 @@ use Rattle.redir_wire.specs.Header.{IdFits}
 use Rattle.redir_data.specs.declared.packet.RedirPacket.TheVariants.{Plain}
 use Rattle.usbip_urb.specs.Buffers.{laid}
 use Rattle.unlink_race.specs.Searches.{is_stream, ended_by}
-use Rattle.gate_history.specs.declared.errno.TheConstants.{ECONNRESET, ESHUTDOWN}
+use Rattle.usb_base.specs.declared.errno.TheConstants.{ECONNRESET, ESHUTDOWN}
 use Rattle.gate_history.specs.declared.request.Request.{Request}
 use Rattle.gate_history.specs.state.Flight.{wide_ids}
 use Rattle.gate_history.specs.host.Responses.{route_gets}

@@ -8,8 +8,8 @@ ghost use Rattle.gate_parts.specs.state.Rows.{kind_of, IsRead};
 ghost use Rattle.gate_history.specs.client.Carried.{IsRequest, IsCarried};
 
 use control_route::{Route, route_of};
-use gate_history::errno::{EBUSY, EINVAL, EMSGSIZE, ENOENT, ESHUTDOWN};
 use gate_history::{MAX_NARROW, Pipe, Request, Situation, Verdict, is_in_setup};
+use usb_base::errno::{EBUSY, EINVAL, EMSGSIZE, ENOENT, ESHUTDOWN};
 use usb_base::{EpKind, EpRow, Setup};
 use usbip_urb::{MAX_LIVE, laid};
 

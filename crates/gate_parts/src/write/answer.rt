@@ -10,8 +10,8 @@ ghost use Rattle.gate_history.specs.write.Answers.{answer_head, told_status, ret
 ghost use Rattle.gate_history.specs.write.Asked.{asked_view, HasItsPackets, IsMoved};
 
 use gate_history::AnsweredSubmit;
-use gate_history::errno::EREMOTEIO;
 use std::alloc::Global;
+use usb_base::errno::EREMOTEIO;
 use usb_base::{Bytes, Memory, Outcome};
 use usbip_urb::{
     Descs, Head, IsoDesc, RetSubmit, RetUnlink, UrbPacket, total, write_ret_submit, write_urb,

@@ -20,10 +20,10 @@ ghost use Rattle.gate_parts.specs.write.Outputs.{with_answers};
 use crate::host::response::{Response, gets, told_outcome};
 use crate::write::answer::{write_outcome, write_ret_unlink, write_without_packets};
 use crate::write::outputs::Outputs;
-use gate_history::errno::{ECONNRESET, ESHUTDOWN};
 use gate_history::{AnsweredSubmit, Note, Request};
 use std::alloc::Global;
 use unlink_race::{Ending, Live, LiveKind, StreamEnd, ending_of};
+use usb_base::errno::{ECONNRESET, ESHUTDOWN};
 use usb_base::{Bytes, Memory, Outcome};
 
 /// What the answer of a request in flight has of its submit.

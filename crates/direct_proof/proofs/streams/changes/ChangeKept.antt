@@ -17,7 +17,7 @@ use Rattle.gate_history.specs.client.Requests.{request_of}
 use Rattle.gate_history.specs.declared.item.Item.TheVariants.{Asked}
 use Rattle.gate_history.specs.declared.verdict.Verdict.TheVariants.{Routed}
 use Rattle.gate_history.specs.client.Verdict.{verdict, changes}
-use Rattle.gate_history.specs.declared.errno.TheConstants.{ESHUTDOWN}
+use Rattle.usb_base.specs.declared.errno.TheConstants.{ESHUTDOWN}
 use Rattle.gate_history.specs.state.Flight.{wide_bulk, ids_of}
 use Rattle.gate_history.specs.state.StreamIds.{ids_of_streams}
 use Rattle.gate_history.specs.state.Ids.{last_of}

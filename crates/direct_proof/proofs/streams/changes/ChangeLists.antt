@@ -15,7 +15,7 @@ use Rattle.gate_history.specs.declared.request.Request.{Request}
 use Rattle.gate_history.specs.declared.verdict.Verdict.{Verdict}
 use Rattle.gate_history.specs.declared.verdict.Verdict.TheVariants.{Now, Wire, Routed}
 use Rattle.gate_history.specs.client.Verdict.{verdict, by_transfer, goes_by_id}
-use Rattle.gate_history.specs.declared.errno.TheConstants.{EBUSY, ESHUTDOWN}
+use Rattle.usb_base.specs.declared.errno.TheConstants.{EBUSY, ESHUTDOWN}
 use Rattle.gate_history.specs.state.Ids.{holds}
 use Rattle.gate_history.specs.step.Marks.{Submission}
 use Rattle.gate_history.specs.client.Submits.{Pending}

@@ -17,7 +17,7 @@ use Rattle.gate_history.specs.client.Requests.{request_of}
 use Rattle.gate_history.specs.declared.item.Item.TheVariants.{Asked}
 use Rattle.gate_history.specs.declared.verdict.Verdict.{Verdict}
 use Rattle.gate_history.specs.declared.verdict.Verdict.TheVariants.{Routed}
-use Rattle.gate_history.specs.declared.errno.TheConstants.{ESHUTDOWN}
+use Rattle.usb_base.specs.declared.errno.TheConstants.{ESHUTDOWN}
 use Rattle.gate_history.specs.step.Marks.{Submission, Effect, Opens}
 use Rattle.gate_history.specs.client.Submits.{Pending}
 use Rattle.gate_history.specs.client.Ends.{End, ByStatus, ends, at_once, is_touched, answers_at}

@@ -17,7 +17,7 @@ use Rattle.gate_history.specs.client.Requests.{request_of}
 use Rattle.gate_history.specs.declared.item.Item.TheVariants.{Asked}
 use Rattle.gate_history.specs.declared.verdict.Verdict.{Verdict}
 use Rattle.gate_history.specs.declared.verdict.Verdict.TheVariants.{Stream}
-use Rattle.gate_history.specs.declared.errno.TheConstants.{ESHUTDOWN}
+use Rattle.usb_base.specs.declared.errno.TheConstants.{ESHUTDOWN}
 use Rattle.gate_history.specs.host.Fillings.{Fill, fill}
 use Rattle.gate_history.specs.step.Marks.{Submission, Waits}
 use Rattle.gate_history.specs.client.Submits.{Pending}

@@ -33,7 +33,7 @@ use Rattle.gate_history.proofs.lemmas.Lists.{Each, Each-weaker}
 use Rattle.gate_core.proofs.lemmas.step.Quiet.{capped-same, moved, does-quiet, none-answered}
 use Rattle.gate_history.proofs.lemmas.step.Effects.{opening-left, opening-answered, opening-noted, opening-dropped}
 use Rattle.gate_history.proofs.lemmas.step.NoCancel.{none-cancelled, stays-uncancelled}
-use Rattle.gate_history.specs.declared.errno.TheConstants.{ESHUTDOWN}
+use Rattle.usb_base.specs.declared.errno.TheConstants.{ESHUTDOWN}
 
 other-place : (n m : ℕ) → m < n → eqb n m ≡ false
 other-place n m h = grind arith

@@ -18,7 +18,7 @@ use Rattle.gate_parts.specs.declared.write.outputs.Outputs.{Outputs}
 use Rattle.gate_core.specs.declared.state.kept.Kept.{Kept}
 use Rattle.gate_core.specs.declared.client.unlink.UnlinkAnswer.{UnlinkAnswer}
 use Rattle.usb_base.specs.Number.{capped}
-use Rattle.gate_history.specs.declared.errno.TheConstants.{ECONNRESET}
+use Rattle.usb_base.specs.declared.errno.TheConstants.{ECONNRESET}
 use Rattle.gate_history.specs.step.Marks.{Effect, Unlinks}
 use Rattle.gate_history.specs.client.Submits.{Pending}
 use Rattle.gate_history.specs.client.Ends.{ByUnlink, is_waiting, ends}

@@ -21,7 +21,7 @@ use Rattle.gate_parts.specs.state.Rows.{is_wire_row}
 use Rattle.gate_history.proofs.lemmas.Lists.{Each}
 use Rattle.gate_history.proofs.lemmas.step.NoCancel.{or_else-none}
 use Rattle.usbip_urb.specs.Spelling.{spelling}
-use Rattle.gate_history.specs.declared.errno.TheConstants.{ECONNRESET}
+use Rattle.usb_base.specs.declared.errno.TheConstants.{ECONNRESET}
 use Rattle.gate_history.specs.write.Answers.{ret_unlink}
 use Rattle.gate_core.specs.inner.Unlink.{asked_kind, asked_of, asked_row, is_target_row, is_taken_row, cancel_row, asked_rows, left_told, is_late, taken_count, taken_bytes, told_bytes}
 

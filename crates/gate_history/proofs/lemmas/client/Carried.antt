@@ -27,7 +27,7 @@ use Rattle.redir_data.specs.Written.{CanWrite}
 use Rattle.control_route.specs.declared.route.Route.{Route}
 use Rattle.control_route.specs.declared.route.Route.TheVariants as route
 use Rattle.control_route.specs.Routes.{route_of}
-use Rattle.gate_history.specs.declared.errno.TheConstants.{ENOENT, EBUSY, EINVAL, EMSGSIZE, ESHUTDOWN}
+use Rattle.usb_base.specs.declared.errno.TheConstants.{ENOENT, EBUSY, EINVAL, EMSGSIZE, ESHUTDOWN}
 use Rattle.gate_history.specs.declared.request.Request.{Request}
 use Rattle.gate_history.specs.client.Requests.{request_of, transfer_by, address, is_in_setup}
 use Rattle.gate_history.specs.declared.verdict.Pipe.{Pipe}

@@ -21,7 +21,7 @@ use Rattle.gate_history.specs.declared.note.Note.{Note}
 use Rattle.gate_history.specs.declared.note.Note.TheVariants as note
 use Rattle.gate_history.specs.declared.item.Item.{Item}
 use Rattle.gate_history.specs.declared.item.Item.TheVariants.{Asked, ClientWrong, ClientLeft, Told}
-use Rattle.gate_history.specs.declared.errno.TheConstants.{ENOENT, EBUSY, EMSGSIZE, ECONNRESET, ESHUTDOWN, EREMOTEIO}
+use Rattle.usb_base.specs.declared.errno.TheConstants.{ENOENT, EBUSY, EMSGSIZE, ECONNRESET, ESHUTDOWN, EREMOTEIO}
 use Rattle.packet_stream.specs.Split.{split}
 use Rattle.gate_history.specs.step.Events.{ClientPiece, ClientEnd}
 use Rattle.gate_history.specs.declared.request.Request.{Request}

@@ -2,7 +2,7 @@ use Rattle.std.proofs.Common.{◌++◌, ◌∙◌, ℕ, List, refl, sym, ap}
 use Rattle.std.specs.Prelude.{pos}
 use Rattle.usbip_urb.specs.Spelling.{spelling}
 use Rattle.unlink_race.specs.declared.ending.Ending.TheVariants.{Completed, Unlinked, CompletedThenLate}
-use Rattle.gate_history.specs.declared.errno.TheConstants.{ECONNRESET}
+use Rattle.usb_base.specs.declared.errno.TheConstants.{ECONNRESET}
 use Rattle.gate_history.specs.declared.request.Request.{Request}
 use Rattle.gate_history.specs.write.Answers.{with_outcome, ret_unlink}
 use Rattle.gate_parts.specs.state.Rows.{row_request}

@@ -12,7 +12,7 @@ use Rattle.gate_core.specs.declared.state.kept.Kept.{Kept}
 use Rattle.gate_history.specs.declared.note.Note.TheVariants as note
 use Rattle.gate_parts.specs.declared.state.stream_ids.SentIds.{SentIds}
 use Rattle.usb_base.specs.Number.{capped}
-use Rattle.gate_history.specs.declared.errno.TheConstants.{ESHUTDOWN}
+use Rattle.usb_base.specs.declared.errno.TheConstants.{ESHUTDOWN}
 use Rattle.gate_history.specs.state.Ids.{greatest, last_of}
 use Rattle.gate_history.specs.declared.verdict.Verdict.TheVariants.{Routed}
 use Rattle.gate_history.specs.state.Ups.{lower, is_ended}
