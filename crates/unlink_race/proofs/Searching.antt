@@ -8,7 +8,7 @@ use Rattle.std.proofs.Math.Bool.{and-false}
 use Rattle.usb_base.specs.Endpoint.{endpoint_index}
 use Rattle.urb_arena.specs.ArenaView.{ArenaView}
 use Rattle.urb_arena.specs.Lanes.{ByKey}
-use Rattle.unlink_race.specs.declared.table.TheConstants.{LANES}
+use Rattle.usb_base.specs.declared.endpoint.TheConstants.{ENDPOINTS}
 use Rattle.unlink_race.specs.declared.live.Live.{Live}
 use Rattle.unlink_race.specs.declared.live.LiveKind.{LiveKind}
 use Rattle.unlink_race.specs.declared.live.LiveKind.TheVariants.{Wire, Routed, Stream}
@@ -64,7 +64,7 @@ module _ {arena : ArenaView (ℕ × Live)} {keys : List ℕ} (s : IsSound arena 
   alike = kinds_zipped keys (in_order arena keys) (sym long_entries) ∙ ap (map (λ (e : ℕ × Live). e.1.kind)) (sym whole)
 
   -- those that wait for an endpoint's packets are those of its lane that do
-  waiting_are : (ep byte lane : ℕ) → byte ≡ ep → lane ≡ endpoint_index ep → lane < LANES → passing (ended_by (Told byte)) (values (get_or arena.lanes lane [])) ≡ passing (waits_for ep) (in_order arena keys)
+  waiting_are : (ep byte lane : ℕ) → byte ≡ ep → lane ≡ endpoint_index ep → lane < ENDPOINTS → passing (ended_by (Told byte)) (values (get_or arena.lanes lane [])) ≡ passing (waits_for ep) (in_order arena keys)
   waiting_are ep byte lane same at low =
       ap (λ b. passing (ended_by (Told b)) (values (get_or arena.lanes lane []))) same
       ∙ lane_passing (waits_for ep) (entry_of arena) (0 + lane) rows (get_or arena.lanes lane []) kept alike (all_backed arena.lanes keyed lane [] (get_or arena.lanes lane []) refl) (keys_home 0 arena.lanes lane rows (let e = s.lanes in omega (arith, low, e)) s.placed)
@@ -72,12 +72,12 @@ module _ {arena : ArenaView (ℕ × Live)} {keys : List ℕ} (s : IsSound arena 
       ∙ ap (λ n. passing (and_in (waits_for ep) n) (in_order arena keys)) (zero-add lane ∙ at)
       ∙ (λ i. passing (λ (x : Live). waits_there ep x.kind i) (in_order arena keys))
 
-  pub waiting_is : (ep byte lane : ℕ) → byte ≡ ep → lane ≡ endpoint_index ep → lane < LANES → earliest (ended_by (Told byte)) (values (get_or arena.lanes lane [])) ≡ earliest (waits_for ep) (in_order arena keys)
+  pub waiting_is : (ep byte lane : ℕ) → byte ≡ ep → lane ≡ endpoint_index ep → lane < ENDPOINTS → earliest (ended_by (Told byte)) (values (get_or arena.lanes lane [])) ≡ earliest (waits_for ep) (in_order arena keys)
   waiting_is ep byte lane same at low =
       earliest_passing (ended_by (Told byte)) (values (get_or arena.lanes lane [])) ∙ ap first_number (waiting_are ep byte lane same at low) ∙ sym (earliest_passing (waits_for ep) (in_order arena keys))
 
   -- the nth of them
-  pub nth_waiting : {xs : List Live} → lives_of arena keys ≡ xs → (ep byte lane nth : ℕ) → byte ≡ ep → lane ≡ endpoint_index ep → lane < LANES → option_map (λ (e : ℕ × Live). e.1) (slice_get (passing (ended_by (Told byte)) (values (get_or arena.lanes lane []))) nth) ≡ slice_get (filter (waits_for ep) xs) nth
+  pub nth_waiting : {xs : List Live} → lives_of arena keys ≡ xs → (ep byte lane nth : ℕ) → byte ≡ ep → lane ≡ endpoint_index ep → lane < ENDPOINTS → option_map (λ (e : ℕ × Live). e.1) (slice_get (passing (ended_by (Told byte)) (values (get_or arena.lanes lane []))) nth) ≡ slice_get (filter (waits_for ep) xs) nth
   nth_waiting v ep byte lane nth same at low =
       ap (λ (es : List (ℕ × Live)). option_map (λ (e : ℕ × Live). e.1) (slice_get es nth)) (waiting_are ep byte lane same at low)
       ∙ sym (slice_get-map (λ (e : ℕ × Live). e.1) (passing (waits_for ep) (in_order arena keys)) nth)

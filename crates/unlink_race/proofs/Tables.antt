@@ -8,7 +8,7 @@ use Rattle.std.proofs.lemmas.Option.{slice_get-get_or, slice_get-map, slice_get_
 use Rattle.usbip_urb.specs.declared.code.TheConstants.{MAX_LIVE}
 use Rattle.urb_arena.specs.ArenaView.{ArenaView, arena_view}
 use Rattle.urb_arena.specs.Lanes.{without, replaced, count}
-use Rattle.unlink_race.specs.declared.table.TheConstants.{LANES}
+use Rattle.usb_base.specs.declared.endpoint.TheConstants.{ENDPOINTS}
 use Rattle.unlink_race.specs.declared.live.Live.{Live}
 use Rattle.unlink_race.specs.declared.index.Index.{Index}
 use Rattle.unlink_race.specs.Inner.Indexed.{Stand, IsIndexed}
@@ -95,7 +95,7 @@ module _ {arena : ArenaView (ℕ × Live)} {keys : List ℕ} (s : IsSound arena 
       )
 
   -- a request is put behind the others, under a key that had none
-  module _ (arena' : ArenaView (ℕ × Live)) (lane number k : ℕ) (x : Live) (in_lane : lane < LANES) (vacant : entry_of arena k ≡ None) (made : arena' ≡ arena_view (set arena.lanes lane (get_or arena.lanes lane [] ++ (k, (number, x)) ∷ [])) arena.capacity) where
+  module _ (arena' : ArenaView (ℕ × Live)) (lane number k : ℕ) (x : Live) (in_lane : lane < ENDPOINTS) (vacant : entry_of arena k ≡ None) (made : arena' ≡ arena_view (set arena.lanes lane (get_or arena.lanes lane [] ++ (k, (number, x)) ∷ [])) arena.capacity) where
     inside : lane < length arena.lanes
     inside = omega (arith, in_lane, s.lanes)
 

@@ -1,7 +1,7 @@
 //! A request in flight.
 
 ghost use Rattle.std.specs.Prelude.{◌≡◌, ◌<◌};
-ghost use Rattle.unlink_race.specs.declared.table.TheConstants.{LANES};
+ghost use Rattle.usb_base.specs.declared.endpoint.TheConstants.{ENDPOINTS};
 ghost use Rattle.unlink_race.specs.Inner.Lane.{lane_of};
 ghost use Rattle.unlink_race.specs.Searches.{is_stream, is_touched_by, ends_with, is_change};
 
@@ -67,7 +67,7 @@ impl LiveKind {
     /// The lane of its endpoint, and the first for what went by a route.
     pub(crate) fn lane(&self) -> usize
         ensures value { result ≡ lane_of self.now }
-        ensures bound { result < LANES }
+        ensures bound { result < ENDPOINTS }
     {
         match self {
             LiveKind::Wire { ep, .. } => ep.index(),

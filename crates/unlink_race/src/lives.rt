@@ -4,7 +4,7 @@ ghost use Rattle.std.specs.Prelude.{◌≡◌, ◌<◌, ◌≤◌, ◌||◌, ◌
 ghost use Rattle.std.specs.List.{find, position, list_any};
 ghost use Rattle.std.specs.Result.{result_err};
 ghost use Rattle.urb_arena.specs.ArenaView.{arena_view};
-ghost use Rattle.unlink_race.specs.declared.table.TheConstants.{LANES};
+ghost use Rattle.usb_base.specs.declared.endpoint.TheConstants.{ENDPOINTS};
 ghost use Rattle.unlink_race.specs.declared.live.Live.{Live};
 ghost use Rattle.unlink_race.specs.Firsts.{without_first};
 ghost use Rattle.unlink_race.specs.Searches.{has_number, has_id, waits_for, touched_by, ended_by, changes};
@@ -13,13 +13,13 @@ ghost use Rattle.unlink_race.specs.Accepting.{refusal_of};
 ghost use Rattle.unlink_race.specs.Unlinking.{told_of, left_by, unlinked_by};
 
 use crate::live::{Live, StreamEnd};
-use crate::table::{LANES, Table};
+use crate::table::Table;
 use crate::unlink::{UnlinkTold, unlink};
 use control_route::Route;
 use std::alloc::Global;
 use std::marker::Model;
 use urb_arena::Arena;
-use usb_base::{EpAddr, Memory};
+use usb_base::{ENDPOINTS, EpAddr, Memory};
 use usbip_urb::MAX_LIVE;
 
 /// Why a submit isn't accepted.
@@ -54,14 +54,14 @@ impl Lives {
     pub fn make(alloc: Global) -> Result<Self, Memory>
         ensures { IfOk result (λ lives. lives ≡ no_requests) }
     {
-        let arena = Arena::new(alloc, MAX_LIVE, LANES)?;
+        let arena = Arena::new(alloc, MAX_LIVE, ENDPOINTS)?;
         Ok(Lives::over(arena))
     }
 
     /// No request, in an arena that is handed over: 4,096 requests fit, in a lane for each endpoint. What finds a
     /// request lies in the value itself, and no memory is taken.
     pub fn over(arena: Arena<(u64, Live)>) -> Self
-        requires { arena ≡ arena_view (replicate LANES []) MAX_LIVE }
+        requires { arena ≡ arena_view (replicate ENDPOINTS []) MAX_LIVE }
         ensures { result ≡ no_requests }
     {
         Lives {

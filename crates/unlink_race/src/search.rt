@@ -3,13 +3,13 @@
 ghost use Rattle.std.specs.Prelude.{◌≡◌, ◌<◌, true, [], None, length, map, get_or, slice_get, option_copied};
 ghost use Rattle.std.specs.Option.{option_map};
 ghost use Rattle.urb_arena.specs.Lanes.{find_in, ByKey};
-ghost use Rattle.unlink_race.specs.declared.table.TheConstants.{LANES};
+ghost use Rattle.usb_base.specs.declared.endpoint.TheConstants.{ENDPOINTS};
 ghost use Rattle.unlink_race.specs.Searches.{ended_by};
 ghost use Rattle.unlink_race.specs.Inner.Earliest.{passing, earliest, lesser, least};
 
 use crate::live::{Live, StreamEnd};
-use crate::table::LANES;
 use urb_arena::{Arena, Key};
+use usb_base::ENDPOINTS;
 
 /// The number of the request of a key.
 pub fn number_of(arena: &Arena<(u64, Live)>, key: Key) -> Option<u64>
@@ -74,12 +74,12 @@ fn first_in_lane(arena: &Arena<(u64, Live)>, lane: usize) -> Option<u64>
 
 /// The number of the earliest of all: one of the lanes' first.
 pub fn first_of_all(arena: &Arena<(u64, Live)>) -> Option<u64>
-    requires lanes { length arena.now.lanes ≡ LANES }
+    requires lanes { length arena.now.lanes ≡ ENDPOINTS }
     requires keys { ByKey arena.now.lanes }
     ensures { result ≡ least (λ live. true) None arena.now.lanes }
 {
     let mut first = None;
-    for lane in 0..LANES {
+    for lane in 0..ENDPOINTS {
         first = earlier(first, first_in_lane(arena, lane));
     }
     first
@@ -87,12 +87,12 @@ pub fn first_of_all(arena: &Arena<(u64, Live)>) -> Option<u64>
 
 /// The number of the earliest in all lanes whose stream ends so: one of the lanes' earliest.
 pub fn earliest_of_all(arena: &Arena<(u64, Live)>, end: &StreamEnd) -> Option<u64>
-    requires lanes { length arena.now.lanes ≡ LANES }
+    requires lanes { length arena.now.lanes ≡ ENDPOINTS }
     requires keys { ByKey arena.now.lanes }
     ensures { result ≡ least (ended_by end.now) None arena.now.lanes }
 {
     let mut first = None;
-    for lane in 0..LANES {
+    for lane in 0..ENDPOINTS {
         first = earlier(first, earliest_in_lane(arena, lane, end));
     }
     first

@@ -6,7 +6,7 @@ ghost use Rattle.std.specs.Prelude.{◌≡◌, ◌==◌, ◌<◌, ◌≤◌, ◌
 ghost use Rattle.std.specs.List.{find, position, list_any};
 ghost use Rattle.urb_arena.specs.Lanes.{find_in};
 ghost use Rattle.urb_arena.specs.ArenaView.{arena_view};
-ghost use Rattle.unlink_race.specs.declared.table.TheConstants.{LANES};
+ghost use Rattle.usb_base.specs.declared.endpoint.TheConstants.{ENDPOINTS};
 ghost use Rattle.unlink_race.specs.declared.live.Live.{Live};
 ghost use Rattle.unlink_race.specs.Firsts.{without_first};
 ghost use Rattle.unlink_race.specs.Inner.Indexed.{found_by};
@@ -27,14 +27,12 @@ use urb_arena::{Arena, Key};
 use usb_base::EpAddr;
 use usbip_urb::MAX_LIVE;
 
-/// A lane for each endpoint, at its index; the requests that went by a route stand in the first.
-pub const LANES: usize = 32;
-
 /// Requests in order of acceptance, at most 4,096; contracts see it as their list. No call takes memory: the requests
 /// stand in the arena alone, and what finds them lies in the table itself.
 #[derive(Drop)]
 pub struct Table {
-    // each request with its number, which rises in order of acceptance
+    // a lane for each endpoint, at its index, and in the first what went by a route, too: each request with its
+    // number, which rises in order of acceptance
     arena: Arena<(u64, Live)>,
     // above all numbers
     next: u64,
@@ -111,7 +109,7 @@ impl Table {
 
     /// The empty table over an arena.
     pub fn over(arena: Arena<(u64, Live)>) -> Self
-        requires { arena ≡ arena_view (replicate LANES []) MAX_LIVE }
+        requires { arena ≡ arena_view (replicate ENDPOINTS []) MAX_LIVE }
         ensures { result ≡ [] }
     {
         Table {

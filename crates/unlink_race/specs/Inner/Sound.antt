@@ -4,7 +4,7 @@ use Rattle.std.specs.List.{zip}
 use Rattle.usbip_urb.specs.declared.code.TheConstants.{MAX_LIVE}
 use Rattle.urb_arena.specs.ArenaView.{ArenaView}
 use Rattle.urb_arena.specs.Lanes.{find_in, count}
-use Rattle.unlink_race.specs.declared.table.TheConstants.{LANES}
+use Rattle.usb_base.specs.declared.endpoint.TheConstants.{ENDPOINTS}
 use Rattle.unlink_race.specs.declared.live.Live.{Live}
 use Rattle.unlink_race.specs.Requests.{Requests}
 use Rattle.unlink_race.specs.Inner.Listed.{IsKeyed, listed}
@@ -44,7 +44,7 @@ pub record IsSound (arena : ArenaView (ℕ × Live)) (keys : List ℕ) : Type 0 
   pub all : count arena.lanes ≡ length keys
   pub bound : length keys ≤ MAX_LIVE
   pub capacity : arena.capacity ≡ MAX_LIVE
-  pub lanes : length arena.lanes ≡ LANES
+  pub lanes : length arena.lanes ≡ ENDPOINTS
   pub placed : ArePlaced 0 (keys_of arena) (zip keys (lives_of arena keys))
 
 -- the one list is the live or the abandoned requests
