@@ -4,7 +4,7 @@ use Rattle.control_route.specs.Changes.{touches, is_change as is_change_route}
 use Rattle.control_route.specs.declared.route.Route.{Route}
 use Rattle.unlink_race.specs.declared.live.Live.{Live}
 use Rattle.unlink_race.specs.declared.live.LiveKind.{LiveKind}
-use Rattle.unlink_race.specs.declared.live.LiveKind.TheVariants.{Wire, Routed, Stream}
+use Rattle.unlink_race.specs.declared.live.LiveKind.TheVariants.{Routed, Stream}
 use Rattle.unlink_race.specs.declared.live.StreamEnd.{StreamEnd}
 use Rattle.unlink_race.specs.declared.live.StreamEnd.TheVariants.{ClientGone, Told, Change}
 
@@ -12,21 +12,18 @@ use Rattle.unlink_race.specs.declared.live.StreamEnd.TheVariants.{ClientGone, To
 
 -- it waits for packets of a stream
 abbrev pub is_stream : LiveKind → Bool
-is_stream (Wire ep kind) = false
-is_stream (Routed route) = false
 is_stream (Stream ep interface) = true
+is_stream _ = false
 
 -- for those of this endpoint's
 abbrev pub waits_at : ℕ → LiveKind → Bool
-waits_at at (Wire ep kind) = false
-waits_at at (Routed route) = false
 waits_at at (Stream ep interface) = ep == at
+waits_at at _ = false
 
 -- for those of a stream that ends once the route is carried out
 abbrev pub is_touched_by : Route → LiveKind → Bool
-is_touched_by by (Wire ep kind) = false
-is_touched_by by (Routed route) = false
 is_touched_by by (Stream ep interface) = touches by interface
+is_touched_by by _ = false
 
 -- for those of a stream that ends so
 abbrev pub ends_with : StreamEnd → LiveKind → Bool
@@ -36,9 +33,8 @@ ends_with (Change route) kind = is_touched_by route kind
 
 -- it changes the device's interfaces
 abbrev pub is_change : LiveKind → Bool
-is_change (Wire ep kind) = false
 is_change (Routed route) = is_change_route route
-is_change (Stream ep interface) = false
+is_change _ = false
 
 -- ---- as a request
 
