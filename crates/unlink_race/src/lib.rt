@@ -16,4 +16,4 @@ mod unlink;
 pub use ending::{Ending, ending_of};
 pub use live::{Live, LiveKind, StreamEnd};
 pub use lives::{Lives, NotAccepted};
-pub use unlink::UnlinkTold;
+pub use unlink::{AskedBack, UnlinkTold};

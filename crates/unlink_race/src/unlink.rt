@@ -3,12 +3,39 @@
 ghost use Rattle.std.specs.Prelude.{◌≡◌};
 ghost use Rattle.std.specs.List.{find};
 ghost use Rattle.unlink_race.specs.Searches.{has_number};
-ghost use Rattle.unlink_race.specs.Unlinking.{told_of, left_by};
+ghost use Rattle.unlink_race.specs.Unlinking.{asked_back, told_of, left_by};
 
 use crate::live::{Live, LiveKind};
 use crate::table::Table;
 
-/// What becomes of an unlink.
+/// What becomes of a request that an unlink asks for.
+#[derive(Clone, Copy)]
+pub enum AskedBack {
+    /// It is being unlinked already, by the unlink with this number, which is kept.
+    Already(u32),
+    /// It waits for a stream, and is taken out.
+    Taken,
+    /// The host has it under this id, and is to be asked to cancel it: its answer decides.
+    Cancel(u64),
+    /// It went by a route, and those aren't cancelled: its status comes first.
+    Waits,
+}
+
+impl Live {
+    /// What becomes of it as it is asked back.
+    pub fn asked_back(&self) -> AskedBack
+        ensures { result ≡ asked_back self.now }
+    {
+        match (self.unlinker, self.kind) {
+            (Some(first), _) => AskedBack::Already(first),
+            (None, LiveKind::Stream { .. }) => AskedBack::Taken,
+            (None, LiveKind::Wire { .. }) => AskedBack::Cancel(self.id),
+            (None, LiveKind::Routed(_)) => AskedBack::Waits,
+        }
+    }
+}
+
+/// What an unlink is told.
 #[derive(Drop)]
 pub enum UnlinkTold {
     /// No request with this number is live: it has been answered, or never was.
@@ -32,18 +59,14 @@ pub fn unlink(table: &mut Table, target: u32, by: u32) -> UnlinkTold
         Some(place) => place,
         None => return UnlinkTold::NotLive,
     };
-    let live = table.at(place);
-    if let Some(first) = live.unlinker {
-        return UnlinkTold::Already(first);
-    }
-    let id = live.id;
-    match live.kind {
-        LiveKind::Stream { .. } => UnlinkTold::Taken(table.remove(place)),
-        LiveKind::Wire { .. } => {
+    match table.at(place).asked_back() {
+        AskedBack::Already(first) => UnlinkTold::Already(first),
+        AskedBack::Taken => UnlinkTold::Taken(table.remove(place)),
+        AskedBack::Cancel(id) => {
             table.mark(place, by);
             UnlinkTold::Cancel(id)
         }
-        LiveKind::Routed(_) => {
+        AskedBack::Waits => {
             table.mark(place, by);
             UnlinkTold::Waits
         }

@@ -16,42 +16,42 @@ returns-in-None-clause-left c =
     let absent = (took_none (has_number c.args.target) _ (sym c.place_of_number.ensures ∙ c.in-None.is)).0 in
     ap (λ o. left_by c.args.target c.args.by o c.args.table.now) absent
 
-pub returns-in-Some-unlinker-clause-told : goal.returns-in-Some-unlinker-clause-told
-returns-in-Some-unlinker-clause-told c =
+pub returns-in-Already-clause-told : goal.returns-in-Already-clause-told
+returns-in-Already-clause-told c =
     let at = took_first (has_number c.args.target) _ _ (sym c.place_of_number.ensures ∙ c.in-Some.is) in
-    rw (← at.0, c.at-live.ensures, c.in-Some-unlinker.is) refl
+    sym (told_at _ _ _ (sym at.0 ∙ c.at.ensures) (sym c.asked_back.ensures ∙ c.in-Already.is))
 
-pub returns-in-Some-unlinker-clause-left : goal.returns-in-Some-unlinker-clause-left
-returns-in-Some-unlinker-clause-left c =
+pub returns-in-Already-clause-left : goal.returns-in-Already-clause-left
+returns-in-Already-clause-left c =
     let at = took_first (has_number c.args.target) _ _ (sym c.place_of_number.ensures ∙ c.in-Some.is) in
-    rw (← at.0, c.at-live.ensures, c.in-Some-unlinker.is) refl
+    sym (left_at c.args.target c.args.by c.args.table.now _ _ _ (sym at.0 ∙ c.at.ensures) (sym c.asked_back.ensures ∙ c.in-Already.is))
 
-pub returns-in-Stream-clause-told : goal.returns-in-Stream-clause-told
-returns-in-Stream-clause-told c =
+pub returns-in-Taken-clause-told : goal.returns-in-Taken-clause-told
+returns-in-Taken-clause-told c =
     let at = took_first (has_number c.args.target) _ _ (sym c.place_of_number.ensures ∙ c.in-Some.is) in
-    let one : Some c.remove.result ≡ Some c.at-live.result.now = sym c.remove.ensures.live ∙ c.at-live.ensures in
-    let same : c.remove.result ≡ c.at-live.result.now = cc in
-    ap Taken same ∙ sym (told_at _ _ _ (sym at.0 ∙ c.at-live.ensures) c.in_default.is c.in-Stream.is)
+    let one : Some c.remove.result ≡ Some c.at.result.now = sym c.remove.ensures.live ∙ c.at.ensures in
+    let same : c.remove.result ≡ c.at.result.now = cc in
+    ap Taken same ∙ sym (told_at _ _ _ (sym at.0 ∙ c.at.ensures) (sym c.asked_back.ensures ∙ c.in-Taken.is))
 
-pub returns-in-Stream-clause-left : goal.returns-in-Stream-clause-left
-returns-in-Stream-clause-left c =
+pub returns-in-Taken-clause-left : goal.returns-in-Taken-clause-left
+returns-in-Taken-clause-left c =
     let at = took_first (has_number c.args.target) _ _ (sym c.place_of_number.ensures ∙ c.in-Some.is) in
-    c.remove.ensures.rest ∙ at.1 ∙ sym (left_at c.args.target c.args.by c.args.table.now _ _ _ (sym at.0 ∙ c.at-live.ensures) c.in_default.is c.in-Stream.is)
+    c.remove.ensures.rest ∙ at.1 ∙ sym (left_at c.args.target c.args.by c.args.table.now _ _ _ (sym at.0 ∙ c.at.ensures) (sym c.asked_back.ensures ∙ c.in-Taken.is))
 
-pub returns-in-Wire-clause-told : goal.returns-in-Wire-clause-told
-returns-in-Wire-clause-told c =
+pub returns-in-Cancel-clause-told : goal.returns-in-Cancel-clause-told
+returns-in-Cancel-clause-told c =
     let at = took_first (has_number c.args.target) _ _ (sym c.place_of_number.ensures ∙ c.in-Some.is) in
-    sym (told_at _ _ _ (sym at.0 ∙ c.at-live.ensures) c.in_default.is c.in-Wire.is)
+    sym (told_at _ _ _ (sym at.0 ∙ c.at.ensures) (sym c.asked_back.ensures ∙ c.in-Cancel.is))
 
-pub returns-in-Wire-clause-left : goal.returns-in-Wire-clause-left
-returns-in-Wire-clause-left c =
-    c.mark.ensures _ c.at-live.ensures ∙ marked_at c.args.target c.args.by _ c.args.table.now _ _ (sym c.place_of_number.ensures ∙ c.in-Some.is) c.at-live.ensures c.in_default.is c.in-Wire.is refl
+pub returns-in-Cancel-clause-left : goal.returns-in-Cancel-clause-left
+returns-in-Cancel-clause-left c =
+    c.mark.ensures _ c.at.ensures ∙ marked_at c.args.target c.args.by _ c.args.table.now _ _ (sym c.place_of_number.ensures ∙ c.in-Some.is) c.at.ensures (sym c.asked_back.ensures ∙ c.in-Cancel.is) refl
 
-pub returns-in-Routed-clause-told : goal.returns-in-Routed-clause-told
-returns-in-Routed-clause-told c =
+pub returns-in-Waits-clause-told : goal.returns-in-Waits-clause-told
+returns-in-Waits-clause-told c =
     let at = took_first (has_number c.args.target) _ _ (sym c.place_of_number.ensures ∙ c.in-Some.is) in
-    sym (told_at _ _ _ (sym at.0 ∙ c.at-live.ensures) c.in_default.is c.in-Routed.is)
+    sym (told_at _ _ _ (sym at.0 ∙ c.at.ensures) (sym c.asked_back.ensures ∙ c.in-Waits.is))
 
-pub returns-in-Routed-clause-left : goal.returns-in-Routed-clause-left
-returns-in-Routed-clause-left c =
-    c.mark-in-Routed.ensures _ c.at-live.ensures ∙ marked_at c.args.target c.args.by _ c.args.table.now _ _ (sym c.place_of_number.ensures ∙ c.in-Some.is) c.at-live.ensures c.in_default.is c.in-Routed.is refl
+pub returns-in-Waits-clause-left : goal.returns-in-Waits-clause-left
+returns-in-Waits-clause-left c =
+    c.mark-in-Waits.ensures _ c.at.ensures ∙ marked_at c.args.target c.args.by _ c.args.table.now _ _ (sym c.place_of_number.ensures ∙ c.in-Some.is) c.at.ensures (sym c.asked_back.ensures ∙ c.in-Waits.is) refl
