@@ -47,13 +47,16 @@ together (Ok x) device device2 course course2 blocks blocks2 a b c = λ i. disk_
 together (Err e) device device2 course course2 blocks blocks2 a b c = tt
 
 -- what a transfer that is a turn gives, and how the device stands then
-pub outcome-of_turn : (d : DiskState) (t : Transfer) (o : Option Turn) (r : Result (Option Outcome) Memory) → disk_step d t ≡ on_blocks d.blocks (turned d.state.device o) → IfOk r (λ outcome. outcome ≡ turn_outcome d.blocks o) → IfOk r (λ outcome. outcome ≡ given_in (disk_step d t))
-outcome-of_turn d t o r is gives = subst (λ x. IfOk r (λ outcome. outcome ≡ x)) (sym (ap given_in is ∙ outcome_turned d.blocks d.state.device o)) gives
+-- of a disk that is seen so
+pub outcome-of_turn : {d seen : DiskState} (t : Transfer) (o : Option Turn) (r : Result (Option Outcome) Memory) → d ≡ seen → disk_step d t ≡ on_blocks d.blocks (turned d.state.device o) → IfOk r (λ outcome. outcome ≡ turn_outcome d.blocks o)
+    → IfOk r (λ outcome. outcome ≡ given_in (disk_step seen t))
+outcome-of_turn {d = d} t o r seen is gives =
+    subst (λ (s : DiskState). IfOk r (λ outcome. outcome ≡ given_in (disk_step s t))) seen (subst (λ x. IfOk r (λ outcome. outcome ≡ x)) (sym (ap given_in is ∙ outcome_turned d.blocks d.state.device o)) gives)
 
-pub state-of_turn : {X Y : Type 0} (d : DiskState) (t : Transfer) (o : Option Turn) (r : Result X Y) (device : DevState) (course : Course) (blocks : List ℕ) → disk_step d t ≡ on_blocks d.blocks (turned d.state.device o)
-    → OnOk r (device ≡ turn_device d.state.device o) → OnOk r (course ≡ turn_course d.state.kept o) → OnOk r (blocks ≡ turn_blocks d.blocks o) → OnOk r (disk_of device course blocks ≡ state_in d (disk_step d t))
-state-of_turn d t o r device course blocks is a b c =
-    subst (λ x. OnOk r (disk_of device course blocks ≡ x)) (sym (ap (state_in d) is ∙ state_turned d o)) (together r device (turn_device d.state.device o) course (turn_course d.state.kept o) blocks (turn_blocks d.blocks o) a b c)
+pub state-of_turn : {X Y : Type 0} {d seen : DiskState} (t : Transfer) (o : Option Turn) (r : Result X Y) (device : DevState) (course : Course) (blocks : List ℕ) → d ≡ seen → disk_step d t ≡ on_blocks d.blocks (turned d.state.device o)
+    → OnOk r (device ≡ turn_device d.state.device o) → OnOk r (course ≡ turn_course d.state.kept o) → OnOk r (blocks ≡ turn_blocks d.blocks o) → OnOk r (disk_of device course blocks ≡ state_in seen (disk_step seen t))
+state-of_turn {d = d} t o r device course blocks seen is a b c =
+    subst (λ (s : DiskState). OnOk r (disk_of device course blocks ≡ state_in s (disk_step s t))) seen (subst (λ x. OnOk r (disk_of device course blocks ≡ x)) (sym (ap (state_in d) is ∙ state_turned d o)) (together r device (turn_device d.state.device o) course (turn_course d.state.kept o) blocks (turn_blocks d.blocks o) a b c))
 
 -- a turn from the device neither halts it nor writes a block
 pub gives-apart : (device : DevState) (blocks : List ℕ) (sense : Option Sense) (wanted : ℕ) (stage : Stage) → (device ≡ turn_device device (given_by sense wanted stage)) × (blocks ≡ turn_blocks blocks (given_by sense wanted stage))
