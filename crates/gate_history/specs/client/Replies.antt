@@ -1,8 +1,9 @@
 -- The replies to list and import requests: the one device, as it was told, or none.
-use Rattle.std.specs.Prelude.{ℕ, ◌==◌, Bool, if◌then◌else◌, List, [], ◌∷◌, length, take, map, codes, bytes_eq, Option, Some, None}
+use Rattle.std.specs.Prelude.{ℕ, ◌==◌, Bool, if◌then◌else◌, List, [], ◌∷◌, ◌++◌, length, take, map, codes, bytes_eq, Option, Some, None}
 use Rattle.std.specs.Option.{option_map_or, option_to_list}
 use Rattle.usb_base.specs.Speed.{speed_of, usbip_speed}
 use Rattle.usb_base.specs.Text.{padded}
+use Rattle.usbip_op.specs.declared.exported.TheConstants.{BUS_ID, BUS_NUMBER, DEVICE_NUMBER}
 use Rattle.usbip_op.specs.declared.packet.OpPacket.{OpPacket}
 use Rattle.usbip_op.specs.declared.packet.OpPacket.TheVariants.{RepDevlist, RepImport}
 use Rattle.usbip_op.specs.declared.packet.DeviceRow.{DeviceRow}
@@ -22,10 +23,10 @@ interface_rows info = option_map_or (λ i. take i.count (rows i.class i.subclass
 
 abbrev pub device_row : Facts → Connect → DeviceRow
 device_row f c = record {
-  path = padded 256 (codes "/usbredir/1-1");
-  busid = padded 32 (codes "1-1");
-  busnum = 1;
-  devnum = 2;
+  path = padded 256 (codes "/usbredir/" ++ BUS_ID);
+  busid = padded 32 BUS_ID;
+  busnum = BUS_NUMBER;
+  devnum = DEVICE_NUMBER;
   speed = usbip_speed (speed_of c.speed);
   vendor = c.vendor;
   product = c.product;
@@ -51,7 +52,7 @@ text_of [] = []
 text_of (b ∷ bs) = if b == 0 then [] else b ∷ text_of bs
 
 abbrev pub is_exported : List ℕ → Bool
-is_exported busid = bytes_eq (text_of busid) (codes "1-1")
+is_exported busid = bytes_eq (text_of busid) BUS_ID
 
 -- any status other than 0 says that there is no such device to import
 abbrev pub failed_import : OpPacket

@@ -9,7 +9,9 @@ use gate_history::Facts;
 use redir_wire::{Connect, InterfaceInfo, MAX_INTERFACES};
 use std::alloc::Global;
 use usb_base::{Memory, Speed, padded};
-use usbip_op::{DeviceRow, IfaceRow, IfaceRows, Listed, ListedRows, OpPacket};
+use usbip_op::{
+    BUS_ID, BUS_NUMBER, DEVICE_NUMBER, DeviceRow, IfaceRow, IfaceRows, Listed, ListedRows, OpPacket,
+};
 
 /// The list of the one device, or of none before its device_connect.
 pub fn list_reply(alloc: Global, facts: &Facts) -> Result<OpPacket, Memory>
@@ -106,9 +108,9 @@ fn device_row(facts: &Facts, connect: &Connect, interfaces: u8) -> DeviceRow
 {
     DeviceRow {
         path: padded(b"/usbredir/1-1"),
-        busid: padded(b"1-1"),
-        busnum: 1,
-        devnum: 2,
+        busid: padded(&BUS_ID),
+        busnum: BUS_NUMBER,
+        devnum: DEVICE_NUMBER,
         speed: Speed::from_redir(connect.speed).usbip(),
         vendor: connect.vendor,
         product: connect.product,
