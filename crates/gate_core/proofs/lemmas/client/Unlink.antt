@@ -1,6 +1,6 @@
 -- What an unlink makes of what is kept, and what it sends and tells.
 use Rattle.std.specs.Option.{option_or}
-use Rattle.std.proofs.Common.{◌≡◌, ℕ, ◌+◌, ◌-◌, ◌^◌, ◌≤◌, ◌==◌, ◌&&◌, ◌||◌, Bool, true, false, cond, not, List, [], ◌∷◌, ◌++◌, length, map, Some, None, pos, refl, sym, ap, ◌∙◌, arith}
+use Rattle.std.proofs.Common.{◌≡◌, ℕ, ◌+◌, ◌-◌, ◌^◌, ◌≤◌, ◌==◌, ◌&&◌, ◌||◌, Bool, true, false, cond, not, List, [], ◌∷◌, ◌++◌, length, map, Option, Some, None, pos, refl, sym, ap, ◌∙◌, arith}
 use Rattle.std.specs.Prelude.{filter, is_none}
 use Rattle.std.specs.List.{list_any, flat_map}
 use Rattle.std.proofs.lemmas.List.{append-nil, length-map}
@@ -16,7 +16,8 @@ use Rattle.unlink_race.specs.Searches.{has_number}
 use Rattle.gate_history.specs.declared.note.Note.TheVariants as note
 use Rattle.gate_parts.specs.declared.write.outputs.Outputs.{Outputs}
 use Rattle.gate_core.specs.declared.state.kept.Kept.{Kept}
-use Rattle.gate_core.specs.declared.client.unlink.UnlinkAnswer.{UnlinkAnswer}
+use Rattle.unlink_race.specs.Unlinking.{left_as}
+use Rattle.unlink_race.specs.declared.unlink.AskedBack.{AskedBack}
 use Rattle.usb_base.specs.Number.{capped}
 use Rattle.usb_base.specs.declared.errno.TheConstants.{ECONNRESET}
 use Rattle.gate_history.specs.step.Marks.{Effect, Unlinks}
@@ -32,7 +33,7 @@ use Rattle.gate_history.specs.write.All.{is_ret_submit, is_won_unlink}
 use Rattle.gate_history.specs.write.Bytes.{host_packet_bytes}
 use Rattle.gate_history.specs.step.Machine.{ask}
 use Rattle.gate_parts.specs.state.Rows.{row, row_of}
-use Rattle.gate_core.specs.inner.Unlink.{asked_row, is_taken_row, cancel_row, asked_rows, left_told, is_late, taken_count, taken_bytes, told_bytes}
+use Rattle.gate_core.specs.inner.Unlink.{asked_row, is_taken_row, cancel_row, asked_rows, is_late, taken_count, taken_bytes, asked_bytes}
 use Rattle.gate_core.specs.inner.Holds.{Holds, Does}
 use Rattle.gate_history.proofs.lemmas.Lists.{Each, Each-weaker, filter-map}
 use Rattle.gate_parts.proofs.lemmas.state.Rows.{wire-row, by_id-row}
@@ -98,24 +99,24 @@ one-numbered t st target h sound =
 
 -- ---- what is done
 
-pub does-unlink : (st : State) (by target : ℕ) (told : UnlinkAnswer) (old new : Kept) (out_old out_new : Outputs) → Holds old st → IsSound st →
+pub does-unlink : (st : State) (by target : ℕ) (told : Option AskedBack) (old new : Kept) (out_old out_new : Outputs) → Holds old st → IsSound st →
     old.answered ≤ 2 ^ 64 - 1 → old.dropped ≤ 2 ^ 64 - 1 → Told old.caps target by old.lives.live told →
-    new ≡ record old { lives = record { live = left_told told target by old.lives.live; abandoned = old.lives.abandoned }; unlinked = capped (old.unlinked + taken_count told) } →
+    new ≡ record old { lives = record { live = left_as target by told old.lives.live; abandoned = old.lives.abandoned }; unlinked = capped (old.unlinked + taken_count told) } →
     out_new.to_client ≡ out_old.to_client ++ (cond (is_late told) (spelling (ret_unlink by (pos 0))) [] ++ taken_bytes by told) →
-    out_new.to_host ≡ out_old.to_host ++ told_bytes old.caps told →
+    out_new.to_host ≡ out_old.to_host ++ asked_bytes old.caps told →
     out_new.notes ≡ out_old.notes ++ note.UnlinkAsked by target ∷ [] →
     Does st (mark_as st (Unlinks by target) None) old new out_old out_new
 does-unlink st by target told old new out_old out_new h sound answered_fits dropped_fits t is client host notes =
     let so = all-so by target st sound in
     let e : Effect = Unlinks by target in
     let found : Bool = list_any (λ p. is_target target p || is_taken target p) st.live in
-    does-ending st e (is_taken_row target) (back by target) refl (unlinks-silent st by target) so old new (left_told told target by old.lives.live) 0 (taken_count told)
+    does-ending st e (is_taken_row target) (back by target) refl (unlinks-silent st by target) so old new (left_as target by told old.lives.live) 0 (taken_count told)
     out_old out_new h dropped_fits
     (counted-none e (is_taken_row target) (back by target) is_ret_submit (λ l. refl) st.live so)
     (counted-all e (is_taken_row target) (back by target) is_won_unlink (λ l. refl) st.live so ∙ ap (λ (ls : List Live). length (filter (is_taken_row target) ls)) (sym h.live) ∙ sym t.count)
     (t.rows ∙ ap (asked_rows target by) h.live ∙ ap (map (asked_row target by)) (sym (stay-rows e (is_taken_row target) (back by target) st.live so)) ∙ asked-rows by target (filter (λ p. is_none (ends e p.submit)) st.live))
     (is ∙ (λ i. record old {
-      lives = record { live = left_told told target by old.lives.live; abandoned = old.lives.abandoned };
+      lives = record { live = left_as target by told old.lives.live; abandoned = old.lives.abandoned };
       answered = capped-same old.answered answered_fits i;
       unlinked = capped (old.unlinked + taken_count told);
     }))

@@ -1,17 +1,19 @@
-use Rattle.std.proofs.Common.{◌≡◌, Bool, List, ◌++◌, ℕ, Option, Some, slice_get, sym, ap, subst, ◌∙◌}
-use Rattle.std.specs.List.{find, position}
+use Rattle.std.proofs.Common.{List, ◌++◌, ℕ, sym, ap, subst, ◌∙◌}
+use Rattle.std.specs.Option.{option_copied}
 use Rattle.std.proofs.lemmas.List.{append-nil}
 use Rattle.std.proofs.lemmas.Result.{on_ok_weaker}
-use Rattle.unlink_race.specs.declared.live.Live.{Live}
+use Rattle.redir_wire.specs.Header.{IdFits}
 use Rattle.unlink_race.specs.Searches.{has_number}
 use Rattle.unlink_race.specs.Firsts.{change_first}
 use Rattle.unlink_race.specs.Unlinking.{unlinked_by}
-use Rattle.unlink_race.proofs.Firsts.{took_first, took_none, position_found}
+use Rattle.unlink_race.proofs.Firsts.{position_found}
+use Rattle.unlink_race.proofs.Told.{lent}
+use Rattle.gate_history.specs.state.Flight.{wide_ids}
+use Rattle.gate_parts.specs.state.Rows.{IsFine}
 use Rattle.gate_core.specs.declared.state.kept.Kept.{Kept}
-use Rattle.gate_core.specs.declared.client.unlink.UnlinkAnswer.{UnlinkAnswer}
-use Rattle.gate_core.specs.inner.Unlink.{asked_of}
+use Rattle.gate_core.proofs.lemmas.Held.{there, each-at}
 use Rattle.gate_core.proofs.lemmas.step.Quiet.{capped-same}
-use Rattle.gate_core.proofs.lemmas.client.UnlinkRows.{Told, rows-told}
+use Rattle.gate_core.proofs.lemmas.client.UnlinkRows.{told-nowhere, told-there, cancelled-id, is_marking, marked-by_id}
 use Rattle.gate_core.proofs.lemmas.client.Unlink.{one-numbered, does-unlink}
 use Rattle.gate_core.proofs.state.kept.Kept.ask_back.Goals as goal
 
@@ -19,18 +21,27 @@ use Rattle.gate_core.proofs.state.kept.Kept.ask_back.Goals as goal
 abbrev marked : (target by : ℕ) → Kept → ℕ → Kept
 marked target by old unlinked = record old { lives = record { live = change_first (has_number target) (unlinked_by by) old.lives.live; abandoned = old.lives.abandoned }; unlinked = unlinked }
 
--- what is told of the one that has the number is told of its place
-asked-so : (test : Live → Bool) (ls : List Live) (i : ℕ) → position test ls ≡ Some i → asked_of (find test ls) ≡ asked_of (slice_get ls i)
-asked-so test ls i is = ap asked_of (sym (took_first test ls i is).0)
+pub unwrap-submit-requires : goal.unwrap-submit-requires
+unwrap-submit-requires c =
+    let one = there c.args.self.now.lives.live c.in-Some.at (position_found (has_number c.args.target) c.args.self.now.lives.live c.in-Some.at (sym c.place_of_number.ensures ∙ c.in-Some.is)).1 in
+    lent c.at.result one.0 (c.at.ensures ∙ one.1)
 
-pub asked-requires-clause-there : goal.asked-requires-clause-there
-asked-requires-clause-there c = (position_found (has_number c.args.target) c.args.self.now.lives.live c.in-Some.at (sym c.place_of_number.ensures ∙ c.in-Some.is)).1
+pub write_cancel-requires : goal.write_cancel-requires
+write_cancel-requires c =
+    let t = c.args.self.now in
+    let l = c.unwrap-submit.result.now in
+    let fine = each-at (IsFine t.caps) t.lives.live c.in-Some.at l c.requires.kept.fine (sym c.at.ensures ∙ ap option_copied c.unwrap-submit.ensures) in
+    subst (λ (n : ℕ). IdFits (wide_ids t.caps) n) (cancelled-id l.unlinker l.kind l.id c.in-Cancel.id (sym c.asked_back.ensures ∙ c.in-Cancel.is)) fine.id_fits
 
 pub mark-requires-clause-there : goal.mark-requires-clause-there
-mark-requires-clause-there c = (c.args.target, sym c.place_of_number.ensures ∙ c.in-Some.is)
+mark-requires-clause-there c =
+    let l = c.unwrap-submit.result.now in
+    (l, sym c.at.ensures ∙ ap option_copied c.unwrap-submit.ensures, marked-by_id l.unlinker l.kind l.id (ap is_marking (sym c.asked_back.ensures ∙ c.in-Cancel.is)))
 
 pub mark-requires-in-Waits-clause-there : goal.mark-requires-in-Waits-clause-there
-mark-requires-in-Waits-clause-there c = (c.args.target, sym c.place_of_number.ensures ∙ c.in-Some.is)
+mark-requires-in-Waits-clause-there c =
+    let l = c.unwrap-submit.result.now in
+    (l, sym c.at.ensures ∙ ap option_copied c.unwrap-submit.ensures, marked-by_id l.unlinker l.kind l.id (ap is_marking (sym c.asked_back.ensures ∙ c.in-Waits.is)))
 
 pub take_back-requires-clause-there : goal.take_back-requires-clause-there
 take_back-requires-clause-there c = (c.args.target, sym c.place_of_number.ensures ∙ c.in-Some.is)
@@ -38,28 +49,27 @@ take_back-requires-clause-there c = (c.args.target, sym c.place_of_number.ensure
 pub returns-in_default-clause-ok : goal.returns-in_default-clause-ok
 returns-in_default-clause-ok c st h sound =
     let old = c.args.self.now in
-    let none = sym (took_none (has_number c.args.target) old.lives.live (sym c.place_of_number.ensures ∙ c.in_default.is)).0 in
-    let told = subst (λ (o : Option Live). Told old.caps c.args.target c.args.by old.lives.live (asked_of o)) none (rows-told old.caps c.args.target c.args.by old.lives.live (one-numbered old st c.args.target h sound)) in
+    let told = told-nowhere old.caps c.args.target c.args.by old.lives.live (one-numbered old st c.args.target h sound) c.requires.kept.fine (sym c.place_of_number.ensures ∙ c.in_default.is) in
     on_ok_weaker c.write_ret_unlink.result (λ sent.
     does-unlink st c.args.by c.args.target _ old old _ _ h sound c.requires.kept.answered_fits c.requires.kept.dropped_fits told
     (λ i. record old { unlinked = capped-same old.unlinked c.requires.kept.unlinked_fits i })
     (sent ∙ ap (λ (bs : List ℕ). c.args.out.now.to_client ++ bs) (sym (append-nil _)))
     (sym (append-nil c.args.out.now.to_host)) c.in_ok-push.ensures.ok) c.write_ret_unlink.ensures.ok
 
-pub returns-in-Late-clause-ok : goal.returns-in-Late-clause-ok
-returns-in-Late-clause-ok c st h sound =
+pub returns-in-Already-clause-ok : goal.returns-in-Already-clause-ok
+returns-in-Already-clause-ok c st h sound =
     let old = c.args.self.now in
-    let told = subst (λ (a : UnlinkAnswer). Told old.caps c.args.target c.args.by old.lives.live a) (asked-so (has_number c.args.target) old.lives.live c.in-Some.at (sym c.place_of_number.ensures ∙ c.in-Some.is) ∙ sym c.asked.ensures.value ∙ c.in-Late.is) (rows-told old.caps c.args.target c.args.by old.lives.live (one-numbered old st c.args.target h sound)) in
-    on_ok_weaker c.write_ret_unlink-in-Late.result (λ sent.
+    let told = told-there old.caps c.args.target c.args.by old.lives.live c.in-Some.at _ _ (one-numbered old st c.args.target h sound) c.requires.kept.fine (sym c.place_of_number.ensures ∙ c.in-Some.is) (sym c.at.ensures ∙ ap option_copied c.unwrap-submit.ensures) (sym c.asked_back.ensures ∙ c.in-Already.is) in
+    on_ok_weaker c.write_ret_unlink-in-Already.result (λ sent.
     does-unlink st c.args.by c.args.target _ old old _ _ h sound c.requires.kept.answered_fits c.requires.kept.dropped_fits told
     (λ i. record old { unlinked = capped-same old.unlinked c.requires.kept.unlinked_fits i })
     (sent ∙ ap (λ (bs : List ℕ). c.args.out.now.to_client ++ bs) (sym (append-nil _)))
-    (sym (append-nil c.args.out.now.to_host)) c.in_ok-push.ensures.ok) c.write_ret_unlink-in-Late.ensures.ok
+    (sym (append-nil c.args.out.now.to_host)) c.in_ok-push.ensures.ok) c.write_ret_unlink-in-Already.ensures.ok
 
 pub returns-in_ok-write_cancel-in-Cancel-clause-ok : goal.returns-in_ok-write_cancel-in-Cancel-clause-ok
 returns-in_ok-write_cancel-in-Cancel-clause-ok c st h sound =
     let old = c.args.self.now in
-    let told = subst (λ (a : UnlinkAnswer). Told old.caps c.args.target c.args.by old.lives.live a) (asked-so (has_number c.args.target) old.lives.live c.in-Some.at (sym c.place_of_number.ensures ∙ c.in-Some.is) ∙ sym c.asked.ensures.value ∙ c.in-Cancel.is) (rows-told old.caps c.args.target c.args.by old.lives.live (one-numbered old st c.args.target h sound)) in
+    let told = told-there old.caps c.args.target c.args.by old.lives.live c.in-Some.at _ _ (one-numbered old st c.args.target h sound) c.requires.kept.fine (sym c.place_of_number.ensures ∙ c.in-Some.is) (sym c.at.ensures ∙ ap option_copied c.unwrap-submit.ensures) (sym c.asked_back.ensures ∙ c.in-Cancel.is) in
     does-unlink st c.args.by c.args.target _ old _ _ _ h sound c.requires.kept.answered_fits c.requires.kept.dropped_fits told
     ((c.mark.ensures.marked c.args.target (sym c.place_of_number.ensures ∙ c.in-Some.is)).is ∙ ap (marked c.args.target c.args.by old) (capped-same old.unlinked c.requires.kept.unlinked_fits))
     (sym (append-nil c.args.out.now.to_client)) c.in_ok-write_cancel-in-Cancel.ensures.ok c.in_ok-push.ensures.ok
@@ -67,7 +77,7 @@ returns-in_ok-write_cancel-in-Cancel-clause-ok c st h sound =
 pub returns-in-Waits-clause-ok : goal.returns-in-Waits-clause-ok
 returns-in-Waits-clause-ok c st h sound =
     let old = c.args.self.now in
-    let told = subst (λ (a : UnlinkAnswer). Told old.caps c.args.target c.args.by old.lives.live a) (asked-so (has_number c.args.target) old.lives.live c.in-Some.at (sym c.place_of_number.ensures ∙ c.in-Some.is) ∙ sym c.asked.ensures.value ∙ c.in-Waits.is) (rows-told old.caps c.args.target c.args.by old.lives.live (one-numbered old st c.args.target h sound)) in
+    let told = told-there old.caps c.args.target c.args.by old.lives.live c.in-Some.at _ _ (one-numbered old st c.args.target h sound) c.requires.kept.fine (sym c.place_of_number.ensures ∙ c.in-Some.is) (sym c.at.ensures ∙ ap option_copied c.unwrap-submit.ensures) (sym c.asked_back.ensures ∙ c.in-Waits.is) in
     does-unlink st c.args.by c.args.target _ old _ _ _ h sound c.requires.kept.answered_fits c.requires.kept.dropped_fits told
     ((c.mark-in-Waits.ensures.marked c.args.target (sym c.place_of_number.ensures ∙ c.in-Some.is)).is ∙ ap (marked c.args.target c.args.by old) (capped-same old.unlinked c.requires.kept.unlinked_fits))
     (sym (append-nil c.args.out.now.to_client)) (sym (append-nil c.args.out.now.to_host)) c.in_ok-push.ensures.ok
@@ -75,6 +85,6 @@ returns-in-Waits-clause-ok c st h sound =
 pub returns-in_ok-write_ret_unlink-in-Taken-clause-ok : goal.returns-in_ok-write_ret_unlink-in-Taken-clause-ok
 returns-in_ok-write_ret_unlink-in-Taken-clause-ok c st h sound =
     let old = c.args.self.now in
-    let told = subst (λ (a : UnlinkAnswer). Told old.caps c.args.target c.args.by old.lives.live a) (asked-so (has_number c.args.target) old.lives.live c.in-Some.at (sym c.place_of_number.ensures ∙ c.in-Some.is) ∙ sym c.asked.ensures.value ∙ c.in-Taken.is) (rows-told old.caps c.args.target c.args.by old.lives.live (one-numbered old st c.args.target h sound)) in
+    let told = told-there old.caps c.args.target c.args.by old.lives.live c.in-Some.at _ _ (one-numbered old st c.args.target h sound) c.requires.kept.fine (sym c.place_of_number.ensures ∙ c.in-Some.is) (sym c.at.ensures ∙ ap option_copied c.unwrap-submit.ensures) (sym c.asked_back.ensures ∙ c.in-Taken.is) in
     does-unlink st c.args.by c.args.target _ old _ _ _ h sound c.requires.kept.answered_fits c.requires.kept.dropped_fits told
     (c.take_back.ensures.taken c.args.target (sym c.place_of_number.ensures ∙ c.in-Some.is)).is c.in_ok-write_ret_unlink-in-Taken.ensures.ok (sym (append-nil c.args.out.now.to_host)) c.in_ok-push.ensures.ok
