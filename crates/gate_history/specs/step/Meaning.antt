@@ -63,10 +63,7 @@ imported_as st connect = option_map_or (λ c. Imports (import_reply st.facts c))
 
 -- what its verdict goes by
 abbrev pub situation : State → Request → Situation
-situation st r = record {
-  lost = st.lost; live = length st.live; changing = change_waits st; wide = wide_bulk st.agreed;
-  row = row_of st.facts.table r.transfer.ep;
-}
+situation st r = record { lost = st.lost; live = length st.live; changing = change_waits st; row = row_of st.facts.table r.transfer.ep; wide = wide_bulk st.agreed }
 
 abbrev pub verdict_of : State → Request → Verdict
 verdict_of st r = verdict (situation st r) r
