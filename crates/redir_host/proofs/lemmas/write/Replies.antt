@@ -89,9 +89,9 @@ data-read h id (moving.Interrupt ep status told body) fits is = interrupt-read h
 plain-read : {S : Type 0} (m : Meaning S) (h : Host S) (id : ℕ) (c : RedirControl) → is_hello c ≡ false → IsSound h → IdFits (is_wide false h.guest.caps) id → Reads h (packet_move_by m h id (Plain c))
 plain-read m h id (plain.Hello x) other sound fits = absurd (true≢false other)
 plain-read m h id (plain.StartIso ep pkts_per_urb no_urbs) other sound fits = start-read h id Iso ep (can_start (m.table h.gadget) Iso ep) fits
-plain-read m h id (plain.StopIso ep) other sound fits = (status-read h.guest.caps id Iso 0 ep fits, tt)
+plain-read m h id (plain.StopIso ep) other sound fits = (status-read h.guest.caps id Iso Success ep fits, tt)
 plain-read m h id (plain.StartInterrupt ep) other sound fits = start-read h id Interrupt ep (can_start (m.table h.gadget) Interrupt ep) fits
-plain-read m h id (plain.StopInterrupt ep) other sound fits = (status-read h.guest.caps id Interrupt 0 ep fits, tt)
+plain-read m h id (plain.StopInterrupt ep) other sound fits = (status-read h.guest.caps id Interrupt Success ep fits, tt)
 plain-read m h id plain.Cancel other sound fits = cancel-read h id (find (is_cancelled_by id) h.queue) (if_found (IsRequest h.guest) (is_cancelled_by id) h.queue sound.requests)
 plain-read m h id _ other sound fits = tt
 
@@ -149,10 +149,10 @@ packet-read m lawful h header (Plain (plain.GetAlt interface)) xs sound is fit b
 packet-read m lawful h header (Plain (plain.AltStatus status interface alt)) xs sound is fit before = later-read m h header (plain.AltStatus status interface alt) 11 xs sound is is.kind refl refl before
 packet-read m lawful h header (Plain (plain.StartIso ep pkts_per_urb no_urbs)) xs sound is fit before = later-read m h header (plain.StartIso ep pkts_per_urb no_urbs) 12 xs sound is is.kind refl refl before
 packet-read m lawful h header (Plain (plain.StopIso ep)) xs sound is fit before = later-read m h header (plain.StopIso ep) 13 xs sound is is.kind refl refl before
-packet-read m lawful h header (Plain (plain.IsoStatus (status_byte status) ep)) xs sound is fit before = later-read m h header (plain.IsoStatus (status_byte status) ep) 14 xs sound is is.kind refl refl before
+packet-read m lawful h header (Plain (plain.IsoStatus status ep)) xs sound is fit before = later-read m h header (plain.IsoStatus status ep) 14 xs sound is is.kind refl refl before
 packet-read m lawful h header (Plain (plain.StartInterrupt ep)) xs sound is fit before = later-read m h header (plain.StartInterrupt ep) 15 xs sound is is.kind refl refl before
 packet-read m lawful h header (Plain (plain.StopInterrupt ep)) xs sound is fit before = later-read m h header (plain.StopInterrupt ep) 16 xs sound is is.kind refl refl before
-packet-read m lawful h header (Plain (plain.InterruptStatus (status_byte status) ep)) xs sound is fit before = later-read m h header (plain.InterruptStatus (status_byte status) ep) 17 xs sound is is.kind refl refl before
+packet-read m lawful h header (Plain (plain.InterruptStatus status ep)) xs sound is fit before = later-read m h header (plain.InterruptStatus status ep) 17 xs sound is is.kind refl refl before
 packet-read m lawful h header (Plain plain.Cancel) xs sound is fit before = later-read m h header plain.Cancel 21 xs sound is is.kind refl refl before
 packet-read m lawful h header (Plain plain.DisconnectAck) xs sound is fit before = later-read m h header plain.DisconnectAck 24 xs sound is is.kind refl refl before
 packet-read m lawful h header (Carrying d) xs sound is fit before =
