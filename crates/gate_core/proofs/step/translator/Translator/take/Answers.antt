@@ -69,7 +69,7 @@ took c =
           -- the packet is dropped behind the call
           let self-is : c.match-item.self ≡ w.answer_op.new.self = search rules in
           rw (w.taken-is, self-is, w.out-is)
-          (took-asked item old out w.answer_op.result w.answer_op.new.self w.answer_op.new.out w.in-Asked.place (Op w.in-Op.packet)
+          (took-asked item old out w.answer_op.result w.answer_op.new.self w.answer_op.new.out w.in-Asked.place (Op w.in-Op.request)
           (w.in-Asked.is ∙ ap (raw.Asked w.in-Asked.place) w.in-Op.is) fits (λ st n e h sound over. w.answer_op.ensures.ok st n e h over))
       | in-Asked+in-Urb-Submit w ↦ rw (w.taken-is, w.self-is, w.out-is)
           (took-asked item old out w.submit.result w.submit.new.self w.submit.new.out w.in-Asked.place (Urb (urb.Submit w.in-Urb-Submit.submit))
