@@ -17,7 +17,7 @@ use Rattle.gate_core.specs.state.Kept.{GateKept}
 use Rattle.gate_core.specs.step.Stands.{Stands, Stops}
 use Rattle.gate_history.specs.Headline.{Gains}
 
--- what the gate keeps, without the allocator
+-- what the gate keeps, without its streams' allocator
 abbrev pub kept_of : Inner → GateKept
 kept_of g = record { items = g.translator; client = g.client; host = g.host; failed = is_some g.want }
 

@@ -1,12 +1,11 @@
--- What a gate keeps, as plain data.
+-- What a gate keeps of all that has come.
 use Rattle.std.specs.Prelude.{Bool}
 use Rattle.packet_stream.specs.Streams.{StreamView}
 use Rattle.redir_data.specs.declared.state.RedirState.{RedirState}
 use Rattle.gate_core.specs.declared.state.kept.Kept.{Kept}
 
--- of all that has come
 pub record GateKept : Type 0 where
-  -- what its code keeps of the items that have come: of it `Holds` says what each part is
+  -- what the code keeps of the items that have come; `Holds` says what each part is
   pub items : Kept
   -- the bytes of each side that are no whole packet yet
   pub client : StreamView (Unit {0})

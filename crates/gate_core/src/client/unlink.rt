@@ -69,7 +69,7 @@ impl Kept {
         }
     }
 
-    /// Keeps the unlink `by` of the submit at a place, which the host has.
+    /// Keeps the unlink `by` of a submit that the host has, which stands at this place.
     fn mark(&mut self, at: usize, by: u32)
         requires kept { IsKept self.old }
         requires there { (live : Live) × (slice_get self.old.lives.live at ≡ Some live) × (goes_by_id live ≡ true) }

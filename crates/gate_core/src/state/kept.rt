@@ -10,12 +10,15 @@ use std::alloc::Global;
 use unlink_race::Lives;
 use usb_base::Memory;
 
-/// The requests in flight, what the host has told, where both sides stand, and what was counted.
+/// The requests in flight, what the host has told, where both sides stand, the streams that are up, the ids that were
+/// drawn, and what was counted.
 #[derive(Drop)]
 pub struct Kept {
+    /// Gives the memory of answers, and of what streams hold.
     pub alloc: Global,
     /// The requests in flight.
     pub lives: Lives,
+    /// What the host has told of its device since that was last lost.
     pub facts: Facts,
     /// The capabilities that are agreed, none before the host's hello.
     pub caps: Caps,

@@ -106,6 +106,7 @@ fn is_id(held: &Option<u64>, id: u64) -> bool
 /// What is kept once the packets that start or stop streams are sent.
 #[derive(Clone, Copy)]
 pub struct SentIds {
+    /// Of each endpoint the ids of its last start and stop, those that were sent now among them.
     pub stream_ids: StreamIds,
     /// The id that was drawn last.
     pub last: u64,
