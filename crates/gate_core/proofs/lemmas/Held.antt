@@ -12,8 +12,7 @@ use Rattle.unlink_race.specs.Requests.{Requests, in_flight, without_at}
 use Rattle.unlink_race.proofs.Firsts.{remove_first, position_found, find_past, took_first}
 use Rattle.usbip_urb.specs.declared.code.TheConstants.{MAX_LIVE}
 use Rattle.gate_core.specs.declared.state.kept.Kept.{Kept}
-use Rattle.gate_parts.specs.state.Rows.{IsFine}
-use Rattle.gate_core.specs.inner.Holds.{IsKept}
+use Rattle.gate_core.specs.inner.Holds.{IsRow, IsKept}
 use Rattle.gate_history.proofs.lemmas.Lists.{Each}
 
 -- ---- the place of the first that passes, in two lists one behind the other
@@ -136,7 +135,7 @@ none-removed [] (suc i) e = refl
 none-removed (x ∷ xs) i e = absurd (cc)
 
 pub record IsFewer (P : Live → Type 0) (r left : Requests) : Type 0 where
-  pub fine : Each P r.live → Each P left.live
+  pub each : Each P r.live → Each P left.live
   pub few : length left.live ≤ length r.live
   pub left_few : length left.abandoned ≤ length r.abandoned
   pub none_left : r.abandoned ≡ [] → left.abandoned ≡ []
@@ -145,16 +144,16 @@ pub is-fewer : (P : Live → Type 0) (r : Requests) (i : ℕ) → IsFewer P r (w
 is-fewer P r i = of (ltb i (length r.live))
   where
     of : (b : Bool) → IsFewer P r (cond b (record r { live = remove r.live i }) (record r { abandoned = remove r.abandoned (i - length r.live) }))
-    of true = record { fine = each-removed P r.live i; few = length-removed r.live i; left_few = omega arith; none_left = λ h. h }
-    of false = record { fine = λ h. h; few = omega arith; left_few = length-removed r.abandoned (i - length r.live); none_left = none-removed r.abandoned (i - length r.live) }
+    of true = record { each = each-removed P r.live i; few = length-removed r.live i; left_few = omega arith; none_left = λ h. h }
+    of false = record { each = λ h. h; few = omega arith; left_few = length-removed r.abandoned (i - length r.live); none_left = none-removed r.abandoned (i - length r.live) }
 
 -- ---- what is kept stays sound
 
 -- with other requests and counts
-pub with-requests : (t : Kept) (lives : Requests) (answered unlinked : ℕ) → IsKept t → Each (IsFine t.caps) lives.live → (t.imported ≡ true → lives.abandoned ≡ []) →
+pub with-requests : (t : Kept) (lives : Requests) (answered unlinked : ℕ) → IsKept t → Each (IsRow t.caps) lives.live → (t.imported ≡ true → lives.abandoned ≡ []) →
     length lives.live ≤ MAX_LIVE → length lives.abandoned ≤ MAX_LIVE → answered ≤ 2 ^ 64 - 1 → unlinked ≤ 2 ^ 64 - 1 → IsKept (record t { lives = lives; answered = answered; unlinked = unlinked })
-with-requests t lives answered unlinked k fine apart few left answered_fits unlinked_fits = record {
-  fine = fine;
+with-requests t lives answered unlinked k rows apart few left answered_fits unlinked_fits = record {
+  rows = rows;
   apart = apart;
   few = few;
   left = left;
@@ -170,7 +169,7 @@ with-requests t lives answered unlinked k fine apart few left answered_fits unli
 pub without-one : (t : Kept) (i : ℕ) (lives : Requests) (answered unlinked : ℕ) → IsKept t → lives ≡ without_at i t.lives →
     answered ≤ 2 ^ 64 - 1 → unlinked ≤ 2 ^ 64 - 1 → IsKept (record t { lives = lives; answered = answered; unlinked = unlinked })
 without-one t i lives answered unlinked k is answered_fits unlinked_fits =
-    let fewer = is-fewer (IsFine t.caps) t.lives i in
+    let fewer = is-fewer (IsRow t.caps) t.lives i in
     subst (λ (r : Requests). IsKept (record t { lives = r; answered = answered; unlinked = unlinked })) (sym is)
-    (with-requests t (without_at i t.lives) answered unlinked k (fewer.fine k.fine) (λ h. fewer.none_left (k.apart h))
+    (with-requests t (without_at i t.lives) answered unlinked k (fewer.each k.rows) (λ h. fewer.none_left (k.apart h))
     (omega (arith, k.few, fewer.few)) (omega (arith, k.left, fewer.left_few)) answered_fits unlinked_fits)

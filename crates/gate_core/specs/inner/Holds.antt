@@ -3,6 +3,7 @@ use Rattle.std.specs.Prelude.{◌≡◌, ◌⊎◌, ◌∷◌, ◌<◌, not, ◌
 use Rattle.std.specs.List.{AllByRecursion, list_any}
 use Rattle.usbip_urb.specs.declared.code.TheConstants.{MAX_LENGTH, MAX_LIVE}
 use Rattle.usbip_urb.specs.Buffers.{laid}
+use Rattle.redir_wire.specs.declared.packet.Caps.{Caps}
 use Rattle.unlink_race.specs.Requests.{no_requests}
 use Rattle.unlink_race.specs.declared.live.Live.{Live}
 use Rattle.unlink_race.specs.declared.live.LiveKind.{LiveKind}
@@ -33,9 +34,15 @@ use Rattle.packet_stream.specs.Writes.{Begins}
 
 -- ---- standing for a state
 
+-- what holds of each row
+pub record IsRow (caps : Caps) (l : Live) : Type 0 where
+  pub fine : IsFine caps l
+  -- one that waits and is asked back is taken out, and never marked
+  pub unasked : is_stream l.kind ≡ true → l.unlinker ≡ None
+
 -- whatever came
 pub record IsKept (t : Kept) : Type 0 where
-  pub fine : AllByRecursion (IsFine t.caps) t.lives.live
+  pub rows : AllByRecursion (IsRow t.caps) t.lives.live
   -- a client has requests only once it has imported the device, and imports it only once nothing is left of the former
   pub apart : t.imported ≡ true → t.lives.abandoned ≡ []
   pub few : length t.lives.live ≤ MAX_LIVE

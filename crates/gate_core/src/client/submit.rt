@@ -22,8 +22,8 @@ ghost use Rattle.gate_history.specs.state.Sound.{IsSound};
 ghost use Rattle.gate_history.specs.write.Asked.{HasItsPackets};
 ghost use Rattle.gate_core.specs.inner.SentIds.{flying_in, ids_after, bytes_of};
 ghost use Rattle.gate_history.specs.client.Carried.{IsRequest, IsSent, IsCarried};
-ghost use Rattle.gate_parts.specs.state.Rows.{kind_of, IsFine};
-ghost use Rattle.gate_core.specs.inner.Holds.{IsKept, Holds, Does, StopsShort, IsFree, CanAnswer, CanGo, HasOpened};
+ghost use Rattle.gate_parts.specs.state.Rows.{kind_of};
+ghost use Rattle.gate_core.specs.inner.Holds.{IsRow, IsKept, Holds, Does, StopsShort, IsFree, CanAnswer, CanGo, HasOpened};
 
 use crate::state::kept::Kept;
 use control_route::Route;
@@ -225,7 +225,7 @@ impl Kept {
     pub fn open(&mut self, live: Live, last: u64)
         requires kept { IsKept self.old }
         requires free { IsFree self.old live.seqnum }
-        requires fine { IsFine self.old.caps live }
+        requires row { IsRow self.old.caps live }
         ensures kept { IsKept self.new }
         ensures opened { HasOpened live last self.old self.new }
     {

@@ -87,8 +87,6 @@ pub record IsFine (caps : Caps) (l : Live) : Type 0 where
   pub id_fits : IdFits (wide_ids caps) l.id
   -- the isochronous packets of one that waits lie over its buffer
   pub lies : is_stream l.kind ≡ true → IsTrue (laid l.descs l.wanted)
-  -- and as it is asked back, it is taken out, and never marked
-  pub unasked : is_stream l.kind ≡ true → l.unlinker ≡ None
 
 -- ---- what goes out for a row
 

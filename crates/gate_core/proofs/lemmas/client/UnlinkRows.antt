@@ -18,12 +18,13 @@ use Rattle.unlink_race.specs.declared.unlink.AskedBack.{AskedBack}
 use Rattle.unlink_race.specs.declared.unlink.AskedBack.TheVariants.{Already, Cancel, Waits, Taken}
 use Rattle.unlink_race.proofs.Firsts.{took_first, took_none}
 use Rattle.gate_history.specs.write.Bytes.{host_packet_bytes}
-use Rattle.gate_parts.specs.state.Rows.{is_wire_row, IsFine}
+use Rattle.gate_parts.specs.state.Rows.{is_wire_row}
 use Rattle.gate_history.proofs.lemmas.Lists.{Each}
 use Rattle.gate_history.proofs.lemmas.step.NoCancel.{or_else-none}
 use Rattle.usbip_urb.specs.Spelling.{spelling}
 use Rattle.usb_base.specs.declared.errno.TheConstants.{ECONNRESET}
 use Rattle.gate_history.specs.write.Answers.{ret_unlink}
+use Rattle.gate_core.specs.inner.Holds.{IsRow}
 use Rattle.gate_core.specs.inner.Unlink.{asked_row, is_target_row, is_taken_row, cancel_row, asked_rows, is_late, taken_count, taken_bytes, asked_bytes}
 
 module _ (caps : Caps) (target by : ℕ) where
@@ -137,25 +138,25 @@ module _ (caps : Caps) (target by : ℕ) where
             bytes = rest.bytes;
           }
 
-  pub rows-told : (ls : List Live) → length (filter (has_number target) ls) ≤ 1 → Each (IsFine caps) ls → Told ls (option_map asked_back (find (has_number target) ls))
-  rows-told [] h fine = record { rows = refl; late = refl; count = refl; back = refl; bytes = refl }
-  rows-told (l ∷ ls) h fine =
+  pub rows-told : (ls : List Live) → length (filter (has_number target) ls) ≤ 1 → Each (IsRow caps) ls → Told ls (option_map asked_back (find (has_number target) ls))
+  rows-told [] h rows = record { rows = refl; late = refl; count = refl; back = refl; bytes = refl }
+  rows-told (l ∷ ls) h rows =
       elim (cases_Bool (l.seqnum == target)) [
         | inl e ↦
             let k : length (l ∷ filter (has_number target) ls) ≤ 1 = rw e at h in
-            subst (λ (b : Bool). Told (l ∷ ls) (option_map asked_back (cond b (Some l) (find (has_number target) ls)))) (sym e) (first l ls e fine.0.unasked (none-told ls (omega arith)))
-        | inr e ↦ subst (λ (b : Bool). Told (l ∷ ls) (option_map asked_back (cond b (Some l) (find (has_number target) ls)))) (sym e) (ahead l ls _ e (rows-told ls (rw e at h) fine.1))
+            subst (λ (b : Bool). Told (l ∷ ls) (option_map asked_back (cond b (Some l) (find (has_number target) ls)))) (sym e) (first l ls e rows.0.unasked (none-told ls (omega arith)))
+        | inr e ↦ subst (λ (b : Bool). Told (l ∷ ls) (option_map asked_back (cond b (Some l) (find (has_number target) ls)))) (sym e) (ahead l ls _ e (rows-told ls (rw e at h) rows.1))
       ]
 
   -- where none has the number
-  pub told-nowhere : (ls : List Live) → length (filter (has_number target) ls) ≤ 1 → Each (IsFine caps) ls → position (has_number target) ls ≡ None → Told ls None
-  told-nowhere ls few fine is = subst (λ (o : Option Live). Told ls (option_map asked_back o)) (sym (took_none (has_number target) ls is).0) (rows-told ls few fine)
+  pub told-nowhere : (ls : List Live) → length (filter (has_number target) ls) ≤ 1 → Each (IsRow caps) ls → position (has_number target) ls ≡ None → Told ls None
+  told-nowhere ls few rows is = subst (λ (o : Option Live). Told ls (option_map asked_back o)) (sym (took_none (has_number target) ls is).0) (rows-told ls few rows)
 
   -- where the one that has it stands at a place
-  pub told-there : (ls : List Live) (i : ℕ) (l : Live) (told : AskedBack) → length (filter (has_number target) ls) ≤ 1 → Each (IsFine caps) ls →
+  pub told-there : (ls : List Live) (i : ℕ) (l : Live) (told : AskedBack) → length (filter (has_number target) ls) ≤ 1 → Each (IsRow caps) ls →
       position (has_number target) ls ≡ Some i → slice_get ls i ≡ Some l → asked_back l ≡ told → Told ls (Some told)
-  told-there ls i l told few fine is there so =
-      subst (λ (o : Option AskedBack). Told ls o) (ap (option_map asked_back) (sym (took_first (has_number target) ls i is).0 ∙ there) ∙ ap (λ (a : AskedBack). Some a) so) (rows-told ls few fine)
+  told-there ls i l told few rows is there so =
+      subst (λ (o : Option AskedBack). Told ls o) (ap (option_map asked_back) (sym (took_first (has_number target) ls i is).0 ∙ there) ∙ ap (λ (a : AskedBack). Some a) so) (rows-told ls few rows)
 
 -- ---- what becomes of one says of it
 
@@ -178,14 +179,10 @@ marked-by_id None (live_kind.Wire ep kind) n h = refl
 marked-by_id None (live_kind.Routed route) n h = refl
 marked-by_id None (live_kind.Stream ep interface) n h = absurd (false≢true h)
 
--- and is as fine as it was
-pub fine-marked : (caps : Caps) (by : ℕ) (l : Live) → goes_by_id l ≡ true → IsFine caps l → IsFine caps (unlinked_by by l)
-fine-marked caps by l by_id f = record {
-  packets = f.packets;
-  few_bytes = f.few_bytes;
-  read = f.read;
-  id_fits = f.id_fits;
-  lies = f.lies;
+-- and is as sound as it was
+pub row-marked : (caps : Caps) (by : ℕ) (l : Live) → goes_by_id l ≡ true → IsRow caps l → IsRow caps (unlinked_by by l)
+row-marked caps by l by_id r = record {
+  fine = record { packets = r.fine.packets; few_bytes = r.fine.few_bytes; read = r.fine.read; id_fits = r.fine.id_fits; lies = r.fine.lies };
   unasked = λ stream. absurd (false≢true (sym (ap not stream) ∙ by_id));
 }
 

@@ -46,11 +46,11 @@ use Rattle.gate_history.specs.write.Output.{cancels, cancel, to_client}
 use Rattle.gate_history.specs.write.Notes.{answer_notes}
 use Rattle.gate_history.specs.write.All.{is_ret_submit, is_won_unlink}
 use Rattle.gate_history.specs.write.Bytes.{host_packet_bytes}
-use Rattle.gate_parts.specs.state.Rows.{row_of, row, unmarked, left_row, IsFine}
+use Rattle.gate_parts.specs.state.Rows.{row_of, row, unmarked, left_row}
 use Rattle.gate_parts.specs.host.Responses.{row_mismatch, completes, IsAnswer, IsCounted}
 use Rattle.gate_parts.specs.write.Outputs.{with_answers}
 use Rattle.gate_parts.proofs.lemmas.write.Outputs.{with-none}
-use Rattle.gate_core.specs.inner.Holds.{Holds, Does}
+use Rattle.gate_core.specs.inner.Holds.{IsRow, Holds, Does}
 use Rattle.gate_history.specs.step.Fits.{ResponseFits}
 use Rattle.gate_history.proofs.lemmas.Lists.{Each, every, filter-same, filter-map, flat_map-map}
 use Rattle.gate_history.proofs.lemmas.step.Effects.{answer-left, answer-sent, answer-noted, answer-dropped}
@@ -361,16 +361,16 @@ module _ (old : Kept) (st : State) (at place i : ℕ) (h : Header) (response : R
   means-end e = sym (is-completed st at h response (find (has_id h.id) (submits st ++ st.abandoned)) (judged ∙ e))
 
 -- an answer of which nothing is wrong is that of the live request that waits for it
-pub found-answer : (caps : Caps) (place head kind i : ℕ) (response : Response) (rows left : List Live) (l : Live) → Each (IsFine caps) rows → ResponseFits kind (Some response) →
+pub found-answer : (caps : Caps) (place head kind i : ℕ) (response : Response) (rows left : List Live) (l : Live) → Each (IsRow caps) rows → ResponseFits kind (Some response) →
     slice_get (rows ++ left) i ≡ Some l → row_mismatch place head l kind response ≡ None → IfSome (slice_get rows i) (λ k. IsAnswer k response)
-found-answer caps place head kind i response rows left l fine fits at right = of (slice_get rows i) refl
+found-answer caps place head kind i response rows left l sound fits at right = of (slice_get rows i) refl
   where
     of : (o : Option Live) → slice_get rows i ≡ o → IfSome o (λ k. IsAnswer k response)
     of None is = tt
     of (Some k) is =
         let e : Some k ≡ Some l = sym (there-too rows left i k is) ∙ at in
         let same : k ≡ l = cc in
-        is-answer caps place head k kind response (each-at (IsFine caps) rows i k fine is) fits (ap (λ (x : Live). row_mismatch place head x kind response) same ∙ right)
+        is-answer caps place head k kind response (each-at (IsRow caps) rows i k sound is).fine fits (ap (λ (x : Live). row_mismatch place head x kind response) same ∙ right)
 
 -- where no row has its id nobody waits for it
 pub nobody : (old : Kept) (st : State) (id : ℕ) → Holds old st → position (has_row_id id) (in_flight old.lives) ≡ None → find (has_id id) (submits st ++ st.abandoned) ≡ None

@@ -20,13 +20,13 @@ use Rattle.gate_history.specs.client.Ends.{End, ByPackets, waits_at, packets_end
 use Rattle.gate_history.specs.write.Answers.{with_given}
 use Rattle.gate_history.specs.write.Notes.{is_by_answer, is_by_client}
 use Rattle.gate_history.specs.write.All.{is_ret_submit, is_won_unlink}
-use Rattle.gate_parts.specs.state.Rows.{row, row_request, IsFine}
+use Rattle.gate_parts.specs.state.Rows.{row, row_request}
 use Rattle.gate_parts.specs.host.Fill.{rows_fill, filled_bytes, filled_notes, bytes_by, waiting_rows, without_firsts}
 use Rattle.gate_history.proofs.lemmas.Lists.{Each, Each-weaker, Each-filter, every, both, filter-same, filter-none, filter-twice, flat_map-same, flat_map-filter, flat_map-none}
 use Rattle.unlink_race.specs.Requests.{Requests}
 use Rattle.gate_core.specs.declared.state.kept.Kept.{Kept}
 use Rattle.gate_core.proofs.lemmas.Held.{with-requests}
-use Rattle.gate_core.specs.inner.Holds.{IsKept}
+use Rattle.gate_core.specs.inner.Holds.{IsRow, IsKept}
 use Rattle.gate_core.proofs.lemmas.host.Answer.{Each-without, length-without}
 use Rattle.gate_core.proofs.lemmas.client.WaitRows.{IsGoing, waits-row, waits-rows}
 
@@ -44,7 +44,7 @@ pub kept-filled : (t : Kept) (n : ℕ) (test : Live → Bool) (lives : Requests)
     → IsKept (record t { lives = lives; answered = answered })
 kept-filled t n test lives answered k is fits =
     subst (λ (r : Requests). IsKept (record t { lives = r; answered = answered })) (sym is)
-    (with-requests t (record t.lives { live = without_firsts n test t.lives.live }) answered t.unlinked k (each-left (IsFine t.caps) test n t.lives.live k.fine) k.apart
+    (with-requests t (record t.lives { live = without_firsts n test t.lives.live }) answered t.unlinked k (each-left (IsRow t.caps) test n t.lives.live k.rows) k.apart
     (let fewer = few-left test n t.lives.live in omega (arith, fewer, k.few)) k.left fits k.unlinked_fits)
 
 -- ---- of those that wait, whose numbers differ

@@ -5,7 +5,7 @@ use Rattle.gate_history.specs.client.Ends.{answers_by}
 use mir.Val.{bool_byte}
 use Rattle.std.specs.Option.{option_copied}
 use Rattle.unlink_race.specs.Searches.{has_id}
-use Rattle.gate_parts.specs.state.Rows.{IsFine}
+use Rattle.gate_core.specs.inner.Holds.{IsRow}
 use Rattle.gate_parts.specs.host.Responses.{response_view, IsCounted}
 use Rattle.usb_base.specs.Number.{capped}
 use Rattle.gate_core.proofs.lemmas.Held.{live-taken, left-taken, without-one, each-at}
@@ -23,12 +23,12 @@ returns-in_default-clause-ok c st id is h sound =
 pub write_completed-requires-clause-packets : goal.write_completed-requires-clause-packets
 write_completed-requires-clause-packets c =
     let old = c.args.self.now in
-    (each-at (IsFine old.caps) old.lives.live c.args.at c.in-Some.live.now c.requires.kept.fine (sym c.at.ensures ∙ ap option_copied c.in-Some.is)).packets
+    (each-at (IsRow old.caps) old.lives.live c.args.at c.in-Some.live.now c.requires.kept.rows (sym c.at.ensures ∙ ap option_copied c.in-Some.is)).fine.packets
 
 pub write_completed-requires-clause-read : goal.write_completed-requires-clause-read
 write_completed-requires-clause-read c =
     let old = c.args.self.now in
-    (each-at (IsFine old.caps) old.lives.live c.args.at c.in-Some.live.now c.requires.kept.fine (sym c.at.ensures ∙ ap option_copied c.in-Some.is)).read
+    (each-at (IsRow old.caps) old.lives.live c.args.at c.in-Some.live.now c.requires.kept.rows (sym c.at.ensures ∙ ap option_copied c.in-Some.is)).fine.read
 
 pub returns-clause-kept : goal.returns-clause-kept
 returns-clause-kept c =

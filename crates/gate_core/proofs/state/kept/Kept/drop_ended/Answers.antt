@@ -5,8 +5,7 @@ use Rattle.unlink_race.specs.declared.live.Live.{Live}
 use Rattle.unlink_race.specs.Requests.{Requests}
 use Rattle.unlink_race.specs.Searches.{ended_by}
 use Rattle.usb_base.specs.Number.{capped}
-use Rattle.gate_parts.specs.state.Rows.{IsFine}
-use Rattle.gate_core.specs.inner.Holds.{IsKept}
+use Rattle.gate_core.specs.inner.Holds.{IsRow, IsKept}
 use Rattle.gate_history.proofs.lemmas.Lists.{Each-filter, length-filter}
 use Rattle.gate_core.proofs.lemmas.Held.{with-requests}
 use Rattle.gate_core.proofs.state.kept.Kept.drop_ended.Goals as goal
@@ -24,7 +23,7 @@ returns-clause-kept c =
     let fewer = length-filter stays old.lives.live in
     let k = c.requires.kept in
     subst (λ (r : Requests). IsKept (record old { lives = r; answered = c.saturating_add-self.result })) (sym c.drop_ended.ensures)
-    (with-requests old (record old.lives { live = filter stays old.lives.live }) c.saturating_add-self.result old.unlinked k (Each-filter (IsFine old.caps) stays old.lives.live k.fine) k.apart
+    (with-requests old (record old.lives { live = filter stays old.lives.live }) c.saturating_add-self.result old.unlinked k (Each-filter (IsRow old.caps) stays old.lives.live k.rows) k.apart
     (omega (arith, k.few, fewer)) k.left (omega (arith, c.saturating_add-self.ensures)) k.unlinked_fits)
 
 pub returns-clause-dropped : goal.returns-clause-dropped

@@ -1,7 +1,15 @@
 use Rattle.std.proofs.Common.{arith}
 use Rattle.unlink_race.specs.Searches.{waits_for}
+use Rattle.gate_parts.specs.state.Rows.{IsFine}
+use Rattle.gate_core.specs.inner.Holds.{IsRow}
+use Rattle.gate_history.proofs.lemmas.Lists.{Each-weaker}
 use Rattle.gate_core.proofs.lemmas.host.Fill.{kept-filled}
 use Rattle.gate_core.proofs.state.kept.Kept.fill.Goals as goal
+
+pub write_fillings-requires : goal.write_fillings-requires
+write_fillings-requires c =
+    let t = c.args.self.now in
+    (t.caps, Each-weaker (IsRow t.caps) (IsFine t.caps) (λ l r. r.fine) t.lives.live c.requires.kept.rows)
 
 pub returns-clause-kept : goal.returns-clause-kept
 returns-clause-kept c =

@@ -6,10 +6,9 @@ use Rattle.unlink_race.specs.Requests.{Requests}
 use Rattle.unlink_race.specs.Searches.{has_number}
 use Rattle.unlink_race.specs.Unlinking.{unlinked_by}
 use Rattle.unlink_race.proofs.Firsts.{changed_first}
-use Rattle.gate_parts.specs.state.Rows.{IsFine}
-use Rattle.gate_core.specs.inner.Holds.{IsKept}
+use Rattle.gate_core.specs.inner.Holds.{IsRow, IsKept}
 use Rattle.gate_core.proofs.lemmas.Held.{each-at, with-requests}
-use Rattle.gate_core.proofs.lemmas.client.UnlinkRows.{each-set, fine-marked}
+use Rattle.gate_core.proofs.lemmas.client.UnlinkRows.{each-set, row-marked}
 use Rattle.gate_core.proofs.state.kept.Kept.mark.Goals as goal
 
 pub mark_at-requires : goal.mark_at-requires
@@ -24,7 +23,7 @@ returns-clause-kept c =
     let marked = unlinked_by c.args.by one.0 in
     subst (λ (r : Requests). IsKept (record old { lives = r })) (sym (c.mark_at.ensures one.0 one.1))
     (with-requests old (record old.lives { live = set ls c.args.at marked }) old.answered old.unlinked k
-    (each-set (IsFine old.caps) ls c.args.at marked k.fine (fine-marked old.caps c.args.by one.0 one.2 (each-at (IsFine old.caps) ls c.args.at one.0 k.fine one.1)))
+    (each-set (IsRow old.caps) ls c.args.at marked k.rows (row-marked old.caps c.args.by one.0 one.2 (each-at (IsRow old.caps) ls c.args.at one.0 k.rows one.1)))
     k.apart (omega (arith, k.few, length-set ls c.args.at marked)) k.left k.answered_fits k.unlinked_fits)
 
 pub returns-clause-marked : goal.returns-clause-marked
