@@ -49,8 +49,8 @@ impl Kept {
         let Some(at) = self.lives.place_of_number(target) else {
             return write_ret_unlink(by, 0, &mut out.to_client);
         };
-        let submit = self.lives.at(at).unwrap();
-        match submit.asked_back() {
+        let live = self.lives.at(at).unwrap();
+        match live.asked_back() {
             AskedBack::Already(_) => write_ret_unlink(by, 0, &mut out.to_client),
             AskedBack::Cancel(id) => {
                 write_cancel(id, self.caps, &mut out.to_host)?;
