@@ -18,7 +18,7 @@ use Rattle.bridge_run.specs.course.Calls.{Outcome, Goes, Stops, room, come, turn
 use Rattle.bridge_run.specs.log.Log.{IsFront}
 use Rattle.bridge_run.specs.written.Ups.{client_at, host_at, client_behind, to_clients}
 use Rattle.bridge_run.proofs.lemmas.course.Settle.{take-course}
-use Rattle.usbgate_commands.specs.Serving.{ServeSettings}
+use Rattle.usbgate_commands.specs.words.Serving.{ServeSettings}
 use Rattle.tape_laws.specs.Recordings.{recorded, served}
 use Rattle.tape_laws.specs.Plays.{EndsTape, AreLines}
 use Rattle.tape_laws.specs.Ups.{host_behind, to_host}

@@ -24,9 +24,9 @@ use Rattle.packet_show.specs.declared.tape.TheConstants.{TAPE_LIMIT as tape_limi
 use Rattle.usbgate_tapes.specs.tape.TapeCommand.{Reading, last_text}
 use Rattle.usbgate_tapes.specs.tape.EventCommand.{over_events}
 use Rattle.usbgate_tapes.specs.Replay.{replay}
-use Rattle.usbgate_commands.specs.Recording.{IsUnmade, IsUnbegun}
-use Rattle.usbgate_commands.specs.Serving.{ServeSettings}
-use Rattle.usbgate_commands.specs.Serves.{setting_of, ended_as, IsUnrecorded, IsRecorded, Serves}
+use Rattle.usbgate_commands.specs.links.Recording.{IsUnmade, IsUnbegun}
+use Rattle.usbgate_commands.specs.words.Serving.{ServeSettings}
+use Rattle.usbgate_commands.specs.links.Serves.{setting_of, ended_as, IsUnrecorded, IsRecorded, Serves}
 use Rattle.bridge_run.specs.written.Recorded.{event_line, lines_of as event_lines}
 use Rattle.tape_laws.specs.Recordings.{recorded, served, all_replayed}
 use Rattle.bridge_run.specs.log.Log.{IsFront}

@@ -28,7 +28,7 @@ use Rattle.usbgate_tapes.specs.tape.TapeCommand.{TapeCommand, Progress, one_furt
 use Rattle.usbgate_tapes.specs.tape.EventCommand.{EventCommand, on_event, over_events}
 use Rattle.usbgate_tapes.specs.Replay.{replay}
 use Rattle.usbgate_tapes.specs.Run.{HasNoLF}
-use Rattle.usbgate_commands.specs.Serving.{ServeSettings}
+use Rattle.usbgate_commands.specs.words.Serving.{ServeSettings}
 use Rattle.tape_laws.specs.Recordings.{recorded, served, replayed, all_replayed}
 use Rattle.usbgate_tapes.proofs.lemmas.tape.Lines.{HasNoLF-append}
 use Rattle.tape_laws.proofs.Spelled.{no-lf-tested, no-lf-hex, no-lf-refusal, refusal_words}

@@ -17,7 +17,7 @@ use Rattle.packet_show.specs.declared.tape.TheConstants.{TAPE_LIMIT as tape_limi
 use Rattle.usbgate_tapes.specs.tape.TapeCommand.{Progress, begin, one_further, next_line, Reading, on_line, read_lines, last_text}
 use Rattle.usbgate_tapes.specs.tape.EventCommand.{on_event, over_events}
 use Rattle.usbgate_tapes.specs.Replay.{replay}
-use Rattle.usbgate_commands.specs.Serving.{ServeSettings}
+use Rattle.usbgate_commands.specs.words.Serving.{ServeSettings}
 use Rattle.usbgate_tapes.specs.Run.{HasNoLF}
 use Rattle.usbgate_tapes.proofs.lemmas.tape.Lines.{HasNoLF-append}
 use Rattle.std.specs.Prelude.{codes, option_map}

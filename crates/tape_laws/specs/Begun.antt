@@ -6,8 +6,8 @@ use Rattle.gate_outside.specs.declared.turn.Turn.TheVariants.{Piece, Wait, Fail}
 use Rattle.session_tape.specs.Lines.{first_comment}
 use Rattle.bridge_run.specs.course.Course.{Course}
 use Rattle.bridge_run.specs.course.Serves.{NothingYet}
-use Rattle.usbgate_commands.specs.Serving.{ServeSettings}
-use Rattle.usbgate_commands.specs.declared.serve.TheConstants.{BUDGET}
+use Rattle.usbgate_commands.specs.words.Serving.{ServeSettings}
+use Rattle.usbgate_commands.specs.declared.links.serve.TheConstants.{BUDGET}
 
 -- what a peer sends are bytes
 abbrev pub SendBytes : List Turn → Type 0

@@ -23,8 +23,8 @@ use Rattle.usbgate_tapes.specs.tape.Tape.{lines_of as tape_lines}
 use Rattle.usbgate_tapes.specs.tape.TapeCommand.{Progress, Reading, read_lines, read_tape, last_text, whole_text}
 use Rattle.usbgate_tapes.specs.tape.EventCommand.{over_events}
 use Rattle.usbgate_tapes.specs.Replay.{replay}
-use Rattle.usbgate_commands.specs.Serving.{ServeSettings}
-use Rattle.usbgate_commands.specs.Serves.{setting_of}
+use Rattle.usbgate_commands.specs.words.Serving.{ServeSettings}
+use Rattle.usbgate_commands.specs.links.Serves.{setting_of}
 use Rattle.bridge_run.specs.written.Ups.{to_clients}
 use Rattle.tape_laws.specs.Ups.{to_host}
 use Rattle.tape_laws.specs.Recordings.{recorded, served, all_replayed}

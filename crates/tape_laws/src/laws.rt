@@ -4,8 +4,8 @@ ghost use Rattle.std.specs.Prelude.{◌≡◌, ◌≤◌, ℕ, List, length, Som
 ghost use Rattle.bridge_run.specs.course.Course.{Course};
 ghost use Rattle.bridge_run.specs.course.Outside.{Outside, Written, Faults, written, Tells};
 ghost use Rattle.usbgate_tapes.specs.declared.status.Status.{Status as End};
-ghost use Rattle.usbgate_commands.specs.Serving.{ServeSettings};
-ghost use Rattle.usbgate_commands.specs.Serves.{Serves};
+ghost use Rattle.usbgate_commands.specs.words.Serving.{ServeSettings};
+ghost use Rattle.usbgate_commands.specs.links.Serves.{Serves};
 ghost use Rattle.packet_show.specs.declared.tape.TheConstants.{TAPE_LIMIT as tape_limit};
 ghost use Rattle.tape_laws.specs.Begun.{IsFresh};
 ghost use Rattle.tape_laws.specs.Plays.{Replays};

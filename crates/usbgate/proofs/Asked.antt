@@ -10,11 +10,11 @@ use Rattle.usbgate_tapes.specs.declared.status.Status.{Status}
 use Rattle.usbgate_tapes.specs.Printout.{Printout}
 use Rattle.usbgate_tapes.specs.Logs.{RunLeaves, RunWrites}
 use Rattle.usbgate_tapes.proofs.lemmas.Unread.{leaves-unread}
-use Rattle.usbgate_commands.specs.declared.words.Command.{Command}
-use Rattle.usbgate_commands.specs.declared.words.Command.TheVariants.{Serve, Host}
-use Rattle.usbgate_commands.specs.Lending.{AskedLent}
-use Rattle.usbgate_commands.specs.Logs.{RunServes, RunLends}
-use Rattle.usbgate_commands.specs.Serving.{ServeSettings}
+use Rattle.usbgate_commands.specs.declared.words.command.Command.{Command}
+use Rattle.usbgate_commands.specs.declared.words.command.Command.TheVariants.{Serve, Host}
+use Rattle.usbgate_commands.specs.words.Lending.{AskedLent}
+use Rattle.usbgate_commands.specs.links.Logs.{RunServes, RunLends}
+use Rattle.usbgate_commands.specs.words.Serving.{ServeSettings}
 use Rattle.usbgate.specs.Printouts.{printout_of}
 
 -- a command that reads a tape isn't one of those that don't

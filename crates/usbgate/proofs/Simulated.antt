@@ -3,7 +3,7 @@ use Rattle.std.proofs.Common.{◌≡◌, ℕ, List, Option, Result, subst}
 use Rattle.gate_outside.specs.declared.fault.Failed.{Failed}
 use Rattle.usbgate_tapes.specs.declared.model.device.Device.{Device}
 use Rattle.usbgate_tapes.specs.declared.status.Status.{Status}
-use Rattle.usbgate_commands.specs.declared.words.Command.TheVariants.{Model, Load}
+use Rattle.usbgate_commands.specs.declared.words.command.Command.TheVariants.{Model, Load}
 use Rattle.usbgate_tapes.specs.model.Simulated.{RunSimulates, MadeSimulates}
 
 same-device : (d e : Device) → Model d ≡ Model e → d ≡ e

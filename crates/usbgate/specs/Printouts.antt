@@ -1,7 +1,7 @@
 -- What each command is to print that goes over a tape or over nothing, and how it is to end, where it meets no fault and has memory.
 use Rattle.std.specs.Prelude.{Option, Some, None}
-use Rattle.usbgate_commands.specs.declared.words.Command.{Command}
-use Rattle.usbgate_commands.specs.declared.words.Command.TheVariants.{Replay, Model, Show, Make, Load, Unknown}
+use Rattle.usbgate_commands.specs.declared.words.command.Command.{Command}
+use Rattle.usbgate_commands.specs.declared.words.command.Command.TheVariants.{Replay, Model, Show, Make, Load, Unknown}
 use Rattle.usbgate_tapes.specs.Printout.{Printout, tape_printout, printed, usage}
 use Rattle.usbgate_tapes.specs.tape.EventCommand.{over_events}
 use Rattle.usbgate_tapes.specs.Replay.{replay}

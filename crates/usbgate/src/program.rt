@@ -12,18 +12,16 @@ ghost use Rattle.usbgate_tapes.specs.Logs.{RunLeaves};
 ghost use Rattle.usbgate_tapes.specs.Printout.{Printout};
 ghost use Rattle.usbgate.specs.Printouts.{printout_of};
 ghost use Rattle.usbgate_tapes.specs.model.Simulated.{RunSimulates, MadeSimulates};
-ghost use Rattle.usbgate_commands.specs.Serving.{ServeSettings};
-ghost use Rattle.usbgate_commands.specs.Lending.{AskedLent};
-ghost use Rattle.usbgate_commands.specs.Logs.{RunServes, RunLends};
-ghost use Rattle.usbgate_commands.specs.Recording.{records};
-ghost use Rattle.usbgate_commands.specs.Words.{texts, command_of};
+ghost use Rattle.usbgate_commands.specs.words.Serving.{ServeSettings};
+ghost use Rattle.usbgate_commands.specs.words.Lending.{AskedLent};
+ghost use Rattle.usbgate_commands.specs.links.Logs.{RunServes, RunLends};
+ghost use Rattle.usbgate_commands.specs.links.Recording.{records};
+ghost use Rattle.usbgate_commands.specs.words.Words.{texts, command_of};
 
 use gate_outside::{Doors, Sink, Source};
 use session_tape::MakeTape;
 use std::alloc::Global;
-use usbgate_commands::Command;
-use usbgate_commands::host::host;
-use usbgate_commands::serve::serve;
+use usbgate_commands::{Command, host, serve};
 use usbgate_tapes::runs::{model, replay, show};
 use usbgate_tapes::{Status, USAGE, load, make, print};
 

@@ -5,7 +5,7 @@
 ghost use Rattle.std.specs.Prelude.{◌≡◌, IfOk, drop, map, string_bytes};
 ghost use Rattle.std.specs.Process.{exit_status};
 ghost use Rattle.usbgate_tapes.specs.Code.{code_of};
-ghost use Rattle.usbgate_commands.specs.Words.{texts};
+ghost use Rattle.usbgate_commands.specs.words.Words.{texts};
 
 use gate_outside::{NoDoors, StdStream};
 use gate_sockets::TcpDoors;

@@ -1,6 +1,6 @@
 use Rattle.std.specs.Prelude.{min}
 use Rattle.std.proofs.Common.{◌≡◌, ℕ, Option, None, Some, refl, ap, arith}
-use Rattle.usbgate_commands.specs.Interval.{shorter}
+use Rattle.usbgate_commands.specs.links.Interval.{shorter}
 
 pub min_assoc : (a b c : ℕ) → min (min a b) c ≡ min a (min b c)
 min_assoc a b c = omega arith

@@ -12,10 +12,10 @@ use Rattle.bridge_run.specs.log.Log.{Terms, Told}
 use Rattle.bridge_run.specs.course.Outside.{Faults, Written, outside}
 use Rattle.bridge_run.specs.events.Prescribed.{Prescribed}
 use Rattle.usbgate_tapes.specs.declared.status.Status.TheVariants.{OutOfMemory}
-use Rattle.usbgate_commands.specs.Lending.{AskedLent}
-use Rattle.usbgate_commands.specs.Logs.{HasLog, terms_of, terms_lent, RunServes, RunLends}
-use Rattle.usbgate_commands.specs.Serves.{device_sends, device_runs_out}
-use Rattle.usbgate_commands.specs.Serving.{ServeSettings}
+use Rattle.usbgate_commands.specs.words.Lending.{AskedLent}
+use Rattle.usbgate_commands.specs.links.Logs.{HasLog, terms_of, terms_lent, RunServes, RunLends}
+use Rattle.usbgate_commands.specs.links.Serves.{device_sends, device_runs_out}
+use Rattle.usbgate_commands.specs.words.Serving.{ServeSettings}
 use Rattle.usbgate_commands.proofs.Served.{unserved, unlent}
 
 -- nothing was told

@@ -17,10 +17,10 @@ use Rattle.bridge_run.specs.events.Events.{LinkEvent}
 use Rattle.bridge_run.specs.course.Serves.{MayRunOut, CutShort}
 use Rattle.usbgate_tapes.specs.declared.status.Status.{Status}
 use Rattle.usbgate_tapes.specs.declared.status.Status.TheVariants.{Done, Usage, Refused, ReadFault, WriteFault, LinkFault, OutOfMemory, Idle, Spent}
-use Rattle.usbgate_commands.specs.Serving.{ServeSettings}
-use Rattle.usbgate_commands.specs.Lending.{AskedLent}
-use Rattle.usbgate_commands.specs.Recording.{IsUnmade, HasServed}
-use Rattle.usbgate_commands.specs.Serves.{Serves, EndsOf, HasNoTape, IsUnrecorded, IsRecorded, device_runs_out, setting_of, setting_lent, ended_as}
+use Rattle.usbgate_commands.specs.words.Serving.{ServeSettings}
+use Rattle.usbgate_commands.specs.words.Lending.{AskedLent}
+use Rattle.usbgate_commands.specs.links.Recording.{IsUnmade, HasServed}
+use Rattle.usbgate_commands.specs.links.Serves.{Serves, EndsOf, HasNoTape, IsUnrecorded, IsRecorded, device_runs_out, setting_of, setting_lent, ended_as}
 
 -- nothing was written of what was to be put behind it
 unwritten : (known : Option (List ℕ)) (least more : List ℕ) → known ≡ Some least → IsBetween least known (least ++ more)

@@ -1,9 +1,3 @@
-pub mod CommandLine
-pub mod Serving
-pub mod Lending
-pub mod Words
-pub mod Recording
-pub mod Serves
-pub mod Logs
-pub mod Interval
+pub mod words
+pub mod links
 pub mod inner

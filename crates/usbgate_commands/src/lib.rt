@@ -1,23 +1,15 @@
 //! The words, the command that they ask for, and the commands between links.
 #![tactic(auto)]
 
-mod command_line;
-mod command_table;
-mod ended;
-mod given;
-pub mod host;
-mod interval;
-mod lending;
-mod pace;
-pub mod serve;
-mod serving;
+mod links;
 mod words;
-mod wrong;
 
-pub use ended::ended_as;
-pub use interval::interval_units;
-pub use lending::Lending;
-pub use pace::pace_of;
-pub use serving::Serving;
-pub use words::Command;
-pub use wrong::{COMMANDS, Wrong, wrong_with};
+pub use links::ended::ended_as;
+pub use links::host::host;
+pub use links::interval::interval_units;
+pub use links::pace::pace_of;
+pub use links::serve::{BUDGET, serve};
+pub use words::command::Command;
+pub use words::lending::Lending;
+pub use words::serving::Serving;
+pub use words::wrong::{COMMANDS, Wrong, wrong_with};

@@ -1,7 +1,7 @@
 -- What the code keeps of the words, tied to the definitions.
 use Rattle.std.specs.Prelude.{◌≡◌, ℕ, List, Option, option_map, codes}
 use Rattle.std.specs.Borrow.{Bor}
-use Rattle.usbgate_commands.specs.declared.given.Given.{Given}
+use Rattle.usbgate_commands.specs.declared.words.given.Given.{Given}
 
 abbrev pub text_of : Option (Bor (List ℕ)) → Option (List ℕ)
 text_of word = option_map (λ (w : Bor (List ℕ)). w.now) word

@@ -10,9 +10,9 @@ use Rattle.bridge_run.specs.served.Lent.{lent_sends}
 use Rattle.bridge_run.specs.served.LentStops.{LentStops}
 use Rattle.bridge_run.specs.course.Outside.{faults, outside, written}
 use Rattle.usbgate_tapes.specs.declared.status.Status.{Status}
-use Rattle.usbgate_commands.specs.declared.serve.TheConstants.{BUDGET}
-use Rattle.usbgate_commands.specs.Logs.{HasLog}
-use Rattle.usbgate_commands.specs.Serves.{EndsOf}
+use Rattle.usbgate_commands.specs.declared.links.serve.TheConstants.{BUDGET}
+use Rattle.usbgate_commands.specs.links.Logs.{HasLog}
+use Rattle.usbgate_commands.specs.links.Serves.{EndsOf}
 
 pub record IsLent {S D : Type 0} (gives : D → Call → D → Type 0) (link : D → Side → Link) (door : D → Door) (tells : List ℕ → Type 0) (status : Status) (m : Meaning S) (s : S) (listen : List ℕ) (idle : ℕ) (old new : D) (faults_old faults_new : ℕ) (contents_old contents_new : Option (List ℕ)) : Type 0 where
   pub log : HasLog gives (LentStops m s) tells (record { host = None; door = listen; taped = false; idle = idle; budget = BUDGET }) (lent_sends m s) status old new

@@ -6,7 +6,7 @@ use Rattle.usbgate_tapes.specs.model.Model.{model_of}
 use Rattle.usbgate_tapes.specs.Show.{show}
 use Rattle.usbgate_tapes.specs.model.Made.{made, loaded}
 use Rattle.usbgate_tapes.specs.Printout.{tape_printout, printed, usage}
-use Rattle.usbgate_commands.specs.Recording.{records}
+use Rattle.usbgate_commands.specs.links.Recording.{records}
 use Rattle.usbgate_commands.proofs.Served.{links-stand, link-fault-of, link-stands}
 use Rattle.usbgate_tapes.proofs.lemmas.model.Simulated.{unsimulated}
 use Rattle.usbgate_tapes.proofs.lemmas.Unread.{leaves-none}

@@ -1,0 +1,78 @@
+//! The command `host`: a modelled device between sockets.
+
+ghost use Rattle.std.specs.Prelude.{◌≡◌, ◌≤◌, false};
+ghost use Rattle.usb_base.specs.declared.side.Side.TheVariants.{Client, Host};
+ghost use Rattle.bridge_run.specs.log.Log.{Told};
+ghost use Rattle.usbgate_commands.specs.links.Logs.{RunLends};
+ghost use Rattle.usbgate_commands.specs.inner.Lent.{IsLent};
+
+use crate::links::ended::ended_as;
+use crate::links::serve::BUDGET;
+use crate::words::lending::Lending;
+use bridge_run::serve_host;
+use gate_outside::{Doors, Sink};
+use model_device::Gadget;
+use std::alloc::Global;
+use usbgate_tapes::{DeviceUser, Status};
+
+/// Lends the device to a guest, and writes a line where that is refused.
+pub fn host<D: Doors, K: Sink>(
+    alloc: Global,
+    lending: &Lending<'_>,
+    doors: &mut D,
+    out: &mut K,
+) -> Status
+    requires down { ((D.link doors.old Client).up ≡ false) × ((D.link doors.old Host).up ≡ false) }
+    requires idle { 1 ≤ lending.now.idle }
+    ensures lends { RunLends D.call_gives D.link D.door (Told K.write_gives out.old out.new) result lending.now doors.old doors.new
+        (K.faults out.old) (K.faults out.new) (K.contents out.old) (K.contents out.new) }
+{
+    let (listen, idle) = (lending.listen, lending.idle);
+    match lending.device.make_for(
+        alloc,
+        &mut Lender {
+            alloc,
+            listen,
+            idle,
+            doors,
+            out,
+        },
+    ) {
+        Ok(status) => status,
+        Err(_) => Status::OutOfMemory,
+    }
+}
+
+/// Lends a device to a guest, whichever it is.
+#[derive(Drop)]
+struct Lender<'a, 'w, D, K> {
+    alloc: Global,
+    listen: &'w str,
+    idle: u32,
+    doors: &'a mut D,
+    out: &'a mut K,
+}
+
+impl<'a, 'w, D: Doors, K: Sink> DeviceUser for Lender<'a, 'w, D, K> {
+    type Answer = Status;
+
+    ghost Ready = { λ lender. ((D.link lender.doors.now Client).up ≡ false) × ((D.link lender.doors.now Host).up ≡ false) × (1 ≤ lender.idle) };
+
+    ghost Holds = { λ old new status. (new.doors.ghost_name ≡ old.doors.ghost_name) × (new.out.ghost_name ≡ old.out.ghost_name) };
+
+    ghost Comes = { λ old new status S m s. IsLent D.call_gives D.link D.door (Told K.write_gives old.out.now new.out.now) status m s old.listen.now old.idle old.doors.now new.doors.now
+        (K.faults old.out.now) (K.faults new.out.now) (K.contents old.out.now) (K.contents new.out.now) };
+
+    fn take<G: Gadget>(&mut self, gadget: G) -> Status {
+        let end = serve_host(
+            self.alloc,
+            gadget,
+            self.listen,
+            u64::from(self.idle),
+            BUDGET,
+            self.doors,
+            self.out,
+        );
+        ended_as(end)
+    }
+}
