@@ -2,4 +2,3 @@
 
 pub mod event;
 pub mod sent;
-pub mod served;

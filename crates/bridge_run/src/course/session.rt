@@ -25,7 +25,7 @@ use crate::course::rounds::Rounds;
 use crate::course::serve_end::ServeEnd;
 use crate::events::event::{LinkEvent, ends_next};
 use crate::events::sent::Sent;
-use crate::events::served::Served;
+use crate::served::any::Served;
 use crate::written::link::{close_link, write_link};
 use crate::written::recording::{record_event, write_waiting};
 use gate_outside::{Doors, Polled, Side, Sink, write_all};

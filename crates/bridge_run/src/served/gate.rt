@@ -6,8 +6,8 @@ ghost use Rattle.bridge_run.specs.served.Gate.{is_loss};
 
 use crate::events::event::LinkEvent;
 use crate::events::sent::Sent;
-use crate::events::served::Served;
 use crate::served::after_loss::AfterLoss;
+use crate::served::any::Served;
 use gate_core::Gate;
 use gate_history::{Event as GateEvent, Note, Notes, push_refusals};
 use usb_base::{Memory, Side};

@@ -12,7 +12,7 @@ ghost use Rattle.bridge_run.specs.written.Recorded.{has_any};
 
 use crate::events::event::LinkEvent;
 use crate::events::sent::Sent;
-use crate::events::served::Served;
+use crate::served::any::Served;
 use model_device::Gadget;
 use redir_host::{HostCore, HostNote, HostNotes};
 use std::alloc::Global;

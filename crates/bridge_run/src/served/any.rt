@@ -1,4 +1,4 @@
-//! What is served.
+//! Whatever is served, as the course of serving uses it.
 
 ghost use Rattle.std.specs.Prelude.{◌≡◌, ℕ, Bool, List, [], ◌∷◌, OnOk, OnErr, true};
 ghost use Rattle.bridge_run.specs.events.Events.{LinkEvent as PastEvent, event_of, is_quiet};
