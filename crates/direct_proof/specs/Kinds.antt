@@ -2,6 +2,7 @@
 use Rattle.std.specs.Prelude.{◌≡◌, ℕ, ◌≤◌, ◌<◌, true, List, length, Option, Some, None, get_or, ◌⊎◌}
 use Rattle.usb_base.specs.Endpoint.{endpoint_index}
 use Rattle.usb_base.specs.declared.endpoint.EpKind.TheVariants as kind
+use Rattle.usb_base.specs.declared.endpoint.TheConstants.{ENDPOINTS}
 use Rattle.model_device.specs.Gadget.{IsNamed}
 use Rattle.redir_host.specs.declared.state.running.StreamKind.{StreamKind}
 use Rattle.gate_history.specs.state.Ups.{Up, stream_of}
@@ -20,7 +21,7 @@ UpFits i None = Unit {0}
 UpFits i (Some up) = IsIn up.ep × (endpoint_index up.ep ≡ i) × ((up.row.kind ≡ kind.Iso) ⊎ (up.row.kind ≡ kind.Interrupt))
 
 pub record UpsFit (ups : List (Option Up)) : Type 0 where
-  pub count_is : length ups ≡ 32
+  pub count_is : length ups ≡ ENDPOINTS
   pub each : (i : ℕ) → UpFits i (get_or ups i None)
 
 -- a start and a stop are of an IN endpoint's address

@@ -1,6 +1,7 @@
 -- What is known of a submit that goes by an id, and of an answer under way.
 use Rattle.std.specs.Prelude.{◌≡◌, ◌≢◌, ◌≤◌, false, if◌then◌else◌, Option, Some, None, nat_lt}
 use Rattle.usb_base.specs.Endpoint.{is_in_endpoint}
+use Rattle.usb_base.specs.declared.limits.TheConstants.{MAX_TRANSFER}
 use Rattle.usb_base.specs.declared.setup.Setup.{Setup}
 use Rattle.usb_base.specs.declared.transfer.Transfer.{Transfer}
 use Rattle.control_route.specs.Routes.{route_of}
@@ -8,6 +9,7 @@ use Rattle.control_route.specs.declared.route.Route.{Route}
 use Rattle.control_route.specs.declared.route.Route.TheVariants as route
 use Rattle.model_device.specs.Gadget.{IsNamed}
 use Rattle.model_device.specs.Transfer.{IsOutcome, IsTransfer, is_control}
+use Rattle.gate_history.specs.declared.verdict.TheConstants.{MAX_NARROW}
 use Rattle.gate_history.specs.declared.verdict.Pipe.{Pipe}
 use Rattle.gate_history.specs.declared.verdict.Pipe.TheVariants.{Control, Bulk, InterruptOut}
 use Rattle.gate_history.specs.declared.verdict.Verdict.{Verdict}
@@ -19,8 +21,8 @@ use Rattle.direct_proof.specs.Requests.{Coming}
 abbrev pub FitsPipe : Pipe → Transfer → Option Setup → Type 0
 FitsPipe Control t None = ⊥
 FitsPipe Control t (Some s) = (t.ep ≡ (if nat_lt s.kind 128 then 0 else 128)) × (route_of s ≡ route.Plain) × (s.length ≡ t.wanted)
-FitsPipe Bulk t setup = (setup ≡ None) × (is_control t.ep ≡ false) × (t.wanted ≤ 16777216)
-FitsPipe InterruptOut t setup = (setup ≡ None) × (is_control t.ep ≡ false) × (is_in_endpoint t.ep ≡ false) × (t.wanted ≤ 65535)
+FitsPipe Bulk t setup = (setup ≡ None) × (is_control t.ep ≡ false) × (t.wanted ≤ MAX_TRANSFER)
+FitsPipe InterruptOut t setup = (setup ≡ None) × (is_control t.ep ≡ false) × (is_in_endpoint t.ep ≡ false) × (t.wanted ≤ MAX_NARROW)
 
 abbrev pub FitsRoute : Route → Transfer → Option Setup → Type 0
 FitsRoute r t None = ⊥

@@ -7,8 +7,7 @@ ghost use Rattle.gate_history.specs.step.Past.{past};
 ghost use Rattle.gate_history.specs.step.History.{history, rest_length};
 ghost use Rattle.gate_history.specs.write.All.{counts_of};
 ghost use Rattle.gate_history.specs.write.Bytes.{out_host};
-ghost use Rattle.usbip_urb.specs.declared.code.TheConstants.{LONGEST_PACKET as LONGEST_URB};
-ghost use Rattle.redir_wire.specs.declared.header.TheConstants.{LONGEST_PACKET as LONGEST_REDIR};
+ghost use Rattle.usb_base.specs.declared.limits.TheConstants.{LONGEST_CLIENT_PACKET, LONGEST_HOST_PACKET};
 ghost use Rattle.gate_core.specs.step.Stands.{Stands, StandsFor, Takes, Stops, HasFailed};
 
 use crate::step::inner::Inner;
@@ -113,7 +112,7 @@ impl Gate {
         ensures held { result ≡ length self.now.client.held + length self.now.host.held }
         ensures all { (first : ℕ) (events : List PastEvent) → Stands first self.now events → result ≡ rest_length first events }
         // Less than the longest packet of each side.
-        ensures few { (first : ℕ) (events : List PastEvent) → Stands first self.now events → result ≤ (LONGEST_URB - 1) + (LONGEST_REDIR - 1) }
+        ensures few { (first : ℕ) (events : List PastEvent) → Stands first self.now events → result ≤ (LONGEST_CLIENT_PACKET - 1) + (LONGEST_HOST_PACKET - 1) }
     {
         (self.inner.client.held() + self.inner.host.held()) as u64
     }

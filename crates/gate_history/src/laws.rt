@@ -30,8 +30,7 @@ ghost use Rattle.gate_history.specs.write.Readable.{SentCanBeRead, piece_bytes};
 ghost use Rattle.gate_history.specs.step.Refusals.{causes, is_refusal, client_wrongs, host_wrongs};
 ghost use Rattle.redir_wire.specs.declared.packet.Way.TheVariants.{ToGuest};
 ghost use Rattle.usbip_urb.specs.ClientPackets.{client_packets};
-ghost use Rattle.usbip_urb.specs.declared.code.TheConstants.{LONGEST_PACKET as LONGEST_URB};
-ghost use Rattle.redir_wire.specs.declared.header.TheConstants.{LONGEST_PACKET as LONGEST_REDIR};
+ghost use Rattle.usb_base.specs.declared.limits.TheConstants.{LONGEST_CLIENT_PACKET, LONGEST_HOST_PACKET};
 
 use packet_stream::splits_well;
 use redir_data::FromHost;
@@ -117,8 +116,8 @@ pub fn refusals_have_causes()
 
 /// A law: what is left of a side's stream of packets that aren't whole is shorter than its longest packet.
 pub fn rests_are_short()
-    ensures client { (bytes : List ℕ) → AreBytes bytes → length (client_split bytes).rest < LONGEST_URB }
-    ensures host { (bytes : List ℕ) → AreBytes bytes → length (host_split bytes).rest < LONGEST_REDIR }
+    ensures client { (bytes : List ℕ) → AreBytes bytes → length (client_split bytes).rest < LONGEST_CLIENT_PACKET }
+    ensures host { (bytes : List ℕ) → AreBytes bytes → length (host_split bytes).rest < LONGEST_HOST_PACKET }
 {}
 
 /// A law: after every past each stream holds at most 1,024 packets.

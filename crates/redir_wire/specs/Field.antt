@@ -2,6 +2,7 @@
 use Rattle.std.specs.Prelude.{◌≡◌, ℕ, ◌<◌, ◌/◌, ◌%◌, ◌^◌, List, [], ◌∷◌, length, flat_map}
 use Rattle.std.specs.Int.{w16, w32}
 use Rattle.usb_base.specs.Number.{le}
+use Rattle.usb_base.specs.declared.endpoint.TheConstants.{ENDPOINTS}
 use Rattle.redir_wire.specs.Words.{numbers, AreNumbers}
 
 pub data Field : Type 0 where
@@ -29,13 +30,14 @@ field_bytes (Upper n) = le w16 (n / 65536)
 abbrev pub wire_bytes : List Field → List ℕ
 wire_bytes fs = flat_map field_bytes fs
 
--- the ranges that the types of the code have, beside those of bytes: each number has its width, and a table has 32 rows
+-- the ranges that the types of the code have, beside those of bytes: each number has its width, and a table as many rows as a
+-- device has endpoints, and interfaces
 abbrev pub AreInRange : List Field → Type 0
 AreInRange [] = Unit {0}
 AreInRange (Bytes ns ∷ fs) = AreInRange fs
 AreInRange (Shorts ns ∷ fs) = AreNumbers w16 ns × AreInRange fs
 AreInRange (Longs ns ∷ fs) = AreNumbers w32 ns × AreInRange fs
-AreInRange (ByteTable ns ∷ fs) = (length ns ≡ 32) × AreInRange fs
-AreInRange (ShortTable ns ∷ fs) = (length ns ≡ 32) × AreNumbers w16 ns × AreInRange fs
+AreInRange (ByteTable ns ∷ fs) = (length ns ≡ ENDPOINTS) × AreInRange fs
+AreInRange (ShortTable ns ∷ fs) = (length ns ≡ ENDPOINTS) × AreNumbers w16 ns × AreInRange fs
 AreInRange (Lower n ∷ fs) = AreInRange fs
 AreInRange (Upper n ∷ fs) = (n < 2 ^ 32) × AreInRange fs

@@ -5,7 +5,7 @@ use Rattle.usb_base.specs.declared.endpoint.TheConstants.{ENDPOINTS}
 use Rattle.redir_wire.specs.declared.packet.Caps.{Caps}
 use Rattle.redir_wire.specs.declared.packet.RedirControl.{RedirControl}
 use Rattle.redir_wire.specs.declared.packet.RedirControl.TheVariants as controls
-use Rattle.redir_wire.specs.declared.packet.TheConstants.{MAX_INTERFACES}
+use Rattle.redir_wire.specs.declared.packet.TheConstants.{MAX_HELLO_WORDS, MAX_INTERFACES}
 use Rattle.redir_wire.specs.declared.packet.TheConstants.Caps.{CONNECT_VERSION, MAX_PACKET_SIZE}
 use Rattle.redir_wire.specs.Capability.{has}
 use Rattle.redir_wire.specs.Words.{AreNumbers}
@@ -20,7 +20,7 @@ IsSent true zeros field = Unit {0}
 IsSent false zeros field = field ≡ zeros
 
 abbrev pub IsWritable : Caps → RedirControl → Type 0
-IsWritable caps (controls.Hello h) = length h.words ≤ 32
+IsWritable caps (controls.Hello h) = length h.words ≤ MAX_HELLO_WORDS
 IsWritable caps (controls.Connect c) = IsSent (has caps CONNECT_VERSION) 0 c.version
 IsWritable caps (controls.InterfaceInfo i) = i.count ≤ MAX_INTERFACES
 IsWritable caps (controls.EpInfo e) = IsSent (has caps MAX_PACKET_SIZE) (replicate ENDPOINTS 0) e.max_packet

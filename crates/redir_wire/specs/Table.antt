@@ -1,5 +1,5 @@
 -- The table of packets: each type's number, the way that it goes, the capability that it wants, and its length ("Packet types").
-use Rattle.std.specs.Prelude.{ℕ, ◌+◌, ◌-◌, ◌/◌, ◌%◌, Bool, true, false, ◌==◌, ◌&&◌, ◌||◌, nat_le, nat_lt, List, [], ◌∷◌, Option, Some, None, find, if◌then◌else◌, codes}
+use Rattle.std.specs.Prelude.{ℕ, ◌+◌, ◌-◌, ◌*◌, ◌/◌, ◌%◌, Bool, true, false, ◌==◌, ◌&&◌, ◌||◌, nat_le, nat_lt, List, [], ◌∷◌, Option, Some, None, find, if◌then◌else◌, codes}
 use Rattle.std.specs.Option.{option_map, option_map_or, option_or}
 use Rattle.usb_base.specs.Number.{byte_at}
 use Rattle.redir_wire.specs.declared.packet.Caps.{Caps}
@@ -17,6 +17,7 @@ use Rattle.redir_wire.specs.declared.kind.More.{More}
 use Rattle.redir_wire.specs.declared.kind.Tail.{Tail}
 use Rattle.redir_wire.specs.declared.kind.Tail.TheVariants.{Nothing, Words, Data}
 use Rattle.redir_wire.specs.declared.kind.TypeRow.{TypeRow}
+use Rattle.redir_wire.specs.declared.packet.TheConstants.{MAX_HELLO_WORDS}
 use Rattle.redir_wire.specs.declared.packet.TheConstants.Caps.{CONNECT_VERSION, DISCONNECT_ACK, MAX_PACKET_SIZE, WIDE_BULK_LENGTH}
 use Rattle.redir_wire.specs.Capability.{has}
 use Rattle.redir_wire.specs.Places.{hello_at, connect_at, interface_info_at, ep_info_at}
@@ -128,10 +129,10 @@ is_longer r length = nat_lt r.fixed length
 abbrev pub fixed_length : Caps → TypeRow → ℕ
 fixed_length caps r = r.fixed + option_map_or (λ (m : More). if has caps m.capability then m.bytes else 0) r.more 0
 
--- behind a hello's text are at most 32 words; any data are behind the fields of a data packet
+-- behind a hello's text are no more words than it may have; any data are behind the fields of a data packet
 abbrev pub is_tail : Tail → ℕ → ℕ → Bool
 is_tail Nothing fixed length = length == fixed
-is_tail Words fixed length = nat_le fixed length && (nat_le length (fixed + 128) && ((length - fixed) % 4 == 0))
+is_tail Words fixed length = nat_le fixed length && (nat_le length (fixed + 4 * MAX_HELLO_WORDS) && ((length - fixed) % 4 == 0))
 is_tail Data fixed length = nat_le fixed length
 
 abbrev pub has_length : Caps → TypeRow → ℕ → Bool

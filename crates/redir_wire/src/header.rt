@@ -11,14 +11,11 @@ ghost use Rattle.redir_wire.specs.Reads.{never};
 use crate::kind::{HELLO, Kind, is_left_out};
 use crate::packet::{Caps, Header, HeaderRead, Way};
 use packet_stream::{Read, ReadError};
-use usb_base::{LONGEST_HOST_PACKET, MAX_TRANSFER, Reason, array_at, le_u32_at};
+use usb_base::{MAX_TRANSFER, Reason, array_at, le_u32_at};
 
-/// The greatest length that a header may tell, in bytes: the longest transfer and 64 more, which is room for the fields of
-/// any data packet.
+/// The greatest length that a header may tell, in bytes: the longest transfer and 64 more, which is room for the
+/// fields of any data packet.
 pub const MAX_LENGTH: u32 = MAX_TRANSFER + 64;
-
-/// The longest packet, in bytes, with its header.
-pub const LONGEST_PACKET: usize = LONGEST_HOST_PACKET;
 
 /// Reads the header at the front of what goes this way, where these capabilities are agreed. `first` says that the
 /// stream's hello hasn't come. A wrong header is refused as soon as the bytes of what is wrong are there:

@@ -4,7 +4,7 @@ ghost use Rattle.std.specs.Prelude.{◌≡◌, ◌<◌, ◌≤◌, IfSome};
 ghost use Rattle.redir_wire.specs.Table.{of_type, with, plain_row, data_row, row_of, plain_numbered, data_numbered, kind_numbered, goes, has_wanted, has_more, is_longer, plain_name, data_name, fixed_length, has_length, is_left_out};
 ghost use Rattle.redir_wire.specs.Small.{IsSmall};
 
-use crate::packet::{Caps, Way};
+use crate::packet::{Caps, MAX_HELLO_WORDS, Way};
 use crate::types::plain_types;
 
 /// The number of `usb_redir_hello`.
@@ -314,7 +314,11 @@ impl TypeRow {
         let fixed = self.fixed(caps);
         match self.tail {
             Tail::Nothing => length == fixed,
-            Tail::Words => length >= fixed && length <= fixed + 128 && (length - fixed) % 4 == 0,
+            Tail::Words => {
+                length >= fixed
+                    && length <= fixed + 4 * MAX_HELLO_WORDS
+                    && (length - fixed) % 4 == 0
+            }
             Tail::Data => length >= fixed,
         }
     }

@@ -15,13 +15,13 @@ mod types;
 mod write;
 
 pub use field::{FieldWriter, Wire};
-pub use header::{LONGEST_PACKET, MAX_LENGTH, header_size, read_header};
+pub use header::{MAX_LENGTH, header_size, read_header};
 pub use kind::{DataKind, Kind, More, PlainKind, Tail, TypeRow, is_left_out};
 pub use laws::{headers_sound, plain_sound, protocol_numbers, read_again, read_by_parts};
 pub use next::next_control;
 pub use packet::{
     Caps, Connect, EpInfo, Header, HeaderRead, Hello, INTERFACE_CELLS, InterfaceInfo,
-    MAX_INTERFACES, RedirControl, Way, WireError, Words,
+    MAX_HELLO_WORDS, MAX_INTERFACES, RedirControl, Way, WireError, Words,
 };
 pub use read::read_control;
 pub use write::{push_header, write_control};

@@ -3,6 +3,9 @@
 use packet_stream::{Read, ReadError};
 use usb_base::{ENDPOINTS, List};
 
+/// How many words of capabilities a hello may have. The limit is this gateway's own.
+pub const MAX_HELLO_WORDS: u32 = 32;
+
 /// How many interfaces an interface_info may have.
 pub const MAX_INTERFACES: u32 = 32;
 
@@ -28,7 +31,7 @@ pub type Words = List<u32>;
 pub struct Hello {
     /// A text that names the program, with zeros after it.
     pub version: [u8; 64],
-    /// The side's capabilities, at most 32 words.
+    /// The side's capabilities, at most [`MAX_HELLO_WORDS`].
     pub words: Words,
 }
 

@@ -164,7 +164,7 @@ fn ep_info_at(sent: bool, bytes: &[u8]) -> EpInfo
 
 fn max_packet_at(bytes: &[u8]) -> [u16; ENDPOINTS]
     requires { 160 ≤ length bytes.now }
-    ensures { result ≡ numbers_of w16 32 (drop 96 bytes.now) }
+    ensures { result ≡ numbers_of w16 ENDPOINTS (drop 96 bytes.now) }
 {
     let mut sizes = [0; ENDPOINTS];
     for i in 0..ENDPOINTS {

@@ -9,6 +9,11 @@ use std::marker::Model;
 /// How many endpoints a device's table has places for.
 pub const ENDPOINTS: usize = 32;
 
+/// A law: the number that definitions name is this.
+pub fn endpoint_count()
+    ensures { ENDPOINTS ≡ 32 }
+{}
+
 /// The address of an endpoint: the number in bits 0 to 3, and in bit 7 whether it is an IN endpoint, from
 /// the device to the host. Contracts see it as its byte.
 #[derive(Clone, Copy)]

@@ -5,8 +5,8 @@ ghost use Rattle.std.specs.Prelude.{◌≡◌};
 /// The longest transfer, in bytes: 16 MiB. The limit is this gateway's own.
 pub const MAX_TRANSFER: u32 = 16_777_216;
 
-/// A client's longest packet, in bytes: a submit with its head of 48, the longest transfer, and 1,024 descriptors of 16
-/// each ("usbip_protocol", USBIP_CMD_SUBMIT).
+/// A client's longest packet, in bytes: a submit with its head of 48, the longest transfer, and 1,024 descriptors of
+/// 16 each ("usbip_protocol", USBIP_CMD_SUBMIT).
 pub const LONGEST_CLIENT_PACKET: usize = 48 + MAX_TRANSFER as usize + 1_024 * 16;
 
 /// A host's longest packet, in bytes: a header of 16, the longest transfer, and 64 more, which is room for the fields of

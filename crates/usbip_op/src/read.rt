@@ -39,10 +39,9 @@ fn request_packet(bytes: &[u8]) -> Result<OpRead, OpError>
     ensures stands { IfTold result (StandsAtFront requests bytes.now) }
     ensures exact { told result ≡ Some (reading requests bytes.now) }
 {
-    match read_request(bytes) {
-        Ok(Read::Whole(request, size)) => Ok(Read::Whole(request.packet(), size)),
-        Ok(Read::Short) => Ok(Read::Short),
-        Err(error) => Err(error),
+    match read_request(bytes)? {
+        Read::Whole(request, size) => Ok(Read::Whole(request.packet(), size)),
+        Read::Short => Ok(Read::Short),
     }
 }
 

@@ -7,7 +7,8 @@ use Rattle.usb_base.specs.Number.{be_at}
 use Rattle.usb_base.proofs.Numbers.{be_at-append_32}
 use Rattle.packet_stream.specs.Awaited.{awaited}
 use Rattle.packet_stream.proofs.Awaiting.{IsPatient, AreIdle, first_soon, first_within}
-use Rattle.usbip_urb.specs.declared.code.TheConstants.{MAX_LENGTH, USBIP_CMD_SUBMIT}
+use Rattle.usb_base.specs.declared.limits.TheConstants.{MAX_TRANSFER}
+use Rattle.usbip_urb.specs.declared.code.TheConstants.{USBIP_CMD_SUBMIT}
 use Rattle.usbip_urb.specs.Ranges.{is_packet_count}
 use Rattle.usbip_urb.specs.Sizes.{is_out, body_size, count_of, whole_size}
 use Rattle.usbip_urb.specs.Checks.{has_command, request_checks}
@@ -91,7 +92,7 @@ idle b more less = (
         (
           λ untried there. absurd cc,
           (
-            λ untried there. idle_by b more 28 (nat_le (be_at w32 24 (b ++ more)) MAX_LENGTH) (omega arith) less untried there,
+            λ untried there. idle_by b more 28 (nat_le (be_at w32 24 (b ++ more)) MAX_TRANSFER) (omega arith) less untried there,
             (λ untried there. idle_by b more 36 (is_packet_count (be_at w32 32 (b ++ more))) (omega arith) less untried there, tt),
           ),
         ),

@@ -6,7 +6,8 @@ use Rattle.usb_base.specs.declared.reason.Reason.{Reason}
 use Rattle.usb_base.specs.declared.reason.Reason.TheVariants.{Version, Command, Device, Direction, Endpoint, TooLong, Packets}
 use Rattle.packet_stream.specs.Format.{Check, check}
 use Rattle.packet_stream.specs.Joined.{guarded}
-use Rattle.usbip_urb.specs.declared.code.TheConstants.{EXPORTED_DEVID, MAX_ENDPOINT, MAX_LENGTH, USBIP_CMD_SUBMIT, USBIP_CMD_UNLINK, USBIP_DIR_IN, USBIP_RET_SUBMIT, USBIP_RET_UNLINK}
+use Rattle.usb_base.specs.declared.limits.TheConstants.{MAX_TRANSFER}
+use Rattle.usbip_urb.specs.declared.code.TheConstants.{EXPORTED_DEVID, MAX_ENDPOINT, USBIP_CMD_SUBMIT, USBIP_CMD_UNLINK, USBIP_DIR_IN, USBIP_RET_SUBMIT, USBIP_RET_UNLINK}
 use Rattle.usbip_urb.specs.Ranges.{is_packet_count}
 
 -- a check of the number of 32 bits at a place
@@ -24,7 +25,7 @@ command_check submit unlink = number_check 0 Command (λ command. (command == su
 -- what is asked of a submit and of its answer alone: transfer_buffer_length of the one, actual_length of the other, and
 -- number_of_packets
 abbrev pub size_checks : List (Check Reason)
-size_checks = number_check 24 TooLong (λ length. nat_le length MAX_LENGTH) ∷ number_check 32 Packets is_packet_count ∷ []
+size_checks = number_check 24 TooLong (λ length. nat_le length MAX_TRANSFER) ∷ number_check 32 Packets is_packet_count ∷ []
 
 abbrev pub has_command : ℕ → List ℕ → Bool
 has_command command b = be_at w32 0 b == command

@@ -10,7 +10,8 @@ use Rattle.usbip_urb.specs.declared.packet.Unlink.{Unlink}
 use Rattle.usbip_urb.specs.declared.packet.RetUnlink.{RetUnlink}
 use Rattle.usbip_urb.specs.declared.packet.UrbPacket.{UrbPacket}
 use Rattle.usbip_urb.specs.declared.packet.UrbPacket.TheVariants as urb
-use Rattle.usbip_urb.specs.declared.code.TheConstants.{EXPORTED_DEVID, MAX_ENDPOINT, MAX_LENGTH, MAX_PACKETS, NO_PACKETS, USBIP_DIR_IN}
+use Rattle.usb_base.specs.declared.limits.TheConstants.{MAX_TRANSFER}
+use Rattle.usbip_urb.specs.declared.code.TheConstants.{EXPORTED_DEVID, MAX_ENDPOINT, MAX_PACKETS, NO_PACKETS, USBIP_DIR_IN}
 use Rattle.usbip_urb.specs.Sizes.{is_out, body_size, count_of}
 use Rattle.usbip_urb.specs.Spelling.{submit_words, ret_submit_words, unlink_words, ret_unlink_words, desc_words}
 
@@ -27,14 +28,14 @@ pub record IsRequestHead (h : Head) : Type 0 where
 -- a submit has a body exactly where its direction is OUT
 pub record IsSubmit (s : Submit) : Type 0 where
   pub head : IsRequestHead s.head
-  pub few_bytes : s.length ≤ MAX_LENGTH
+  pub few_bytes : s.length ≤ MAX_TRANSFER
   pub few_packets : IsTrue (is_packet_count s.packets)
   pub body : length s.body ≡ body_size (is_out s.head.direction) s.length
   pub descs : length s.descs ≡ count_of s.packets
 
 -- its answer has one exactly where it was IN
 pub record IsRetSubmit (is_in : Bool) (r : RetSubmit) : Type 0 where
-  pub few_bytes : r.actual ≤ MAX_LENGTH
+  pub few_bytes : r.actual ≤ MAX_TRANSFER
   pub few_packets : IsTrue (is_packet_count r.packets)
   pub body : length r.body ≡ body_size is_in r.actual
   pub descs : length r.descs ≡ count_of r.packets

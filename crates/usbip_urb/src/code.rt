@@ -24,20 +24,15 @@ pub const USBIP_DIR_IN: u32 = 1;
 pub const NO_PACKETS: u32 = 0xFFFF_FFFF;
 
 /// The devid of the one device that this gateway exports: the number of its bus, and its own.
-pub const EXPORTED_DEVID: u32 = BUS_NUMBER << 16 | DEVICE_NUMBER;
+pub const EXPORTED_DEVID: u32 = (BUS_NUMBER << 16) | DEVICE_NUMBER;
 /// The greatest endpoint number.
 pub const MAX_ENDPOINT: u32 = 15;
 /// How many submits may be in flight.
 pub const MAX_LIVE: usize = 4096;
-/// The longest transfer, in bytes: 16 MiB.
-pub const MAX_LENGTH: u32 = MAX_TRANSFER;
 /// The most isochronous packets of a transfer.
 pub const MAX_PACKETS: u32 = 1024;
 /// The longest isochronous packet, in bytes.
 pub const MAX_PACKET_LENGTH: u32 = 65_535;
-
-/// The longest packet, in bytes: a submit with its head, the longest body and the most descriptors.
-pub const LONGEST_PACKET: usize = LONGEST_CLIENT_PACKET;
 
 /// How many bytes a packet has up to its body.
 pub const HEAD_SIZE: usize = 48;
@@ -52,7 +47,7 @@ pub fn protocol_numbers()
     ensures device { (EXPORTED_DEVID ≡ 0x0001_0002) × (MAX_ENDPOINT ≡ 15) }
     ensures sizes { (HEAD_SIZE ≡ 48) × (DESC_SIZE ≡ 16) }
     ensures none { NO_PACKETS ≡ 0xFFFF_FFFF }
-    ensures limits { (MAX_LIVE ≡ 4096) × (MAX_LENGTH ≡ 16777216) × (MAX_PACKETS ≡ 1024) × (MAX_PACKET_LENGTH ≡ 65535) }
-    ensures longest { LONGEST_PACKET ≡ 48 + 16777216 + 1024 * 16 }
-    ensures parts { LONGEST_PACKET ≡ HEAD_SIZE + MAX_LENGTH + MAX_PACKETS * DESC_SIZE }
+    ensures limits { (MAX_LIVE ≡ 4096) × (MAX_PACKETS ≡ 1024) × (MAX_PACKET_LENGTH ≡ 65535) }
+    ensures longest { LONGEST_CLIENT_PACKET ≡ 48 + 16777216 + 1024 * 16 }
+    ensures parts { LONGEST_CLIENT_PACKET ≡ HEAD_SIZE + MAX_TRANSFER + MAX_PACKETS * DESC_SIZE }
 {}

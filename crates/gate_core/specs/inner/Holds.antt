@@ -1,7 +1,8 @@
 -- When what is kept stands for a state of the machine, and what it does with an item.
 use Rattle.std.specs.Prelude.{◌≡◌, ◌⊎◌, ◌∷◌, ◌<◌, not, ◌+◌, ◌-◌, ◌^◌, [], ◌++◌, ◌≤◌, ℕ, true, false, length, filter, IsTrue, None}
 use Rattle.std.specs.List.{AllByRecursion, list_any}
-use Rattle.usbip_urb.specs.declared.code.TheConstants.{MAX_LENGTH, MAX_LIVE}
+use Rattle.usb_base.specs.declared.limits.TheConstants.{MAX_TRANSFER}
+use Rattle.usbip_urb.specs.declared.code.TheConstants.{MAX_LIVE}
 use Rattle.usbip_urb.specs.Buffers.{laid}
 use Rattle.redir_wire.specs.declared.packet.Caps.{Caps}
 use Rattle.unlink_race.specs.Requests.{no_requests}
@@ -132,14 +133,14 @@ pub record HasOpened (live : Live) (last : ℕ) (old new : Kept) : Type 0 where
 -- such a request can be answered
 pub record CanAnswer (r : Request) (kind : LiveKind) : Type 0 where
   pub packets : HasItsPackets r.packets r.descs
-  pub few_bytes : r.transfer.wanted ≤ MAX_LENGTH
+  pub few_bytes : r.transfer.wanted ≤ MAX_TRANSFER
   pub read : (r.transfer.wanted ≡ 0) ⊎ IsRead r.is_in kind
   pub by_id : not (is_stream kind) ≡ true
 
 -- such a request can wait for a stream's packets
 pub record CanWait (r : Request) : Type 0 where
   pub packets : HasItsPackets r.packets r.descs
-  pub few_bytes : r.transfer.wanted ≤ MAX_LENGTH
+  pub few_bytes : r.transfer.wanted ≤ MAX_TRANSFER
   pub lies : IsTrue (laid r.descs r.transfer.wanted)
 
 -- one that goes by an id can be answered, one that waits can do so, and both find room

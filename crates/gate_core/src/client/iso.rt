@@ -1,7 +1,7 @@
 //! Isochronous transfers to the device: their packets go to the host by a stream, and are answered at once.
 
 ghost use Rattle.std.specs.Prelude.{◌≡◌, ◌≤◌, ◌++◌, ℕ, None, false, [], length, OnOk, OnErr, IfOk};
-ghost use Rattle.usbip_urb.specs.declared.code.TheConstants.{MAX_LENGTH};
+ghost use Rattle.usb_base.specs.declared.limits.TheConstants.{MAX_TRANSFER};
 ghost use Rattle.gate_history.specs.state.Ids.{last_of};
 ghost use Rattle.gate_history.specs.declared.verdict.Verdict.TheVariants.{IsoOut};
 ghost use Rattle.gate_history.specs.step.Marks.{Opens};
@@ -33,7 +33,7 @@ impl Kept {
         requires kept { IsKept self.old }
         requires laid { IsLaid request.now }
         requires packets { HasItsPackets request.now.packets request.now.descs }
-        requires few_bytes { request.now.transfer.wanted ≤ MAX_LENGTH }
+        requires few_bytes { request.now.transfer.wanted ≤ MAX_TRANSFER }
         ensures kept { IsKept self.new }
         ensures ok { (st : State) → Holds self.old st → IsSound st
             → OnOk result (Does st (mark_as st (Opens (submission st request.now (IsoOut row) [])) None) self.old self.new out.old out.new) }

@@ -3,7 +3,7 @@ use Rattle.std.specs.Prelude.{◌≡◌, ℕ, ◌≤◌, ◌<◌, ◌^◌, not, 
 use Rattle.usb_base.specs.declared.setup.Setup.{Setup}
 use Rattle.usb_base.specs.declared.transfer.Transfer.{Transfer}
 use Rattle.usb_base.specs.Endpoint.{is_in_endpoint}
-use Rattle.usbip_urb.specs.declared.code.TheConstants.{MAX_LENGTH}
+use Rattle.usb_base.specs.declared.limits.TheConstants.{MAX_TRANSFER}
 use Rattle.usbip_urb.specs.Buffers.{laid}
 use Rattle.usbip_urb.specs.Sizes.{body_size, count_of}
 use Rattle.usbip_urb.specs.Ranges.{is_packet_count}
@@ -24,7 +24,7 @@ IsDirected is_in None ep = is_in_endpoint ep ≡ is_in
 IsDirected is_in (Some s) ep = ep ≡ address (is_in_setup s) 0
 
 pub record IsRequest (r : Request) : Type 0 where
-  pub few_bytes : r.transfer.wanted ≤ MAX_LENGTH
+  pub few_bytes : r.transfer.wanted ≤ MAX_TRANSFER
   pub few_packets : IsTrue (is_packet_count r.packets)
   pub descs : length r.descs ≡ count_of r.packets
   pub body : length r.transfer.body ≡ body_size (not r.is_in) r.transfer.wanted
@@ -49,7 +49,7 @@ LengthFits wide InterruptOut wanted = wanted < 2 ^ 16
 pub record IsSent (wide : Bool) (pipe : Pipe) (t : Transfer) : Type 0 where
   pub setup : HasItsSetup pipe t.setup t.wanted
   pub length_fits : LengthFits wide pipe t.wanted
-  pub few_bytes : t.wanted ≤ MAX_LENGTH
+  pub few_bytes : t.wanted ≤ MAX_TRANSFER
   pub data_there : length t.body ≡ data_count ToHost t.ep t.wanted
 
 -- isochronous packets lie over a buffer that goes to the device

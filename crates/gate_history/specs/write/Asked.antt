@@ -1,7 +1,7 @@
 -- What the answer of a submit has of the submit, as the code has it.
 use Rattle.std.specs.Prelude.{◌≡◌, ℕ, ◌≤◌, Bool, IsTrue, List, length, None, []}
 use Rattle.usb_base.specs.declared.transfer.Outcome.{Outcome}
-use Rattle.usbip_urb.specs.declared.code.TheConstants.{MAX_LENGTH}
+use Rattle.usb_base.specs.declared.limits.TheConstants.{MAX_TRANSFER}
 use Rattle.usbip_urb.specs.declared.packet.IsoDesc.{IsoDesc}
 use Rattle.usbip_urb.specs.Sizes.{body_size, count_of}
 use Rattle.usbip_urb.specs.Ranges.{is_packet_count}
@@ -26,5 +26,5 @@ pub record HasItsPackets (packets : ℕ) (descs : List IsoDesc) : Type 0 where
 
 -- as many bytes came as were moved, where the transfer is one from the device
 pub record IsMoved (is_in : Bool) (o : Outcome) : Type 0 where
-  pub few_bytes : o.done ≤ MAX_LENGTH
+  pub few_bytes : o.done ≤ MAX_TRANSFER
   pub body : length o.body ≡ body_size is_in o.done

@@ -9,7 +9,7 @@ use Rattle.gate_history.specs.client.Verdict.{pipe_kind, is_wire}
 use Rattle.gate_history.specs.step.Marks.{Submission}
 use Rattle.gate_history.specs.client.Submits.{Pending}
 use Rattle.usb_base.specs.Endpoint.{is_in_endpoint}
-use Rattle.usbip_urb.specs.declared.code.TheConstants.{MAX_LENGTH}
+use Rattle.usb_base.specs.declared.limits.TheConstants.{MAX_TRANSFER}
 use Rattle.usbip_urb.specs.declared.packet.UrbPacket.{UrbPacket}
 use Rattle.usbip_urb.specs.Spelling.{spelling}
 use Rattle.redir_wire.specs.declared.packet.Caps.{Caps}
@@ -82,7 +82,7 @@ IsRead is_in (live_kind.Stream ep interface) = Unit {0}
 
 pub record IsFine (caps : Caps) (l : Live) : Type 0 where
   pub packets : HasItsPackets l.packets l.descs
-  pub few_bytes : l.wanted ≤ MAX_LENGTH
+  pub few_bytes : l.wanted ≤ MAX_TRANSFER
   pub read : (l.wanted ≡ 0) ⊎ IsRead l.is_in l.kind
   pub id_fits : IdFits (wide_ids caps) l.id
   -- the isochronous packets of one that waits lie over its buffer

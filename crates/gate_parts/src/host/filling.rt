@@ -2,7 +2,7 @@
 
 ghost use Rattle.std.specs.Prelude.{◌≡◌, ◌++◌, ◌+◌, ◌≤◌, [], drop, IsTrue, length, IsSome, OnOk, OnErr, IfOk};
 ghost use Rattle.packet_stream.specs.Writes.{AppendsSome};
-ghost use Rattle.usbip_urb.specs.declared.code.TheConstants.{MAX_LENGTH};
+ghost use Rattle.usb_base.specs.declared.limits.TheConstants.{MAX_TRANSFER};
 ghost use Rattle.usbip_urb.specs.Buffers.{laid};
 ghost use Rattle.usbip_urb.specs.Spelling.{spelling};
 ghost use Rattle.stream_buffers.specs.Iso.{iso_outcome};
@@ -34,7 +34,7 @@ pub fn write_filling(
 ) -> Result<Option<usize>, Memory>
     requires from { from ≤ length up.old.held }
     requires packets { HasItsPackets live.now.packets live.now.descs }
-    requires few_bytes { live.now.wanted ≤ MAX_LENGTH }
+    requires few_bytes { live.now.wanted ≤ MAX_TRANSFER }
     requires lies { IsTrue (laid live.now.descs live.now.wanted) }
     ensures same { up.new ≡ up.old }
     ensures taken { IfOk result (λ taken. HasTaken taken (drop from up.old.held) (row_cut up.old.row.max_packet live.now (drop from up.old.held))) }
@@ -87,7 +87,7 @@ fn push_pieces(
     out: &mut Bytes,
 ) -> Result<(), Memory>
     requires fills { FillsIso live.now.descs behind.now filling }
-    requires fits { filling.done ≤ MAX_LENGTH }
+    requires fits { filling.done ≤ MAX_TRANSFER }
     ensures { AppendsSome result out.old out.new (spelling (with_given (row_request live.now) (Isochronous (iso_outcome live.now.descs behind.now)))) }
 {
     push_front(alloc, live, 0, filling.done as u32, filling.errors, out)?;

@@ -1,7 +1,8 @@
 //! The answers of submits and unlinks ("usbip_protocol", USBIP_RET_SUBMIT and USBIP_RET_UNLINK).
 
 ghost use Rattle.stream_buffers.specs.Fillings.{is_failed};
-ghost use Rattle.usbip_urb.specs.declared.code.TheConstants.{MAX_LENGTH, MAX_PACKETS};
+ghost use Rattle.usb_base.specs.declared.limits.TheConstants.{MAX_TRANSFER};
+ghost use Rattle.usbip_urb.specs.declared.code.TheConstants.{MAX_PACKETS};
 ghost use Rattle.usbip_urb.specs.Buffers.{laid};
 ghost use Rattle.std.specs.Prelude.{◌≡◌, false, IsTrue, ◌++◌, ◌≤◌, ◌<◌, filter, length, not, OnOk, OnErr, IfOk};
 ghost use Rattle.usbip_urb.specs.Spelling.{spelling};
@@ -38,7 +39,7 @@ pub fn write_all_sent(alloc: Global, asked: &AnsweredSubmit, out: &mut Bytes) ->
     requires packets { HasItsPackets asked.now.packets asked.now.descs.now }
     requires to_device { asked.now.is_in ≡ false }
     requires lies { IsTrue (laid asked.now.descs.now asked.now.wanted) }
-    requires few_bytes { asked.now.wanted ≤ MAX_LENGTH }
+    requires few_bytes { asked.now.wanted ≤ MAX_TRANSFER }
     ensures ok { OnOk result (out.new ≡ out.old ++ spelling (all_sent (asked_view asked.now))) }
     ensures err { OnErr result (out.new ≡ out.old) }
 {

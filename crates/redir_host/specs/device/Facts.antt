@@ -3,6 +3,7 @@ use Rattle.std.specs.Prelude.{ℕ, zero, suc, if◌then◌else◌, List, [], ◌
 use Rattle.usb_base.specs.Endpoint.{byte_of_kind, no_endpoint}
 use Rattle.usb_base.specs.declared.endpoint.EpRow.{EpRow}
 use Rattle.usb_base.specs.declared.endpoint.EpTable.{EpTable}
+use Rattle.usb_base.specs.declared.endpoint.TheConstants.{ENDPOINTS}
 use Rattle.redir_wire.specs.declared.packet.Caps.{Caps}
 use Rattle.redir_wire.specs.declared.packet.Connect.{Connect}
 use Rattle.redir_wire.specs.declared.packet.EpInfo.{EpInfo}
@@ -21,10 +22,10 @@ column f t (suc n) = column f t n ++ f (get_or t.rows n no_endpoint) ∷ []
 -- `usb_redir_cap_ep_info_max_packet_size`: the largest packets, 0 where they aren't sent
 abbrev pub ep_info_of : Caps → EpTable → EpInfo
 ep_info_of caps t = record {
-  kinds = column (λ r. byte_of_kind r.kind) t 32;
-  interval = column (λ r. r.interval) t 32;
-  interface = column (λ r. r.interface) t 32;
-  max_packet = column (λ r. if has caps MAX_PACKET_SIZE then r.max_packet else 0) t 32;
+  kinds = column (λ r. byte_of_kind r.kind) t ENDPOINTS;
+  interval = column (λ r. r.interval) t ENDPOINTS;
+  interface = column (λ r. r.interface) t ENDPOINTS;
+  max_packet = column (λ r. if has caps MAX_PACKET_SIZE then r.max_packet else 0) t ENDPOINTS;
 }
 
 -- `usb_redir_cap_connect_device_version`: the device's release, 0 where it isn't sent
