@@ -2,4 +2,5 @@
 
 pub mod change;
 pub mod facts;
+pub mod offer;
 pub mod perform;

@@ -84,12 +84,17 @@ impl<G: Gadget> Host<G> {
     {
         let request = self.queue.remove_first(ep);
         let id = request.id;
-        self.reset_for(alloc, &request, out)?;
+        self.perform_after_reset(alloc, &request, out)?;
         Ok(Performed::Done { id })
     }
 
     /// Resets the device for a request of endpoint 0, and performs it. A get_configuration asks no more than the reset.
-    fn reset_for(&mut self, alloc: Global, request: &Request, out: &mut Bytes) -> Result<(), Memory>
+    fn perform_after_reset(
+        &mut self,
+        alloc: Global,
+        request: &Request,
+        out: &mut Bytes,
+    ) -> Result<(), Memory>
         requires sound { IsSound self.old }
         requires request { IsRequest self.old.guest request.now }
         requires marked { request.now.reset ≡ true }

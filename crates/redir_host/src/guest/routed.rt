@@ -32,7 +32,8 @@ pub fn get_configuration(alloc: Global) -> Transfer
 pub fn set_alt(alloc: Global, interface: u8, alt: u8) -> Transfer
     ensures { result ≡ routed (route.SetAlt interface alt) }
 {
-    let (value, index) = (u16::from(alt), u16::from(interface));
+    let value = u16::from(alt);
+    let index = u16::from(interface);
     transfer_of(alloc, TO_INTERFACE, SET_INTERFACE, value, index, 0)
 }
 

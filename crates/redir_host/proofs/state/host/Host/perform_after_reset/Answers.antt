@@ -7,7 +7,7 @@ use Rattle.redir_host.specs.guest.Asking.{routed}
 use Rattle.redir_host.specs.device.Performing.{does, resets}
 use Rattle.redir_host.specs.device.Resets.{PerformsNow}
 use Rattle.redir_host.proofs.lemmas.step.Makes.{changed_sound, changed_request, reset_alone, reset_behind, reset_outcome, reset_request, reset_sound}
-use Rattle.redir_host.proofs.state.host.Host.reset_for.Goals as goal
+use Rattle.redir_host.proofs.state.host.Host.perform_after_reset.Goals as goal
 
 pub finish-requires-clause-outcome : goal.finish-requires-clause-outcome
 finish-requires-clause-outcome g c =
