@@ -1,12 +1,11 @@
 -- Streams are of IN endpoints, stand at their places, and are of one type everywhere.
 use Rattle.std.specs.Prelude.{◌≡◌, ℕ, ◌≤◌, ◌<◌, true, List, length, Option, Some, None, get_or, ◌⊎◌}
-use Rattle.usb_base.specs.Endpoint.{endpoint_index}
+use Rattle.usb_base.specs.Endpoint.{endpoint_index, is_iso}
 use Rattle.usb_base.specs.declared.endpoint.EpKind.TheVariants as kind
 use Rattle.usb_base.specs.declared.endpoint.TheConstants.{ENDPOINTS}
 use Rattle.model_device.specs.Gadget.{IsNamed}
 use Rattle.redir_host.specs.declared.state.running.StreamKind.{StreamKind}
 use Rattle.gate_history.specs.state.Ups.{Up, stream_of}
-use Rattle.gate_history.specs.client.Verdict.{is_iso}
 use Rattle.direct_proof.specs.Loads.{IsComing}
 use Rattle.direct_proof.specs.Tagged.{Answered, Packed, Stated, Tagged, is_kind}
 

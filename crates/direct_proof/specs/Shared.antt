@@ -4,7 +4,7 @@ use Rattle.usb_base.specs.declared.transfer.StreamPacket.{StreamPacket}
 use Rattle.redir_data.specs.declared.packet.RedirPacket.{RedirPacket}
 use Rattle.redir_host.specs.guest.Line.{Waiting as InLine, Reset, packet_line}
 use Rattle.gate_history.specs.state.Ups.{Up, stream_of}
-use Rattle.gate_history.specs.client.Verdict.{is_iso}
+use Rattle.usb_base.specs.Endpoint.{is_iso}
 use Rattle.direct_run.specs.Moves.{World}
 use Rattle.direct_device.specs.Direct.{Direct}
 use Rattle.direct_proof.specs.Requests.{Debt, Entry, at_device, at_host, live_of, ran_of}

@@ -12,11 +12,11 @@ use Rattle.redir_wire.specs.Capability.{no_caps}
 use Rattle.redir_data.specs.declared.packet.RedirPacket.{RedirPacket}
 use Rattle.redir_data.specs.declared.packet.RedirPacket.TheVariants.{Plain}
 use Rattle.redir_data.specs.declared.state.RedirState.{RedirState}
-use Rattle.redir_data.specs.Streams.{after, stream_format}
+use Rattle.redir_data.specs.Streams.{after, stream_format, stream_start}
 use Rattle.usbip_urb.specs.declared.client.ClientPacket.{ClientPacket}
 use Rattle.model_device.specs.Meaning.{Meaning}
 use Rattle.redir_host.specs.step.Acts.{Act, Piece, guest_bytes}
-use Rattle.redir_host.specs.guest.Guest.{guest_start, guest_split, asked}
+use Rattle.redir_host.specs.guest.Guest.{guest_split, asked}
 use Rattle.redir_host.specs.step.History.{brought as act_brought, onto as acts_onto, history as host_history}
 use Rattle.redir_host.specs.step.Items.{Item as HostItem}
 use Rattle.redir_host.specs.write.Output.{host_hello, act_bytes}
@@ -27,7 +27,6 @@ use Rattle.gate_history.specs.step.Events.{Event, ClientPiece, ClientEnd, HostPi
 use Rattle.gate_history.specs.step.History.{client_split, host_split, client_items, brought, onto, arrivals, wrong_items}
 use Rattle.gate_history.specs.declared.item.Item.{Item}
 use Rattle.gate_history.specs.declared.item.Item.TheVariants.{Asked, ClientWrong}
-use Rattle.gate_history.specs.step.Streams.{host_start}
 use Rattle.gate_history.proofs.lemmas.step.Piece.{host-added}
 use Rattle.direct_run.specs.World.{Course, first_id, nothing_yet, happened, acted, sent_to_host, sent_to_gate, wire_to_host, wire_to_gate}
 use Rattle.direct_run.specs.Trace.{given_of}
@@ -54,11 +53,11 @@ bares-three xs ys zs = map-append (λ (i : Found). bare i.1) xs (ys ++ zs) ∙ a
 abbrev pub Split : Type 0
 Split = Splitting RedirState (Header × RedirPacket) Reason
 
-pub nothing-asked : guest_split [] ≡ record { packets = []; wrong = None; position = guest_start; rest = [] }
-nothing-asked = reads-all (stream_format ToHost) after (sound ToHost) (empty ToHost) [] guest_start tt
+pub nothing-asked : guest_split [] ≡ record { packets = []; wrong = None; position = stream_start; rest = [] }
+nothing-asked = reads-all (stream_format ToHost) after (sound ToHost) (empty ToHost) [] stream_start tt
 
-pub nothing-told : host_split [] ≡ record { packets = []; wrong = None; position = host_start; rest = [] }
-nothing-told = reads-all (stream_format ToGuest) after (sound ToGuest) (empty ToGuest) [] host_start tt
+pub nothing-told : host_split [] ≡ record { packets = []; wrong = None; position = stream_start; rest = [] }
+nothing-told = reads-all (stream_format ToGuest) after (sound ToGuest) (empty ToGuest) [] stream_start tt
 
 pub flows-first : {S : Type 0} (m : Meaning S) (s : S) → Flows m s nothing_yet
 flows-first m s = record {
@@ -138,8 +137,8 @@ gets-to-gate m s c n f h had all =
       fresh = cut.fresh;
       later = bares cut.later;
       packets-are = cut.packets-are;
-      come = comes ToGuest (Plain host_hello) host_start (sent_by_host m s c) h (read_by_gate c) cut.fresh cut.later cut.all-are;
-      all-are = sym (wire-bares ToGuest (Plain host_hello) host_start (sent_by_host m s c)) ∙ ap bares cut.all-are ∙ bares-three (read_by_gate c) cut.fresh cut.later;
+      come = comes ToGuest (Plain host_hello) stream_start (sent_by_host m s c) h (read_by_gate c) cut.fresh cut.later cut.all-are;
+      all-are = sym (wire-bares ToGuest (Plain host_hello) stream_start (sent_by_host m s c)) ∙ ap bares cut.all-are ∙ bares-three (read_by_gate c) cut.fresh cut.later;
       brought-is = host-added (host_bytes c.events) (take n (wire_to_gate m s c)) (read_by_gate c) cut.fresh None refl cut.old-right cut.packets-are cut.right ∙ append-nil (map told_item cut.fresh);
       right = cut.right;
     }
@@ -168,8 +167,8 @@ gets-to-host m s c n f h had all =
       fresh = cut.fresh;
       later = bares cut.later;
       packets-are = cut.packets-are;
-      come = comes ToHost gateway_hello guest_start (sent_by_gate c) h (read_by_host c) cut.fresh cut.later cut.all-are;
-      all-are = sym (wire-bares ToHost gateway_hello guest_start (sent_by_gate c)) ∙ ap bares cut.all-are ∙ bares-three (read_by_host c) cut.fresh cut.later;
+      come = comes ToHost gateway_hello stream_start (sent_by_gate c) h (read_by_host c) cut.fresh cut.later cut.all-are;
+      all-are = sym (wire-bares ToHost gateway_hello stream_start (sent_by_gate c)) ∙ ap bares cut.all-are ∙ bares-three (read_by_host c) cut.fresh cut.later;
       brought-is = guest-added (guest_bytes c.acts) (take n (wire_to_host c)) (read_by_host c) cut.fresh refl cut.old-right cut.packets-are cut.right;
       right = cut.right;
     }

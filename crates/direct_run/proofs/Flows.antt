@@ -9,26 +9,25 @@ use Rattle.redir_wire.specs.declared.packet.Caps.{Caps}
 use Rattle.redir_wire.specs.declared.packet.Way.TheVariants.{ToGuest, ToHost}
 use Rattle.redir_wire.specs.Capability.{no_caps}
 use Rattle.redir_data.specs.declared.packet.RedirPacket.TheVariants.{Plain}
-use Rattle.redir_data.specs.Streams.{start, after, stream_format}
+use Rattle.redir_data.specs.Streams.{start, after, stream_format, stream_start}
 use Rattle.model_device.specs.Meaning.{Meaning}
 use Rattle.redir_host.specs.step.Acts.{Act, Piece, guest_bytes}
-use Rattle.redir_host.specs.guest.Guest.{guest_start, guest_split, asked, wrongs, added}
+use Rattle.redir_host.specs.guest.Guest.{guest_split, asked, wrongs, added}
 use Rattle.redir_host.specs.step.History.{history as host_history}
-use Rattle.redir_host.specs.step.Machine.{all_given as host_all_given, told_bytes, bytes_of}
+use Rattle.redir_host.specs.step.Machine.{all_given as host_all_given, bytes_of}
 use Rattle.redir_host.specs.step.Items.{Item as HostItem}
 use Rattle.redir_host.specs.write.Output.{host_hello, hello_bytes}
 use Rattle.gate_history.proofs.lemmas.Lists.{Each}
 use Rattle.redir_host.proofs.lemmas.step.Acts.{act-gives}
-use Rattle.gate_history.specs.write.Bytes.{gateway_hello, host_packet_bytes, host_bytes_of}
+use Rattle.gate_history.specs.write.Bytes.{gateway_hello, host_bytes_of}
 use Rattle.gate_history.specs.step.Events.{Event, ClientPiece, ClientEnd, HostPiece, HostEnd, host_bytes}
 use Rattle.gate_history.specs.step.History.{host_split, arrivals, history}
-use Rattle.gate_history.specs.step.Streams.{host_start}
 use Rattle.gate_history.specs.state.State.{State, state_of}
 use Rattle.gate_history.specs.write.Output.{to_host}
 use Rattle.gate_history.specs.write.All.{all_of}
 use Rattle.gate_history.proofs.lemmas.step.Runs.{state-run, all-run}
 use Rattle.direct_run.specs.World.{Course, first_id, happened, acted, sent_to_host, sent_to_gate, wire_to_host, wire_to_gate}
-use Rattle.redir_data.specs.Sent.{CanBeRead}
+use Rattle.redir_data.specs.Sent.{CanBeRead, sent_packet_bytes}
 use Rattle.direct_run.specs.Packets.{both_caps, Found, sent_by_gate, sent_by_host, read_by_host, read_by_gate}
 use Rattle.direct_run.specs.Known.{IsKnown}
 use Rattle.gate_history.specs.write.Readable.{piece_bytes}
@@ -51,24 +50,24 @@ pub record Flows {S : Type 0} (m : Meaning S) (s : S) (c : Course) : Type 0 wher
 
 -- ---- the bytes that were sent are the spellings of the packets
 
-listened : {S : Type 0} (m : Meaning S) (s : S) (old : List Found) (xs : List HostItem) → Listens m s old xs → host_all_given bytes_of m s xs ≡ flat_map (told_bytes both_caps) (host_all_given (λ v. v.sent) m s xs)
-listened m s [] xs k = k.no_bytes ∙ ap (flat_map (told_bytes both_caps)) (sym k.none)
+listened : {S : Type 0} (m : Meaning S) (s : S) (old : List Found) (xs : List HostItem) → Listens m s old xs → host_all_given bytes_of m s xs ≡ flat_map (sent_packet_bytes both_caps) (host_all_given (λ v. v.sent) m s xs)
+listened m s [] xs k = k.no_bytes ∙ ap (flat_map (sent_packet_bytes both_caps)) (sym k.none)
 listened m s (o ∷ os) xs k = k.bytes
 
 pub to-gate-are : {S : Type 0} (m : Meaning S) (s : S) (c : Course) → Flows m s c → Each (CanBeRead ToGuest both_caps) (sent_by_host m s c) →
     sent_to_gate m s c ≡ all_bytes (stream_format ToGuest) after start (on_wire (Plain host_hello) (sent_by_host m s c))
 to-gate-are m s c f h = ap (λ (b : List ℕ). hello_bytes ++ b) (listened m s (read_by_host c) (host_history c.acts) f.listens) ∙ sym (to-gate-bytes (sent_by_host m s c) h)
 
-met-bytes : (old : List Found) (c : Course) → Meets first_id old (arrivals c.events) → all_of host_bytes_of first_id (history first_id c.events) ≡ flat_map (host_packet_bytes both_caps) (sent_by_gate c)
+met-bytes : (old : List Found) (c : Course) → Meets first_id old (arrivals c.events) → all_of host_bytes_of first_id (history first_id c.events) ≡ flat_map (sent_packet_bytes both_caps) (sent_by_gate c)
 met-bytes [] c k =
     all-run host_bytes_of first_id (arrivals c.events) ∙ k.no_bytes
-    ∙ ap (flat_map (host_packet_bytes both_caps)) (sym (all-run to_host first_id (arrivals c.events) ∙ k.none))
+    ∙ ap (flat_map (sent_packet_bytes both_caps)) (sym (all-run to_host first_id (arrivals c.events) ∙ k.none))
 met-bytes (o ∷ os) c k =
-    all-run host_bytes_of first_id (arrivals c.events) ∙ k.bytes ∙ ap (flat_map (host_packet_bytes both_caps)) (sym (all-run to_host first_id (arrivals c.events)))
+    all-run host_bytes_of first_id (arrivals c.events) ∙ k.bytes ∙ ap (flat_map (sent_packet_bytes both_caps)) (sym (all-run to_host first_id (arrivals c.events)))
 
 pub to-host-are : {S : Type 0} (m : Meaning S) (s : S) (c : Course) → Flows m s c → Each (CanBeRead ToHost both_caps) (sent_by_gate c) →
     sent_to_host c ≡ all_bytes (stream_format ToHost) after start (on_wire gateway_hello (sent_by_gate c))
-to-host-are m s c f h = ap (λ (b : List ℕ). host_packet_bytes no_caps (0, gateway_hello) ++ b) (met-bytes (read_by_gate c) c f.meets) ∙ sym (to-host-bytes (sent_by_gate c) h)
+to-host-are m s c f h = ap (λ (b : List ℕ). sent_packet_bytes no_caps (0, gateway_hello) ++ b) (met-bytes (read_by_gate c) c f.meets) ∙ sym (to-host-bytes (sent_by_gate c) h)
 
 -- what the gateway sent can be read with the capabilities of both
 pub later-sent : (old : List Found) (c : Course) → Meets first_id old (arrivals c.events) → Each (CanBeRead ToHost (state_of first_id (history first_id c.events)).agreed) (sent_by_gate c) → Each (CanBeRead ToHost both_caps) (sent_by_gate c)
@@ -85,15 +84,15 @@ pub cut-fed : (n : ℕ) (had wire sent : List ℕ) → had ++ wire ≡ sent → 
 cut-fed n had wire sent e = append_assoc had (take n wire) (drop n wire) ∙ ap (λ (b : List ℕ). had ++ b) (take-append-drop n wire) ∙ e
 
 pub cut-asked : {S : Type 0} (m : Meaning S) (s : S) (c : Course) (n : ℕ) → Flows m s c → Each (CanBeRead ToHost both_caps) (sent_by_gate c) → AreBytes (guest_bytes c.acts) → AreBytes (guest_bytes c.acts ++ take n (wire_to_host c)) →
-    IsCut (guest_split (guest_bytes c.acts)) (guest_split (guest_bytes c.acts ++ take n (wire_to_host c))) (placed (stream_format ToHost) after guest_start (on_wire gateway_hello (sent_by_gate c)))
+    IsCut (guest_split (guest_bytes c.acts)) (guest_split (guest_bytes c.acts ++ take n (wire_to_host c))) (placed (stream_format ToHost) after stream_start (on_wire gateway_hello (sent_by_gate c)))
 cut-asked m s c n f h had all =
-    cut-at (stream_format ToHost) after (sound ToHost) (empty ToHost) (on_wire gateway_hello (sent_by_gate c)) guest_start (wire-fits ToHost gateway_hello (sent_by_gate c) gate-hello h)
+    cut-at (stream_format ToHost) after (sound ToHost) (empty ToHost) (on_wire gateway_hello (sent_by_gate c)) stream_start (wire-fits ToHost gateway_hello (sent_by_gate c) gate-hello h)
     (guest_bytes c.acts) (take n (wire_to_host c)) (drop n (wire_to_host c)) had all (cut-fed n (guest_bytes c.acts) (wire_to_host c) (sent_to_host c) f.fed ∙ to-host-are m s c f h)
 
 pub cut-told : {S : Type 0} (m : Meaning S) (s : S) (c : Course) (n : ℕ) → Flows m s c → Each (CanBeRead ToGuest both_caps) (sent_by_host m s c) → AreBytes (host_bytes c.events) → AreBytes (host_bytes c.events ++ take n (wire_to_gate m s c)) →
-    IsCut (host_split (host_bytes c.events)) (host_split (host_bytes c.events ++ take n (wire_to_gate m s c))) (placed (stream_format ToGuest) after host_start (on_wire (Plain host_hello) (sent_by_host m s c)))
+    IsCut (host_split (host_bytes c.events)) (host_split (host_bytes c.events ++ take n (wire_to_gate m s c))) (placed (stream_format ToGuest) after stream_start (on_wire (Plain host_hello) (sent_by_host m s c)))
 cut-told m s c n f h had all =
-    cut-at (stream_format ToGuest) after (sound ToGuest) (empty ToGuest) (on_wire (Plain host_hello) (sent_by_host m s c)) host_start (wire-fits ToGuest (Plain host_hello) (sent_by_host m s c) host-hello h)
+    cut-at (stream_format ToGuest) after (sound ToGuest) (empty ToGuest) (on_wire (Plain host_hello) (sent_by_host m s c)) stream_start (wire-fits ToGuest (Plain host_hello) (sent_by_host m s c) host-hello h)
     (host_bytes c.events) (take n (wire_to_gate m s c)) (drop n (wire_to_gate m s c)) had all (cut-fed n (host_bytes c.events) (wire_to_gate m s c) (sent_to_gate m s c) f.gate_fed ∙ to-gate-are m s c f h)
 
 -- a piece brings the packets that it makes whole

@@ -22,11 +22,10 @@ use Rattle.redir_data.specs.declared.packet.RedirPacket.TheVariants.{Plain, Carr
 use Rattle.redir_data.specs.declared.state.RedirState.{RedirState}
 use Rattle.redir_data.specs.Streams.{start, advanced, after, stream_format}
 use Rattle.redir_data.specs.sound.Joined.{redir_sound}
-use Rattle.redir_host.specs.step.Machine.{told_bytes}
 use Rattle.redir_host.specs.write.Output.{host_hello, hello_bytes}
 use Rattle.gate_history.proofs.lemmas.Lists.{Each}
-use Rattle.gate_history.specs.write.Bytes.{host_packet_bytes, gateway_hello}
-use Rattle.redir_data.specs.Sent.{sent_header, CanBeRead}
+use Rattle.gate_history.specs.write.Bytes.{gateway_hello}
+use Rattle.redir_data.specs.Sent.{sent_header, CanBeRead, sent_packet_bytes}
 use Rattle.direct_run.specs.Packets.{both_caps, bare}
 use Rattle.packet_stream.proofs.Spelled.{all_bytes, AllFit}
 
@@ -89,11 +88,11 @@ unmoved s p h = refl
 
 -- ---- spelled
 
-pub spelled : (caps : Caps) (way : Way) (p : ℕ × RedirPacket) → CanBeRead way caps p → (stream_format way (met caps)).spelling (headed caps p) ≡ told_bytes caps p
+pub spelled : (caps : Caps) (way : Way) (p : ℕ × RedirPacket) → CanBeRead way caps p → (stream_format way (met caps)).spelling (headed caps p) ≡ sent_packet_bytes caps p
 spelled caps way (id, Plain p) fits = ap (λ (b : Bool). head_bytes (is_wide b caps) (wire.header_of id caps p) ++ wire.fields caps p) (sym (no-hello caps way (id, Plain p) fits))
 spelled caps way (id, Carrying d) fits = refl
 
-pub same-bytes : (caps : Caps) (p : ℕ × RedirPacket) → host_packet_bytes caps p ≡ told_bytes caps p
+pub same-bytes : (caps : Caps) (p : ℕ × RedirPacket) → sent_packet_bytes caps p ≡ sent_packet_bytes caps p
 same-bytes caps (id, Plain p) = refl
 same-bytes caps (id, Carrying d) = refl
 
@@ -102,7 +101,7 @@ later-fit caps way [] h = tt
 later-fit caps way (p ∷ ps) h =
     (h.0, subst (λ (s : RedirState). AllFit (stream_format way) after s (map (headed caps) ps)) (sym (unmoved (met caps) p.1 (no-hello caps way p h.0))) (later-fit caps way ps h.1))
 
-pub later-bytes : (caps : Caps) (way : Way) (ps : List (ℕ × RedirPacket)) → Each (CanBeRead way caps) ps → all_bytes (stream_format way) after (met caps) (map (headed caps) ps) ≡ flat_map (told_bytes caps) ps
+pub later-bytes : (caps : Caps) (way : Way) (ps : List (ℕ × RedirPacket)) → Each (CanBeRead way caps) ps → all_bytes (stream_format way) after (met caps) (map (headed caps) ps) ≡ flat_map (sent_packet_bytes caps) ps
 later-bytes caps way [] h = refl
 later-bytes caps way (p ∷ ps) h = λ i.
     spelled caps way p h.0 i
@@ -134,13 +133,13 @@ pub gate-hello : Greets ToHost gateway_hello
 gate-hello = (gate-greets, refl)
 
 pub to-gate-bytes : (ps : List (ℕ × RedirPacket)) → Each (CanBeRead ToGuest both_caps) ps →
-    all_bytes (stream_format ToGuest) after start (on_wire (Plain host_hello) ps) ≡ hello_bytes ++ flat_map (told_bytes both_caps) ps
+    all_bytes (stream_format ToGuest) after start (on_wire (Plain host_hello) ps) ≡ hello_bytes ++ flat_map (sent_packet_bytes both_caps) ps
 to-gate-bytes ps h = ap (λ (b : List ℕ). hello_bytes ++ b) (later-bytes both_caps ToGuest ps h)
 
 pub to-host-bytes : (ps : List (ℕ × RedirPacket)) → Each (CanBeRead ToHost both_caps) ps →
-    all_bytes (stream_format ToHost) after start (on_wire gateway_hello ps) ≡ host_packet_bytes no_caps (0, gateway_hello) ++ flat_map (host_packet_bytes both_caps) ps
-to-host-bytes ps h = ap (λ (b : List ℕ). host_packet_bytes no_caps (0, gateway_hello) ++ b) (later-bytes both_caps ToHost ps h ∙ same ps)
+    all_bytes (stream_format ToHost) after start (on_wire gateway_hello ps) ≡ sent_packet_bytes no_caps (0, gateway_hello) ++ flat_map (sent_packet_bytes both_caps) ps
+to-host-bytes ps h = ap (λ (b : List ℕ). sent_packet_bytes no_caps (0, gateway_hello) ++ b) (later-bytes both_caps ToHost ps h ∙ same ps)
   where
-    same : (qs : List (ℕ × RedirPacket)) → flat_map (told_bytes both_caps) qs ≡ flat_map (host_packet_bytes both_caps) qs
+    same : (qs : List (ℕ × RedirPacket)) → flat_map (sent_packet_bytes both_caps) qs ≡ flat_map (sent_packet_bytes both_caps) qs
     same [] = refl
     same (q ∷ qs) = λ i. sym (same-bytes both_caps q) i ++ same qs i

@@ -19,7 +19,7 @@ use Rattle.redir_host.specs.declared.state.running.StreamKind.{StreamKind}
 use Rattle.redir_host.specs.declared.state.running.StreamKind.TheVariants.{Iso, Interrupt}
 use Rattle.redir_host.specs.guest.Asking.{asking_of}
 use Rattle.redir_host.specs.step.Items.{Item, Asked, Wrong, Performs, Offers, Unplugs}
-use Rattle.redir_host.specs.step.Machine.{move, run, told_bytes, bytes_of, notes_of, all_given, given_by}
+use Rattle.redir_host.specs.step.Machine.{move, run, bytes_of, notes_of, all_given, given_by}
 use Rattle.redir_host.specs.step.Makes.{IsTaken}
 use Rattle.redir_host.specs.step.Moves.{Move, quiet}
 use Rattle.redir_host.specs.device.Offering.{offer_move, offered_on}
@@ -32,7 +32,7 @@ use Rattle.redir_host.proofs.lemmas.state.Sound.{Keeps, keeps-perform, keeps-off
 use Rattle.redir_host.proofs.lemmas.guest.Sound.{keeps-packet}
 use Rattle.redir_host.proofs.lemmas.device.Silent.{perform-silent, offer-silent, unplug-silent}
 use Rattle.gate_history.specs.write.Bytes.{gateway_hello}
-use Rattle.redir_data.specs.Sent.{sent_header, CanBeRead}
+use Rattle.redir_data.specs.Sent.{sent_header, CanBeRead, sent_packet_bytes}
 use Rattle.direct_run.specs.Packets.{both_caps}
 use Rattle.direct_run.specs.Follows.{is_refusal}
 use Rattle.direct_run.proofs.Headed.{met, no-hello, unmoved}
@@ -114,7 +114,7 @@ pub record IsSilent {S : Type 0} (m : Meaning S) (s : S) (xs : List Item) : Type
 
 pub record HasHeard {S : Type 0} (m : Meaning S) (s : S) (xs : List Item) : Type 0 where
   pub hears : Hears (run m s xs)
-  pub bytes : all_given bytes_of m s xs ≡ flat_map (told_bytes both_caps) (all_given (λ v. v.sent) m s xs)
+  pub bytes : all_given bytes_of m s xs ≡ flat_map (sent_packet_bytes both_caps) (all_given (λ v. v.sent) m s xs)
 
 pub silent-first : {S : Type 0} (m : Meaning S) (s : S) → IsSilent m s []
 silent-first m s = record { deaf = record { guest = refl; queue = refl; running = refl }; none = refl; no_bytes = refl }
@@ -123,14 +123,14 @@ pub silent-own : {S : Type 0} (m : Meaning S) (s : S) (xs : List Item) (x : Item
 silent-own m s xs x own k =
     let v = move m (run m s xs) x in
     let q = own-quiet m (run m s xs) x own k.deaf in
-    record { deaf = q.deaf; none = (λ i. k.none i ++ q.none i); no_bytes = (λ i. k.no_bytes i ++ flat_map (told_bytes v.host.guest.caps) (q.none i)) }
+    record { deaf = q.deaf; none = (λ i. k.none i ++ q.none i); no_bytes = (λ i. k.no_bytes i ++ flat_map (sent_packet_bytes v.host.guest.caps) (q.none i)) }
 
-heard-by : {S : Type 0} (m : Meaning S) (s : S) (xs : List Item) (x : Item) → Hears (move m (run m s xs) x).host → all_given bytes_of m s xs ≡ flat_map (told_bytes both_caps) (all_given (λ v. v.sent) m s xs) → HasHeard m s (x ∷ xs)
+heard-by : {S : Type 0} (m : Meaning S) (s : S) (xs : List Item) (x : Item) → Hears (move m (run m s xs) x).host → all_given bytes_of m s xs ≡ flat_map (sent_packet_bytes both_caps) (all_given (λ v. v.sent) m s xs) → HasHeard m s (x ∷ xs)
 heard-by m s xs x k before =
     let v = move m (run m s xs) x in
     record {
       hears = k;
-      bytes = (λ i. before i ++ flat_map (told_bytes (k.guest i).caps) v.sent) ∙ sym (flat_map-append (told_bytes both_caps) (all_given (λ v. v.sent) m s xs) v.sent);
+      bytes = (λ i. before i ++ flat_map (sent_packet_bytes (k.guest i).caps) v.sent) ∙ sym (flat_map-append (sent_packet_bytes both_caps) (all_given (λ v. v.sent) m s xs) v.sent);
     }
 
 pub heard-own : {S : Type 0} (m : Meaning S) (s : S) (xs : List Item) (x : Item) → IsOwn x → HasHeard m s xs → HasHeard m s (x ∷ xs)
@@ -140,7 +140,7 @@ pub heard-packet : {S : Type 0} (m : Meaning S) (s : S) (xs : List Item) (p : �
 heard-packet m s xs p fits k = heard-by m s xs (Asked p.0 p.1) (packet-hears m (run m s xs) p fits k.hears) k.bytes
 
 pub heard-hello : {S : Type 0} (m : Meaning S) (s : S) (xs : List Item) → IsSilent m s xs → HasHeard m s (Asked 0 gateway_hello ∷ xs)
-heard-hello m s xs k = heard-by m s xs (Asked 0 gateway_hello) (hello-hears m (run m s xs) k.deaf) (k.no_bytes ∙ ap (flat_map (told_bytes both_caps)) (sym k.none))
+heard-hello m s xs k = heard-by m s xs (Asked 0 gateway_hello) (hello-hears m (run m s xs) k.deaf) (k.no_bytes ∙ ap (flat_map (sent_packet_bytes both_caps)) (sym k.none))
 
 -- ---- a packet that is read is never refused
 

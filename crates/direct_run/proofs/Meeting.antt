@@ -21,7 +21,8 @@ use Rattle.gate_history.specs.state.Ups.{Up}
 use Rattle.gate_history.specs.write.Packets.{asked_packets}
 use Rattle.gate_history.specs.state.State.{State}
 use Rattle.gate_history.specs.write.Output.{to_host}
-use Rattle.gate_history.specs.write.Bytes.{host_packet_bytes, host_bytes_of}
+use Rattle.redir_data.specs.Sent.{sent_packet_bytes}
+use Rattle.gate_history.specs.write.Bytes.{host_bytes_of}
 use Rattle.gate_history.specs.step.Meaning.{told_by, told_meaning, meaning, mark_of, mark_as}
 use Rattle.gate_history.specs.step.Past.{is_left_out, past}
 use Rattle.gate_history.specs.step.Machine.{after, run, given, all_given}
@@ -66,7 +67,7 @@ pub record IsUnmet (first : ℕ) (xs : List Item) : Type 0 where
 -- the hello was read
 pub record HasMet (first : ℕ) (xs : List Item) : Type 0 where
   pub agreed : (run first xs).agreed ≡ both_caps
-  pub bytes : all_given host_bytes_of first xs ≡ flat_map (host_packet_bytes both_caps) (all_given to_host first xs)
+  pub bytes : all_given host_bytes_of first xs ≡ flat_map (sent_packet_bytes both_caps) (all_given to_host first xs)
 
 pub unmet-first : (first : ℕ) → IsUnmet first []
 unmet-first first = record { fresh = record { quiet = record { live = refl; connect = refl; imported = refl; streams = refl }; host_there = refl; agreed = refl }; none = refl; no_bytes = refl }
@@ -109,20 +110,20 @@ unmet-more first xs x client u =
         agreed = client-agreed first xs x client ∙ u.fresh.agreed;
       };
       none = (λ i. u.none i ++ cond left [] (to_host st (same i))) ∙ elim left as (λ (b : Bool). cond b [] (to_host st m) ≡ []) [ true ↦ refl | false ↦ silent ];
-      no_bytes = (λ i. u.no_bytes i ++ cond left [] (flat_map (host_packet_bytes st.agreed) (to_host st (same i))))
-          ∙ elim left as (λ (b : Bool). cond b [] (flat_map (host_packet_bytes st.agreed) (to_host st m)) ≡ []) [ true ↦ refl | false ↦ ap (flat_map (host_packet_bytes st.agreed)) silent ];
+      no_bytes = (λ i. u.no_bytes i ++ cond left [] (flat_map (sent_packet_bytes st.agreed) (to_host st (same i))))
+          ∙ elim left as (λ (b : Bool). cond b [] (flat_map (sent_packet_bytes st.agreed) (to_host st m)) ≡ []) [ true ↦ refl | false ↦ ap (flat_map (sent_packet_bytes st.agreed)) silent ];
     }
 
 pub met-more : (first : ℕ) (xs : List Item) (x : Item) → (run first (x ∷ xs)).agreed ≡ (run first xs).agreed → HasMet first xs → HasMet first (x ∷ xs)
 met-more first xs x same h =
     let st = run first xs in
     let m = mark_of st x in
-    let one : given host_bytes_of st x ≡ flat_map (host_packet_bytes both_caps) (given to_host st x) =
-    elim (is_left_out st x) as (λ (b : Bool). cond b [] (flat_map (host_packet_bytes st.agreed) (to_host st m)) ≡ flat_map (host_packet_bytes both_caps) (cond b [] (to_host st m)))
-    [ true ↦ refl | false ↦ ap (λ (caps : Caps). flat_map (host_packet_bytes caps) (to_host st m)) h.agreed ] in
+    let one : given host_bytes_of st x ≡ flat_map (sent_packet_bytes both_caps) (given to_host st x) =
+    elim (is_left_out st x) as (λ (b : Bool). cond b [] (flat_map (sent_packet_bytes st.agreed) (to_host st m)) ≡ flat_map (sent_packet_bytes both_caps) (cond b [] (to_host st m)))
+    [ true ↦ refl | false ↦ ap (λ (caps : Caps). flat_map (sent_packet_bytes caps) (to_host st m)) h.agreed ] in
     record {
       agreed = same ∙ h.agreed;
-      bytes = (λ i. h.bytes i ++ one i) ∙ sym (flat_map-append (host_packet_bytes both_caps) (all_given to_host first xs) (given to_host st x));
+      bytes = (λ i. h.bytes i ++ one i) ∙ sym (flat_map-append (sent_packet_bytes both_caps) (all_given to_host first xs) (given to_host st x));
     }
 
 pub met-hello : (first : ℕ) (xs : List Item) (place : ℕ) (h : Header) → IsUnmet first xs → HasMet first (Told place h (Plain host_hello) ∷ xs)
@@ -132,10 +133,10 @@ met-hello first xs place h u =
     let m = mark_of st x in
     let silent : to_host st m ≡ [] = none-sent st (Agrees both_caps) u.fresh.quiet.live (ap (λ (ups : List (Option Up)). asked_packets ups (Agrees both_caps)) u.fresh.quiet.streams) refl in
     let none : all_given to_host first (x ∷ xs) ≡ [] = (λ i. u.none i ++ cond (u.fresh.host_there i) [] (silent i)) in
-    let no_bytes : all_given host_bytes_of first (x ∷ xs) ≡ [] = (λ i. u.no_bytes i ++ cond (u.fresh.host_there i) [] (flat_map (host_packet_bytes st.agreed) (silent i))) in
+    let no_bytes : all_given host_bytes_of first (x ∷ xs) ≡ [] = (λ i. u.no_bytes i ++ cond (u.fresh.host_there i) [] (flat_map (sent_packet_bytes st.agreed) (silent i))) in
     record {
       agreed = ap (λ (b : Bool). (cond b st (after st m)).agreed) u.fresh.host_there;
-      bytes = no_bytes ∙ ap (flat_map (host_packet_bytes both_caps)) (sym none);
+      bytes = no_bytes ∙ ap (flat_map (sent_packet_bytes both_caps)) (sym none);
     }
 
 -- ---- what the host tells agrees on nothing new

@@ -11,7 +11,8 @@ use Rattle.gate_history.specs.step.History.{history}
 use Rattle.gate_core.specs.state.Kept.{GateKept}
 use Rattle.gate_history.specs.write.Notes.{notes_of}
 use Rattle.gate_history.specs.write.All.{all_of}
-use Rattle.gate_history.specs.write.Bytes.{client_bytes_of, host_bytes_of, host_packet_bytes, gateway_hello, out_client, out_host}
+use Rattle.redir_data.specs.Sent.{sent_packet_bytes}
+use Rattle.gate_history.specs.write.Bytes.{client_bytes_of, host_bytes_of, gateway_hello, out_client, out_host}
 use Rattle.redir_wire.specs.Capability.{no_caps}
 use Rattle.gate_history.specs.Headline.{Gains}
 use Rattle.gate_core.specs.step.Stands.{Takes as GateTakes, Stands as GateStands}
@@ -44,8 +45,8 @@ gained {A = A} old new before after given g none is =
 
 pub host-gives : (events : List Event) (e : Event) → out_host first_id (history first_id (e ∷ events)) ≡ out_host first_id (history first_id events) ++ given_of host_bytes_of events e
 host-gives events e =
-    ap (λ (b : List ℕ). host_packet_bytes no_caps (0, gateway_hello) ++ b) (event-gives host_bytes_of first_id events e)
-    ∙ sym (append_assoc (host_packet_bytes no_caps (0, gateway_hello)) (all_of host_bytes_of first_id (history first_id events)) (given_of host_bytes_of events e))
+    ap (λ (b : List ℕ). sent_packet_bytes no_caps (0, gateway_hello) ++ b) (event-gives host_bytes_of first_id events e)
+    ∙ sym (append_assoc (sent_packet_bytes no_caps (0, gateway_hello)) (all_of host_bytes_of first_id (history first_id events)) (given_of host_bytes_of events e))
 
 pub event-done : {S : Type 0} (old : SystemKept S) (gate : GateKept) (events : List Event) (e : Event) (c0 c1 h0 h1 from wire : List ℕ) (i0 items trace : List Item) (r0 refusals : List Refusal) (submits : List Submitted) (notes : List Note) →
     GateTakes first_id gate events e c0 c1 h0 h1 notes → c0 ≡ [] → h0 ≡ [] → from ≡ [] → i0 ≡ [] → r0 ≡ [] →

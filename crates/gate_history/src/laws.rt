@@ -5,9 +5,9 @@ ghost use Rattle.std.specs.List.{list_any, flat_map, AllByRecursion};
 ghost use Rattle.std.specs.Option.{option_to_list};
 ghost use Rattle.usb_base.specs.Number.{AreBytes};
 ghost use Rattle.packet_stream.specs.Split.{SplitsWell};
-ghost use Rattle.redir_data.specs.Streams.{after, stream_format};
+ghost use Rattle.redir_data.specs.Streams.{after, stream_format, stream_start};
 ghost use Rattle.stream_buffers.specs.declared.up.TheConstants.{MAX_HELD};
-ghost use Rattle.gate_history.specs.step.Streams.{client_start, host_start};
+ghost use Rattle.gate_history.specs.step.Streams.{client_start};
 ghost use Rattle.gate_history.specs.step.Events.{Event as PastEvent};
 ghost use Rattle.gate_history.specs.declared.item.Item.{Item};
 ghost use Rattle.gate_history.specs.state.Ids.{draw, greatest, IsNext, AreFresh, Once};
@@ -40,7 +40,7 @@ use usbip_urb::ClientFormat;
 /// that way. Whoever reads the history may take `IsSplitting` for `split`.
 pub fn streams_split_one_way()
     ensures client { SplitsWell (λ s. client_packets) (λ s p. s) client_start }
-    ensures host { SplitsWell (stream_format ToGuest) after host_start }
+    ensures host { SplitsWell (stream_format ToGuest) after stream_start }
 {
     splits_well::<ClientFormat>();
     splits_well::<FromHost>();

@@ -2,7 +2,7 @@
 
 ghost use Rattle.std.specs.Prelude.{◌≡◌, ◌≤◌, None, []};
 ghost use Rattle.usbip_urb.specs.Ranges.{IsSubmit};
-ghost use Rattle.gate_history.specs.client.Requests.{address, request_of, is_in_setup};
+ghost use Rattle.gate_history.specs.client.Requests.{address, request_of};
 ghost use Rattle.gate_history.specs.client.Carried.{IsRequest};
 ghost use Rattle.gate_history.specs.write.Answers.{fails_if_short};
 ghost use Rattle.gate_history.specs.write.Asked.{asked_view};
@@ -53,7 +53,7 @@ impl Request {
         let is_in = head.direction != USBIP_DIR_OUT;
         let (ep, setup) = if head.ep == 0 {
             let setup = Setup::read(setup);
-            (address(is_in_setup(&setup), 0), Some(setup))
+            (address(setup.is_in(), 0), Some(setup))
         } else {
             (address(is_in, head.ep), None)
         };
@@ -81,13 +81,6 @@ fn address(is_in: bool, number: u32) -> EpAddr
     let number = number as u8;
     let byte = if is_in { number + 0x80 } else { number };
     EpAddr::new(byte).unwrap()
-}
-
-/// Whether a control transfer's data go from the device, which its setup says.
-pub fn is_in_setup(setup: &Setup) -> bool
-    ensures { result ≡ is_in_setup setup.now }
-{
-    setup.kind >= 0x80
 }
 
 /// In transfer_flags: a read that gives fewer bytes than were asked for has failed.

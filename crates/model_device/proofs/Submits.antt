@@ -4,7 +4,8 @@ use Rattle.std.specs.Prelude.{◌==◌, not}
 use Rattle.std.proofs.lemmas.Bool.{cases_eq, cond_both, ne_eqb, lt-ltb, le-ltb, eqb-true, eqb-false, false≢true}
 use Rattle.usb_base.specs.declared.setup.Setup.{Setup}
 use Rattle.control_route.specs.declared.route.Route.TheVariants.{Local, SetConfig, GetConfig, SetAlt, GetAlt, Reset, Plain, Bad}
-use Rattle.model_device.specs.Transfer.{IsTransfer, is_in_setup}
+use Rattle.usb_base.specs.Setup.{is_in_setup}
+use Rattle.model_device.specs.Transfer.{IsTransfer}
 use Rattle.model_device.specs.Submit.{AsksTransfer, IsAsked, control_transfer, data_transfer, normal_by}
 
 -- endpoint 0 by its setup's direction

@@ -1,9 +1,8 @@
 -- What holds of every function.
 use Rattle.std.specs.Prelude.{◌≡◌, ℕ, ◌≤◌, ◌||◌, not, Bool, true, false, List, length, None, IfSome}
 use Rattle.std.specs.List.{list_all}
-use Rattle.usb_base.specs.Endpoint.{is_in_endpoint}
+use Rattle.usb_base.specs.Endpoint.{is_in_endpoint, is_iso}
 use Rattle.usb_base.specs.declared.endpoint.EpKind.{EpKind}
-use Rattle.usb_base.specs.declared.endpoint.EpKind.TheVariants.{Iso}
 use Rattle.usb_base.specs.declared.transfer.Transfer.{Transfer}
 use Rattle.chapter9.specs.declared.part.Part.{Part}
 use Rattle.chapter9.specs.declared.part.Part.TheVariants.{Endpoint}
@@ -12,10 +11,6 @@ use Rattle.model_device.specs.declared.gadget.TheConstants.{MAX_STREAM_PACKET}
 use Rattle.model_device.specs.Transfer.{IsTransfer, IsOutcome}
 use Rattle.model_device.specs.Gadget.{IsNamed}
 use Rattle.model_device.specs.Device.{Device, device_parts}
-
-abbrev pub is_iso : EpKind → Bool
-is_iso Iso = true
-is_iso _ = false
 
 -- an endpoint from the device, or one that isn't isochronous
 abbrev pub is_fine : ℕ → EpKind → Bool

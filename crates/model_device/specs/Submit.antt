@@ -9,7 +9,8 @@ use Rattle.control_route.specs.Changes.{is_change}
 use Rattle.control_route.specs.declared.route.Route.{Route}
 use Rattle.control_route.specs.declared.route.Route.TheVariants.{SetConfig, GetConfig, SetAlt, GetAlt, Reset}
 use Rattle.chapter9.specs.Standard.{ended}
-use Rattle.model_device.specs.Transfer.{IsTransfer, is_in_setup}
+use Rattle.usb_base.specs.Setup.{is_in_setup}
+use Rattle.model_device.specs.Transfer.{IsTransfer}
 
 -- ---- what is asked
 

@@ -2,6 +2,7 @@
 use Rattle.std.specs.Prelude.{◌≡◌, ℕ, ◌≤◌, ◌%◌, ◌==◌, nat_lt, not, Bool, true, false, [], length, is_some, IfSome}
 use Rattle.std.specs.Option.{option_map_or}
 use Rattle.usb_base.specs.Endpoint.{IsEndpoint, is_in_endpoint}
+use Rattle.usb_base.specs.Setup.{is_in_setup}
 use Rattle.usb_base.specs.declared.setup.Setup.{Setup}
 use Rattle.usb_base.specs.declared.transfer.Transfer.{Transfer}
 use Rattle.usb_base.specs.declared.transfer.Outcome.{Outcome}
@@ -11,10 +12,6 @@ use Rattle.control_route.specs.Changes.{is_change}
 -- endpoint 0, in either direction
 abbrev pub is_control : ℕ → Bool
 is_control ep = ep % 128 == 0
-
--- bit 7 of bmRequestType is the direction (USB 2.0, table 9-2)
-abbrev pub is_in_setup : Setup → Bool
-is_in_setup r = not (nat_lt r.kind 128)
 
 -- a transfer has a setup exactly on endpoint 0, and there the setup's direction; from the device it has no body, and
 -- to the device it wants just its body

@@ -2,6 +2,7 @@
 use Rattle.std.specs.Prelude.{true, false}
 use Rattle.usb_base.specs.declared.reason.Reason.{Reason}
 use Rattle.packet_stream.specs.Format.{Format}
+use Rattle.packet_stream.specs.Split.{Position}
 use Rattle.redir_wire.specs.declared.packet.Way.{Way}
 use Rattle.redir_wire.specs.declared.packet.Header.{Header}
 use Rattle.redir_wire.specs.declared.packet.RedirControl.TheVariants.{Hello}
@@ -14,6 +15,9 @@ use Rattle.redir_data.specs.Packets.{redir_packets}
 -- the hello is still to come, and nothing is agreed
 abbrev pub start : RedirState
 start = record { first = true; caps = no_caps }
+
+abbrev pub stream_start : Position RedirState
+stream_start = record { state = start; place = 0 }
 
 -- a hello's capabilities are agreed where the gateway announces them, too
 abbrev pub advanced : RedirState → RedirPacket → RedirState

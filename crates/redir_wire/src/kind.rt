@@ -5,7 +5,7 @@ ghost use Rattle.redir_wire.specs.Table.{of_type, with, plain_row, data_row, row
 ghost use Rattle.redir_wire.specs.Small.{IsSmall};
 
 use crate::packet::{Caps, MAX_HELLO_WORDS, Way};
-use crate::types::plain_types;
+use crate::types::{data_types, plain_types};
 
 /// The number of `usb_redir_hello`.
 pub(crate) const HELLO: u32 = 0;
@@ -87,11 +87,11 @@ pub struct TypeRow {
 /// The type of a number, if there is one.
 macro_rules! kind_numbered {
     (
-        ($number:expr)
+        ($kinds:ident $number:expr)
         $($kind:ident $fields:tt = $name:literal, $way:ident($value:literal, $($length:tt)*) $(.$more:ident $of:tt)?;)*
     ) => {
         match $number {
-            $($value => Some(PlainKind::$kind),)*
+            $($value => Some($kinds::$kind),)*
             _ => None,
         }
     };
@@ -99,9 +99,9 @@ macro_rules! kind_numbered {
 
 /// The name and the row of a type.
 macro_rules! entry_of {
-    (($type:expr) $($kind:ident $fields:tt = $name:literal, $row:expr;)*) => {
+    (($kinds:ident $type:expr) $($kind:ident $fields:tt = $name:literal, $row:expr;)*) => {
         match $type {
-            $(PlainKind::$kind => ($name, $row),)*
+            $($kinds::$kind => ($name, $row),)*
         }
     };
 }
@@ -112,7 +112,7 @@ impl PlainKind {
     pub fn numbered(number: u32) -> Option<PlainKind>
         ensures { result ≡ plain_numbered number }
     {
-        plain_types!(kind_numbered!(number))
+        plain_types!(kind_numbered!(PlainKind number))
     }
 
     /// What the protocol says of it.
@@ -134,7 +134,7 @@ impl PlainKind {
         ensures name { result.0.now ≡ plain_name self }
         ensures row { result.1 ≡ plain_row self }
     {
-        plain_types!(entry_of!(self))
+        plain_types!(entry_of!(PlainKind self))
     }
 }
 
@@ -144,14 +144,7 @@ impl DataKind {
     pub fn numbered(number: u32) -> Option<DataKind>
         ensures { result ≡ data_numbered number }
     {
-        let kind = match number {
-            100 => DataKind::Control,
-            101 => DataKind::Bulk,
-            102 => DataKind::Iso,
-            103 => DataKind::Interrupt,
-            _ => return None,
-        };
-        Some(kind)
+        data_types!(kind_numbered!(DataKind number))
     }
 
     /// What the protocol says of it.
@@ -173,15 +166,7 @@ impl DataKind {
         ensures name { result.0.now ≡ data_name self }
         ensures row { result.1 ≡ data_row self }
     {
-        match self {
-            DataKind::Control => ("CONTROL", both_ways(100, 10, Tail::Data)),
-            DataKind::Bulk => (
-                "BULK",
-                both_ways(101, 8, Tail::Data).with(Caps::WIDE_BULK_LENGTH, 2),
-            ),
-            DataKind::Iso => ("ISO", both_ways(102, 4, Tail::Data)),
-            DataKind::Interrupt => ("INTERRUPT", both_ways(103, 4, Tail::Data)),
-        }
+        data_types!(entry_of!(DataKind self))
     }
 }
 

@@ -6,7 +6,7 @@ ghost use Rattle.redir_wire.specs.Written.{PlainSound, ReadAgain};
 
 use crate::header::MAX_LENGTH;
 use crate::packet::{Caps, INTERFACE_CELLS, MAX_HELLO_WORDS, MAX_INTERFACES};
-use usb_base::{ENDPOINTS, LONGEST_HOST_PACKET};
+use usb_base::LONGEST_HOST_PACKET;
 
 /// What is read as a header is spelled so, and what is spelled so is read.
 pub fn headers_sound()
@@ -37,6 +37,6 @@ pub fn protocol_numbers()
     ensures lengths { Caps.WIDE_BULK_LENGTH.0 ≡ 2 ^ 6 }
     ensures announced { Caps.ANNOUNCED.0 ≡ 2 ^ 1 + 2 ^ 3 + 2 ^ 4 + 2 ^ 5 + 2 ^ 6 }
     ensures words { MAX_HELLO_WORDS ≡ 32 }
-    ensures tables { (MAX_INTERFACES ≡ 32) × (INTERFACE_CELLS ≡ 32) × (ENDPOINTS ≡ 32) }
+    ensures tables { (MAX_INTERFACES ≡ 32) × (INTERFACE_CELLS ≡ 32) }
     ensures longest { (MAX_LENGTH ≡ 16777216 + 64) × (LONGEST_HOST_PACKET ≡ 16 + MAX_LENGTH) }
 {}

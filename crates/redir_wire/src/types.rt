@@ -1,4 +1,5 @@
-//! The table of the types of packets that move no data of a transfer ("Control packets").
+//! The tables of the types of packets: of those that move no data of a transfer ("Control packets"), and of those that
+//! do ("Data packets").
 
 /// Calls the macro `reader` with what it is given, and then with a row for each type: its variant in `PlainKind` and
 /// `RedirControl`, its name, and what the protocol says of it, where its number comes first. A packet of single bytes
@@ -31,4 +32,18 @@ macro_rules! plain_types {
     };
 }
 
+/// The same for a type that moves data, with its variant in `DataKind`.
+macro_rules! data_types {
+    ($reader:ident!($($given:tt)*)) => {
+        $reader! {
+            ($($given)*)
+            Control {} = "CONTROL", both_ways(100, 10, Tail::Data);
+            Bulk {} = "BULK", both_ways(101, 8, Tail::Data).with(Caps::WIDE_BULK_LENGTH, 2);
+            Iso {} = "ISO", both_ways(102, 4, Tail::Data);
+            Interrupt {} = "INTERRUPT", both_ways(103, 4, Tail::Data);
+        }
+    };
+}
+
+pub(crate) use data_types;
 pub(crate) use plain_types;

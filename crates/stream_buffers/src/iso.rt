@@ -2,7 +2,7 @@
 
 ghost use Rattle.std.specs.Prelude.{◌≡◌, ◌≤◌, ◌<◌, ◌^◌, ◌∷◌, [], ℕ, None, length, IfOk, IfSome, IsTrue, MatchOption, OnErr};
 ghost use Rattle.packet_stream.specs.Writes.{AppendsSome};
-ghost use Rattle.usbip_urb.specs.declared.code.TheConstants.{MAX_PACKETS};
+ghost use Rattle.usb_base.specs.declared.limits.TheConstants.{MAX_PACKETS};
 ghost use Rattle.usbip_urb.specs.Buffers.{laid};
 ghost use Rattle.usbip_urb.specs.Spelling.{descs_bytes};
 ghost use Rattle.stream_buffers.specs.Iso.{piece, piece_status, pieces, filled, all_filled, iso_outcome, iso_cut};

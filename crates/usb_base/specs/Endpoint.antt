@@ -1,5 +1,5 @@
 -- Endpoints: which bytes are addresses, their places in a table, and the table (USB 2.0, 9.6.6).
-use Rattle.std.specs.Prelude.{ℕ, ◌-◌, ◌%◌, ◌<◌, ◌==◌, nat_lt, not, Bool, if◌then◌else◌, List, [], ◌∷◌, replicate, get_or}
+use Rattle.std.specs.Prelude.{ℕ, ◌-◌, ◌%◌, ◌<◌, ◌==◌, nat_lt, not, Bool, true, false, if◌then◌else◌, List, [], ◌∷◌, replicate, get_or}
 use Rattle.usb_base.specs.declared.endpoint.EpKind.{EpKind}
 use Rattle.usb_base.specs.declared.endpoint.EpKind.TheVariants.{Control, Iso, Bulk, Interrupt, Invalid}
 use Rattle.usb_base.specs.declared.endpoint.EpRow.{EpRow}
@@ -35,6 +35,10 @@ byte_of_kind Iso = 1
 byte_of_kind Bulk = 2
 byte_of_kind Interrupt = 3
 byte_of_kind Invalid = 255
+
+abbrev pub is_iso : EpKind → Bool
+is_iso Iso = true
+is_iso _ = false
 
 abbrev pub no_endpoint : EpRow
 no_endpoint = record { kind = Invalid; interval = 0; interface = 0; max_packet = 0 }

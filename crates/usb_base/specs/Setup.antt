@@ -1,5 +1,5 @@
 -- The eight bytes of a setup packet (USB 2.0, 9.3): bmRequestType, bRequest, wValue, wIndex and wLength.
-use Rattle.std.specs.Prelude.{◌≡◌, ℕ, ◌<◌, ◌^◌, List, [], ◌∷◌, ◌++◌, length}
+use Rattle.std.specs.Prelude.{◌≡◌, ℕ, ◌<◌, ◌^◌, nat_lt, not, Bool, List, [], ◌∷◌, ◌++◌, length}
 use Rattle.std.specs.Int.{w16}
 use Rattle.usb_base.specs.Number.{le, le_at, byte_at, AreBytes}
 use Rattle.usb_base.specs.declared.setup.Setup.{Setup}
@@ -9,6 +9,10 @@ setup_at b = record { kind = byte_at 0 b; request = byte_at 1 b; value = le_at w
 
 abbrev pub setup_bytes : Setup → List ℕ
 setup_bytes s = (s.kind ∷ s.request ∷ []) ++ le w16 s.value ++ le w16 s.index ++ le w16 s.length
+
+-- bit 7 of bmRequestType says that data go from the device (table 9-2)
+abbrev pub is_in_setup : Setup → Bool
+is_in_setup s = not (nat_lt s.kind 128)
 
 -- the ranges of its fields
 pub record IsSetup (s : Setup) : Type 0 where

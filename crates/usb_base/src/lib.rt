@@ -22,8 +22,10 @@ mod text;
 mod transfer;
 
 pub use digits::push_hex;
-pub use endpoint::{ENDPOINTS, EpAddr, EpKind, EpRow, EpTable};
-pub use limits::{LONGEST_CLIENT_PACKET, LONGEST_HOST_PACKET, MAX_TRANSFER, transfer_limits};
+pub use endpoint::{ENDPOINTS, EpAddr, EpKind, EpRow, EpTable, endpoint_count};
+pub use limits::{
+    LONGEST_CLIENT_PACKET, LONGEST_HOST_PACKET, MAX_PACKETS, MAX_TRANSFER, transfer_limits,
+};
 pub use list::{Bytes, List};
 pub use memory::Memory;
 pub use number::{

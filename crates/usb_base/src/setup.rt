@@ -1,7 +1,7 @@
 //! Setup packets of endpoint 0 (USB 2.0, 9.3).
 
 ghost use Rattle.std.specs.Prelude.{◌≡◌};
-ghost use Rattle.usb_base.specs.Setup.{setup_at, setup_bytes, ReadsSpelled, SpellsRead};
+ghost use Rattle.usb_base.specs.Setup.{is_in_setup, setup_at, setup_bytes, ReadsSpelled, SpellsRead};
 
 use byteorder::{ByteOrder, LittleEndian};
 
@@ -34,6 +34,13 @@ impl Setup {
             index: u16::from_le_bytes([i0, i1]),
             length: u16::from_le_bytes([l0, l1]),
         }
+    }
+
+    /// Whether data go from the device, which bit 7 of bmRequestType says.
+    pub fn is_in(&self) -> bool
+        ensures { result ≡ is_in_setup self.now }
+    {
+        self.kind >= 0x80
     }
 
     /// The bytes that spell it.

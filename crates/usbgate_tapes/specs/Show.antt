@@ -18,7 +18,8 @@ use Rattle.packet_show.specs.Client.{client_line}
 use Rattle.packet_show.specs.Urb.{urb_line}
 use Rattle.packet_show.specs.Redir.{redir_line}
 use Rattle.gate_history.specs.step.Events.{Event, client_bytes, host_bytes}
-use Rattle.gate_history.specs.step.Streams.{client_reader, client_start, host_reader, host_start}
+use Rattle.redir_data.specs.Streams.{stream_start}
+use Rattle.gate_history.specs.step.Streams.{client_reader, client_start, host_reader}
 use Rattle.usbgate_tapes.specs.tape.EventCommand.{EventCommand}
 use Rattle.usbgate_tapes.specs.tape.Tape.{added}
 
@@ -84,4 +85,4 @@ told_line place packet = redir_line place packet.0 packet.1
 
 abbrev pub show : Side → EventCommand
 show Client = show_side (record { side = Client; reader = client_reader; start = client_start; bytes = client_bytes; line = asked_line })
-show Host = show_side (record { side = Host; reader = host_reader; start = host_start; bytes = host_bytes; line = told_line })
+show Host = show_side (record { side = Host; reader = host_reader; start = stream_start; bytes = host_bytes; line = told_line })

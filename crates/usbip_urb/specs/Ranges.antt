@@ -10,8 +10,8 @@ use Rattle.usbip_urb.specs.declared.packet.Unlink.{Unlink}
 use Rattle.usbip_urb.specs.declared.packet.RetUnlink.{RetUnlink}
 use Rattle.usbip_urb.specs.declared.packet.UrbPacket.{UrbPacket}
 use Rattle.usbip_urb.specs.declared.packet.UrbPacket.TheVariants as urb
-use Rattle.usb_base.specs.declared.limits.TheConstants.{MAX_TRANSFER}
-use Rattle.usbip_urb.specs.declared.code.TheConstants.{EXPORTED_DEVID, MAX_ENDPOINT, MAX_PACKETS, NO_PACKETS, USBIP_DIR_IN}
+use Rattle.usb_base.specs.declared.limits.TheConstants.{MAX_TRANSFER, MAX_PACKETS}
+use Rattle.usbip_urb.specs.declared.code.TheConstants.{EXPORTED_DEVID, MAX_ENDPOINT, NO_PACKETS, USBIP_DIR_IN}
 use Rattle.usbip_urb.specs.Sizes.{is_out, body_size, count_of}
 use Rattle.usbip_urb.specs.Spelling.{submit_words, ret_submit_words, unlink_words, ret_unlink_words, desc_words}
 

@@ -2,9 +2,10 @@
 
 ghost use Rattle.std.specs.Prelude.{◌≡◌, ◌+◌, ◌≤◌, ◌<◌, length, IsTrue};
 ghost use Rattle.usb_base.specs.Number.{part as part_of};
+ghost use Rattle.usb_base.specs.declared.limits.TheConstants.{MAX_PACKETS};
 ghost use Rattle.usbip_urb.specs.Buffers.{laid, stretch, total};
 
-use crate::code::{MAX_PACKET_LENGTH, MAX_PACKETS};
+use crate::code::MAX_PACKET_LENGTH;
 use crate::packet::Descs;
 
 /// Whether the descriptors lie one behind another in a buffer of `length` bytes: each is at most 65,535 bytes long,

@@ -5,10 +5,10 @@ ghost use Rattle.packet_stream.specs.Format.{wrong_at};
 ghost use Rattle.usbip_urb.specs.Checks.{request_checks, answer_checks, size_checks};
 
 use crate::code::{
-    EXPORTED_DEVID, MAX_ENDPOINT, MAX_PACKETS, NO_PACKETS, USBIP_CMD_SUBMIT, USBIP_CMD_UNLINK,
-    USBIP_DIR_IN, USBIP_RET_SUBMIT, USBIP_RET_UNLINK,
+    EXPORTED_DEVID, MAX_ENDPOINT, NO_PACKETS, USBIP_CMD_SUBMIT, USBIP_CMD_UNLINK, USBIP_DIR_IN,
+    USBIP_RET_SUBMIT, USBIP_RET_UNLINK,
 };
-use usb_base::{MAX_TRANSFER, Reason, be_u16_at, be_u32_at};
+use usb_base::{MAX_PACKETS, MAX_TRANSFER, Reason, be_u16_at, be_u32_at};
 
 /// The first wrong place of a request, as far as its bytes are there.
 pub(crate) fn wrong_request(bytes: &[u8]) -> Option<(u64, Reason)>

@@ -3,7 +3,7 @@
 
 ghost use Rattle.std.specs.Prelude.{◌≡◌, ◌+◌, ◌*◌};
 
-use usb_base::{LONGEST_CLIENT_PACKET, MAX_TRANSFER};
+use usb_base::{LONGEST_CLIENT_PACKET, MAX_PACKETS, MAX_TRANSFER};
 use usbip_op::{BUS_NUMBER, DEVICE_NUMBER};
 
 /// Asks for a transfer.
@@ -29,8 +29,6 @@ pub const EXPORTED_DEVID: u32 = (BUS_NUMBER << 16) | DEVICE_NUMBER;
 pub const MAX_ENDPOINT: u32 = 15;
 /// How many submits may be in flight.
 pub const MAX_LIVE: usize = 4096;
-/// The most isochronous packets of a transfer.
-pub const MAX_PACKETS: u32 = 1024;
 /// The longest isochronous packet, in bytes.
 pub const MAX_PACKET_LENGTH: u32 = 65_535;
 
@@ -47,7 +45,7 @@ pub fn protocol_numbers()
     ensures device { (EXPORTED_DEVID ≡ 0x0001_0002) × (MAX_ENDPOINT ≡ 15) }
     ensures sizes { (HEAD_SIZE ≡ 48) × (DESC_SIZE ≡ 16) }
     ensures none { NO_PACKETS ≡ 0xFFFF_FFFF }
-    ensures limits { (MAX_LIVE ≡ 4096) × (MAX_PACKETS ≡ 1024) × (MAX_PACKET_LENGTH ≡ 65535) }
+    ensures limits { (MAX_LIVE ≡ 4096) × (MAX_PACKET_LENGTH ≡ 65535) }
     ensures longest { LONGEST_CLIENT_PACKET ≡ 48 + 16777216 + 1024 * 16 }
     ensures parts { LONGEST_CLIENT_PACKET ≡ HEAD_SIZE + MAX_TRANSFER + MAX_PACKETS * DESC_SIZE }
 {}

@@ -20,8 +20,8 @@ pub use client::{
     ClientFormat, ClientPacket, client_packets_sound, read_client, read_client_again,
 };
 pub use code::{
-    DESC_SIZE, EXPORTED_DEVID, HEAD_SIZE, MAX_ENDPOINT, MAX_LIVE, MAX_PACKET_LENGTH, MAX_PACKETS,
-    NO_PACKETS, USBIP_CMD_SUBMIT, USBIP_CMD_UNLINK, USBIP_DIR_IN, USBIP_DIR_OUT, USBIP_RET_SUBMIT,
+    DESC_SIZE, EXPORTED_DEVID, HEAD_SIZE, MAX_ENDPOINT, MAX_LIVE, MAX_PACKET_LENGTH, NO_PACKETS,
+    USBIP_CMD_SUBMIT, USBIP_CMD_UNLINK, USBIP_DIR_IN, USBIP_DIR_OUT, USBIP_RET_SUBMIT,
     USBIP_RET_UNLINK, protocol_numbers,
 };
 pub use next::{next_client, next_urb};

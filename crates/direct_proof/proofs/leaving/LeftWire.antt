@@ -4,7 +4,7 @@ use Rattle.std.specs.Prelude.{get_or, zip}
 use Rattle.redir_wire.specs.declared.packet.RedirControl.TheVariants as plain
 use Rattle.redir_data.specs.declared.packet.RedirPacket.{RedirPacket}
 use Rattle.redir_data.specs.declared.packet.RedirPacket.TheVariants.{Plain}
-use Rattle.usb_base.specs.Endpoint.{endpoint_index}
+use Rattle.usb_base.specs.Endpoint.{endpoint_index, is_iso}
 use Rattle.std.specs.List.{last_or, AllByRecursion as Each}
 use Rattle.redir_host.proofs.lemmas.state.Each.{each_behind}
 use Rattle.gate_history.proofs.lemmas.Lists.{Each-append}
@@ -14,7 +14,6 @@ use Rattle.gate_history.specs.state.Ids.{AreFresh, greatest, holds, times}
 use Rattle.gate_history.specs.write.Packets.{stops}
 use Rattle.gate_history.specs.state.State.{State, submits, flying}
 use Rattle.gate_history.specs.state.Ups.{Up, stream_of, lower, unless, is_ended}
-use Rattle.gate_history.specs.client.Verdict.{is_iso}
 use Rattle.gate_history.proofs.lemmas.state.StreamIds.{AreLong, times-append}
 use Rattle.gate_history.proofs.lemmas.state.Draws.{length-draws}
 use Rattle.direct_proof.specs.StreamIds.{Controls, Fenced, IdIsKept, StreamIdIsKept, StatusIsKept, stream_ids_on, statuses_on}

@@ -12,7 +12,7 @@ use Rattle.gate_history.specs.step.Marks.{Idle, Agrees}
 use Rattle.gate_history.specs.state.State.{State}
 use Rattle.gate_history.specs.step.Meaning.{meaning, mark_as, fact_of}
 use Rattle.gate_history.specs.state.Facts.{tell}
-use Rattle.gate_history.specs.client.Verdict.{is_iso}
+use Rattle.usb_base.specs.Endpoint.{is_iso}
 use Rattle.gate_history.specs.state.Ups.{Up, stream_of}
 use Rattle.direct_run.specs.Moves.{World, GateReads}
 use Rattle.direct_run.specs.Packets.{both_caps}

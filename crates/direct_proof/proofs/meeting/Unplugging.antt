@@ -10,7 +10,7 @@ use Rattle.redir_host.specs.step.Moves.{quiet as host_quiet}
 use Rattle.gate_history.proofs.lemmas.Lists.{Each-append}
 use Rattle.gate_history.specs.declared.facts.Facts.{Facts}
 use Rattle.gate_history.specs.state.Ups.{Up, stream_of}
-use Rattle.gate_history.specs.client.Verdict.{is_iso}
+use Rattle.usb_base.specs.Endpoint.{is_iso}
 use Rattle.direct_run.specs.Moves.{World, Unplugs}
 use Rattle.direct_proof.specs.Moves.{move, quiet, host_made}
 use Rattle.direct_proof.specs.Requests.{Coming, ran_of}

@@ -19,7 +19,8 @@ use Rattle.redir_host.specs.device.Performing.{performs_any, does, with_id}
 use Rattle.redir_host.proofs.lemmas.state.Each.{each_front, each_behind}
 use Rattle.gate_history.specs.declared.verdict.Verdict.{Verdict}
 use Rattle.gate_history.specs.declared.verdict.Verdict.TheVariants.{Now, Wire, Routed, IsoOut, Stream}
-use Rattle.gate_history.specs.client.Verdict.{changes, is_iso}
+use Rattle.usb_base.specs.Endpoint.{is_iso}
+use Rattle.gate_history.specs.client.Verdict.{changes}
 use Rattle.gate_history.specs.state.Ups.{stream_of, Up}
 use Rattle.gate_history.specs.state.Facts.{tell}
 use Rattle.gate_history.specs.step.Meaning.{fact_of}

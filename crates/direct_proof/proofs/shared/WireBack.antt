@@ -2,7 +2,7 @@
 use Rattle.std.proofs.Common.{◌≡◌, ℕ, Bool, true, false, cond, List, [], ◌∷◌, ◌++◌, map, Option, Some, None, refl, sym, ap, ◌∙◌, append-nil}
 use Rattle.std.proofs.lemmas.List.{map-append}
 use Rattle.gate_history.specs.state.Ups.{Up}
-use Rattle.gate_history.specs.client.Verdict.{is_iso}
+use Rattle.usb_base.specs.Endpoint.{is_iso}
 use Rattle.direct_proof.specs.Requests.{Coming, ran_of}
 use Rattle.direct_proof.specs.Tagged.{Tagged, Answered, ran_in, runs_in, packets_in, packet_in}
 use Rattle.direct_proof.specs.Shared.{way_of}

@@ -3,13 +3,13 @@ use Rattle.std.proofs.Common.{◌≡◌, ℕ, ◌+◌, ◌%◌, ◌<◌, ◌≤�
 use Rattle.std.proofs.lemmas.Bool.{lt-ltb, le-ltb, leb-true}
 use Rattle.usb_base.specs.declared.transfer.Transfer.{Transfer}
 use Rattle.usb_base.specs.Endpoint.{endpoint_index}
-use Rattle.usb_base.specs.Setup.{setup_at}
+use Rattle.usb_base.specs.Setup.{setup_at, is_in_setup}
 use Rattle.usbip_urb.specs.declared.packet.Submit.{Submit as UrbSubmit}
 use Rattle.usbip_urb.specs.Ranges.{IsSubmit}
 use Rattle.usbip_urb.specs.Sizes.{is_out}
-use Rattle.usbip_urb.specs.declared.code.TheConstants.{MAX_PACKETS}
+use Rattle.usb_base.specs.declared.limits.TheConstants.{MAX_PACKETS}
 use Rattle.model_device.specs.Transfer.{is_control}
-use Rattle.gate_history.specs.client.Requests.{request_of, address, is_in_setup, transfer_by}
+use Rattle.gate_history.specs.client.Requests.{request_of, address, transfer_by}
 
 pub record IsAddressed (t : Transfer) : Type 0 where
   pub low : t.ep % 128 < 16

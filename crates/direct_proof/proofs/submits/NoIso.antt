@@ -8,7 +8,7 @@ use Rattle.usb_base.specs.declared.endpoint.EpKind.{EpKind}
 use Rattle.usb_base.specs.declared.endpoint.EpKind.TheVariants as kind
 use Rattle.usb_base.specs.declared.endpoint.EpRow.{EpRow}
 use Rattle.usb_base.specs.declared.endpoint.EpTable.{EpTable}
-use Rattle.usb_base.specs.Endpoint.{is_in_endpoint, no_endpoint, row_of}
+use Rattle.usb_base.specs.Endpoint.{is_in_endpoint, no_endpoint, row_of, is_iso}
 use Rattle.usbip_urb.specs.declared.packet.Submit.{Submit as UrbSubmit}
 use Rattle.usbip_urb.specs.Buffers.{laid}
 use Rattle.usbip_urb.specs.Ranges.{IsSubmit}
@@ -23,12 +23,13 @@ use Rattle.gate_history.specs.declared.verdict.Situation.{Situation}
 use Rattle.usb_base.specs.declared.errno.TheConstants.{ENOENT, EBUSY, EINVAL, EMSGSIZE, ESHUTDOWN}
 use Rattle.gate_history.specs.step.Meaning.{verdict_of, situation}
 use Rattle.gate_history.specs.declared.request.Request.{Request}
-use Rattle.gate_history.specs.client.Requests.{request_of, is_in_setup}
+use Rattle.usb_base.specs.Setup.{is_in_setup}
+use Rattle.gate_history.specs.client.Requests.{request_of}
 use Rattle.gate_history.specs.state.State.{State}
 use Rattle.gate_history.specs.declared.verdict.Pipe.TheVariants.{InterruptOut}
 use Rattle.gate_history.specs.declared.verdict.Verdict.{Verdict}
 use Rattle.gate_history.specs.declared.verdict.Verdict.TheVariants.{Now, Wire, IsoOut, Stream}
-use Rattle.gate_history.specs.client.Verdict.{none_of, by_route, by_setup, by_kind, is_control, is_iso, is_invalid, is_narrow, by_transfer, verdict}
+use Rattle.gate_history.specs.client.Verdict.{none_of, by_route, by_setup, by_kind, is_control, is_invalid, is_narrow, by_transfer, verdict}
 use Rattle.gate_history.specs.client.Carried.{IsDirected}
 use Rattle.gate_history.proofs.lemmas.client.Carried.{is_request}
 use Rattle.direct_run.specs.Moves.{World}

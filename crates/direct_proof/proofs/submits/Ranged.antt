@@ -7,7 +7,7 @@ use Rattle.usb_base.specs.declared.setup.Setup.{Setup}
 use Rattle.usb_base.specs.declared.endpoint.EpKind.{EpKind}
 use Rattle.usb_base.specs.declared.endpoint.EpKind.TheVariants as kind
 use Rattle.usb_base.specs.declared.endpoint.EpRow.{EpRow}
-use Rattle.usb_base.specs.Endpoint.{is_in_endpoint}
+use Rattle.usb_base.specs.Endpoint.{is_in_endpoint, is_iso}
 use Rattle.usbip_urb.specs.declared.packet.Submit.{Submit as UrbSubmit}
 use Rattle.usbip_urb.specs.declared.packet.UrbPacket.TheVariants as urb
 use Rattle.usbip_urb.specs.declared.client.ClientPacket.TheVariants.{Urb}
@@ -29,12 +29,13 @@ use Rattle.usb_base.specs.declared.errno.TheConstants.{ENOENT, EBUSY, EINVAL, EM
 use Rattle.gate_history.specs.state.Flight.{wide_bulk}
 use Rattle.gate_history.specs.step.Meaning.{verdict_of, situation}
 use Rattle.gate_history.specs.declared.request.Request.{Request}
-use Rattle.gate_history.specs.client.Requests.{request_of, address, is_in_setup}
+use Rattle.usb_base.specs.Setup.{is_in_setup}
+use Rattle.gate_history.specs.client.Requests.{request_of, address}
 use Rattle.gate_history.specs.state.State.{State}
 use Rattle.gate_history.specs.declared.verdict.Pipe.TheVariants.{Control, InterruptOut}
 use Rattle.gate_history.specs.declared.verdict.Verdict.{Verdict}
 use Rattle.gate_history.specs.declared.verdict.Verdict.TheVariants.{Now, Wire, Routed, IsoOut, Stream}
-use Rattle.gate_history.specs.client.Verdict.{none_of, by_route, by_setup, by_kind, is_iso, is_invalid, is_narrow, by_endpoint, by_transfer, verdict, goes_by_id}
+use Rattle.gate_history.specs.client.Verdict.{none_of, by_route, by_setup, by_kind, is_invalid, is_narrow, by_endpoint, by_transfer, verdict, goes_by_id}
 use Rattle.gate_history.specs.client.Verdict as of_kind
 use Rattle.gate_history.specs.client.Carried.{IsDirected, IsRequest, IsCarried}
 use Rattle.gate_history.proofs.lemmas.client.Carried.{is_request, carried, not-false}

@@ -14,7 +14,8 @@ use Rattle.control_route.specs.Routes.{route_of}
 use Rattle.control_route.specs.Changes.{is_change}
 use Rattle.chapter9.specs.Requests.{is_request}
 use Rattle.chapter9.specs.Standard.{stall, success}
-use Rattle.model_device.specs.Transfer.{IsTransfer, IsOutcome, asks_change, is_in_setup}
+use Rattle.usb_base.specs.Setup.{is_in_setup}
+use Rattle.model_device.specs.Transfer.{IsTransfer, IsOutcome, asks_change}
 use Rattle.model_device.specs.Gadget.{IsGadget, IsNamed, SameFacts, is_get_configuration, is_port_reset}
 use Rattle.model_device.specs.Device.{State, device_parts, is_running, meaning_of, perform}
 use Rattle.model_device.specs.inner.Lawful.{lawful, stall_outcome}

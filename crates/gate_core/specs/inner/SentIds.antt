@@ -13,7 +13,7 @@ use Rattle.gate_history.specs.step.Meaning.{drawn_by}
 use Rattle.gate_history.specs.write.Packets.{starts, stops, asked_packets}
 use Rattle.gate_history.specs.state.StreamIds.{stream_ids_after, ids_of_streams}
 use Rattle.std.specs.List.{flat_map, last_or}
-use Rattle.gate_history.specs.write.Bytes.{host_packet_bytes}
+use Rattle.redir_data.specs.Sent.{sent_packet_bytes}
 use Rattle.gate_history.specs.state.Flight.{wide_ids}
 use Rattle.gate_parts.specs.state.Ids.{ids_in}
 
@@ -51,7 +51,7 @@ after_stops t c ps = record {
 }
 
 abbrev pub bytes_of : Kept → ℕ → List RedirPacket → List ℕ
-bytes_of t last ps = flat_map (host_packet_bytes t.caps) (with_ids t last ps)
+bytes_of t last ps = flat_map (sent_packet_bytes t.caps) (with_ids t last ps)
 
 -- what is kept of a state's stops, where its client is gone
 pub record HasParted (st : State) (e : Effect) (c : SentIds) : Type 0 where

@@ -6,7 +6,8 @@ use Rattle.packet_stream.specs.Split.{Reader, Position, Splitting, split}
 use Rattle.packet_stream.specs.Streams.{StreamView, Drained, Closed, Holds as IsLeft}
 use Rattle.gate_history.specs.declared.note.Note.{Note}
 use Rattle.gate_history.specs.step.Events.{Event, client_bytes, host_bytes}
-use Rattle.gate_history.specs.step.Streams.{client_reader, client_start, host_reader, host_start}
+use Rattle.redir_data.specs.Streams.{stream_start}
+use Rattle.gate_history.specs.step.Streams.{client_reader, client_start, host_reader}
 use Rattle.gate_history.specs.declared.item.Item.{Item}
 use Rattle.gate_history.specs.state.Sides.{client_over, host_over}
 use Rattle.gate_history.specs.state.State.{State, state_of}
@@ -67,7 +68,7 @@ pub record StreamStands {S P : Type 0} (r : Reader S P Reason) (start : Position
 pub record StandsFor (first : ℕ) (g : GateKept) (events : List Event) (xs : List Item) : Type 0 where
   pub translates : Translates first g.items xs
   pub client : StreamStands client_reader client_start g.client (client_bytes events) (asked xs) (client_over (past first xs))
-  pub host : StreamStands host_reader host_start g.host (host_bytes events) (told xs) (host_over (past first xs))
+  pub host : StreamStands host_reader stream_start g.host (host_bytes events) (told xs) (host_over (past first xs))
 
 -- ---- events
 
@@ -86,7 +87,7 @@ pub record Stands (first : ℕ) (g : GateKept) (events : List Event) : Type 0 wh
   pub works : g.failed ≡ false
   pub translates : Translates first g.items (arrivals events)
   pub client : HasAll client_reader client_start g.client (client_bytes events) (asked (arrivals events)) (client_over (history first events))
-  pub host : HasAll host_reader host_start g.host (host_bytes events) (told (arrivals events)) (host_over (history first events))
+  pub host : HasAll host_reader stream_start g.host (host_bytes events) (told (arrivals events)) (host_over (history first events))
 
 -- it stands for some events
 abbrev pub HasPast : GateKept → Type 0

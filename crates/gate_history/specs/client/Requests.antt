@@ -1,6 +1,6 @@
 -- What a submit asks for, beside the bytes that it is written in.
 use Rattle.std.specs.Prelude.{ℕ, ◌+◌, ◌==◌, nat_lt, Bool, not, if◌then◌else◌, Some, None}
-use Rattle.usb_base.specs.Setup.{setup_at}
+use Rattle.usb_base.specs.Setup.{is_in_setup, setup_at}
 use Rattle.usb_base.specs.declared.setup.Setup.{Setup}
 use Rattle.usb_base.specs.declared.transfer.Transfer.{Transfer}
 use Rattle.usbip_urb.specs.declared.packet.Submit.{Submit}
@@ -12,9 +12,6 @@ abbrev pub address : Bool → ℕ → ℕ
 address is_in ep = if is_in then ep + 128 else ep
 
 -- a control transfer's direction is that of its setup
-abbrev pub is_in_setup : Setup → Bool
-is_in_setup s = not (nat_lt s.kind 128)
-
 abbrev pub transfer_by : Bool → Submit → Transfer
 transfer_by control s = record {
   ep = if control then address (is_in_setup (setup_at s.setup)) 0 else address (not (is_out s.head.direction)) s.head.ep;

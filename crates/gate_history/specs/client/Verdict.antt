@@ -2,6 +2,7 @@
 -- plain facts, and they are read without the rest of the gate.
 use Rattle.std.specs.Bool.{beq}
 use Rattle.std.specs.Prelude.{◌==◌, ◌&&◌, nat_lt, nat_le, not, Bool, true, false, if◌then◌else◌, List, [], ◌∷◌, Option, Some, None, pos}
+use Rattle.usb_base.specs.Endpoint.{is_iso}
 use Rattle.usb_base.specs.declared.setup.Setup.{Setup}
 use Rattle.usb_base.specs.declared.endpoint.EpKind.{EpKind}
 use Rattle.usb_base.specs.declared.endpoint.EpKind.TheVariants as kind
@@ -20,7 +21,7 @@ use Rattle.gate_history.specs.declared.verdict.Verdict.{Verdict}
 use Rattle.gate_history.specs.declared.verdict.Verdict.TheVariants.{Now, Wire, Routed, IsoOut, Stream}
 use Rattle.gate_history.specs.declared.request.Request.{Request}
 use Rattle.usb_base.specs.declared.errno.TheConstants.{ENOENT, EBUSY, EINVAL, EMSGSIZE, ESHUTDOWN}
-use Rattle.gate_history.specs.client.Requests.{is_in_setup}
+use Rattle.usb_base.specs.Setup.{is_in_setup}
 
 abbrev pub none_of : {A : Type 0} → List A → Bool
 none_of [] = true
@@ -53,10 +54,6 @@ by_kind r row kind.Invalid = Now ENOENT
 abbrev pub is_control : EpKind → Bool
 is_control kind.Control = true
 is_control _ = false
-
-abbrev pub is_iso : EpKind → Bool
-is_iso kind.Iso = true
-is_iso _ = false
 
 abbrev pub is_invalid : EpKind → Bool
 is_invalid kind.Invalid = true

@@ -3,7 +3,8 @@ use Rattle.std.specs.Prelude.{◌≡◌, ℕ, ◌≤◌, ◌<◌, true, false, L
 use Rattle.std.specs.List.{AllByRecursion}
 use Rattle.usbip_urb.specs.declared.packet.UrbPacket.TheVariants as urb
 use Rattle.usbip_urb.specs.declared.client.ClientPacket.TheVariants.{Urb}
-use Rattle.usbip_urb.specs.declared.code.TheConstants.{MAX_LIVE, MAX_PACKETS}
+use Rattle.usb_base.specs.declared.limits.TheConstants.{MAX_PACKETS}
+use Rattle.usbip_urb.specs.declared.code.TheConstants.{MAX_LIVE}
 use Rattle.gate_history.specs.declared.item.Item.{Item}
 use Rattle.gate_history.specs.declared.item.Item.TheVariants.{Asked}
 use Rattle.gate_history.specs.client.Ends.{has_id, at_once}

@@ -9,7 +9,8 @@ use Rattle.usbip_urb.specs.declared.client.ClientPacket.{ClientPacket}
 use Rattle.gate_history.specs.step.Events.{Event, ClientPiece, ClientEnd, HostPiece, HostEnd, client_bytes, host_bytes}
 use Rattle.gate_history.specs.declared.item.Item.{Item}
 use Rattle.gate_history.specs.declared.item.Item.TheVariants.{Asked, ClientWrong, ClientLeft, Told, HostWrong, HostLeft}
-use Rattle.gate_history.specs.step.Streams.{client_reader, client_start, host_reader, host_start}
+use Rattle.redir_data.specs.Streams.{stream_start}
+use Rattle.gate_history.specs.step.Streams.{client_reader, client_start, host_reader}
 use Rattle.gate_history.specs.step.Marks.{Mark}
 use Rattle.gate_history.specs.state.Sides.{client_over, host_over}
 use Rattle.gate_history.specs.step.Past.{past}
@@ -20,7 +21,7 @@ abbrev pub client_split : List ℕ → Splitting (Unit {0}) ClientPacket Reason
 client_split bytes = split client_reader client_start bytes
 
 abbrev pub host_split : List ℕ → Splitting RedirState (Header × RedirPacket) Reason
-host_split bytes = split host_reader host_start bytes
+host_split bytes = split host_reader stream_start bytes
 
 -- of the wrong place, where there is one
 abbrev pub wrong_items : (ℕ → Reason → Item) → Option (ℕ × Reason) → List Item

@@ -10,7 +10,7 @@ use Rattle.usb_base.specs.declared.reason.Reason.TheVariants.{NotImported, Alrea
 use Rattle.usb_base.specs.declared.refusal.Refusal.{Refusal}
 use Rattle.usb_base.specs.declared.transfer.Outcome.{Outcome}
 use Rattle.usb_base.specs.declared.transfer.StreamPacket.{StreamPacket}
-use Rattle.usb_base.specs.Endpoint.{row_of, is_in_endpoint}
+use Rattle.usb_base.specs.Endpoint.{row_of, is_in_endpoint, is_iso}
 use Rattle.stream_buffers.specs.Held.{is_full}
 use Rattle.usb_base.specs.Status.{status_of}
 use Rattle.usbip_op.specs.declared.packet.OpPacket.TheVariants as op
@@ -32,7 +32,7 @@ use Rattle.gate_history.specs.client.Requests.{request_of}
 use Rattle.gate_history.specs.declared.verdict.Situation.{Situation}
 use Rattle.gate_history.specs.declared.verdict.Verdict.{Verdict}
 use Rattle.gate_history.specs.declared.verdict.Verdict.TheVariants.{Stream}
-use Rattle.gate_history.specs.client.Verdict.{verdict, none_of, is_iso, goes_by_id}
+use Rattle.gate_history.specs.client.Verdict.{verdict, none_of, goes_by_id}
 use Rattle.gate_history.specs.step.Marks.{Submission, Fact, Connected, Interfaces, Endpoints, Configuration, Effect, Idle, Replies, Imports, Opens, Waits, Arrives, Unlinks, Agrees, Answers, StreamTold, Disconnects, Ends, Refuses, Mark}
 use Rattle.gate_history.specs.state.Sides.{refusal}
 use Rattle.gate_history.specs.state.Ids.{last_of}

@@ -7,7 +7,7 @@ use Rattle.redir_wire.specs.declared.packet.Way.TheVariants.{ToGuest}
 use Rattle.redir_wire.specs.declared.packet.Header.{Header}
 use Rattle.redir_data.specs.declared.packet.RedirPacket.{RedirPacket}
 use Rattle.redir_data.specs.declared.state.RedirState.{RedirState}
-use Rattle.redir_data.specs.Streams.{start, after, stream_format}
+use Rattle.redir_data.specs.Streams.{after, stream_format}
 
 -- ---- the client's: nothing that was read decides how its next packet is read
 
@@ -21,6 +21,3 @@ client_start = record { state = tt; place = 0 }
 
 abbrev pub host_reader : Reader RedirState (Header × RedirPacket) Reason
 host_reader = reads (stream_format ToGuest) after
-
-abbrev pub host_start : Position RedirState
-host_start = record { state = start; place = 0 }

@@ -18,7 +18,7 @@ use Rattle.gate_history.specs.declared.verdict.Pipe.{Pipe}
 use Rattle.gate_history.specs.declared.verdict.Pipe.TheVariants.{Control, Bulk, InterruptOut}
 use Rattle.gate_history.specs.declared.verdict.Verdict.{Verdict}
 use Rattle.gate_history.specs.declared.verdict.Verdict.TheVariants.{Now, Wire, Routed, IsoOut, Stream}
-use Rattle.gate_history.specs.client.Verdict.{is_iso}
+use Rattle.usb_base.specs.Endpoint.{is_iso}
 use Rattle.gate_history.specs.step.Marks.{Effect, Opens, Waits}
 use Rattle.gate_history.specs.state.Sides.{leaves}
 use Rattle.gate_history.specs.state.Ups.{Up, stream_at, is_ended}

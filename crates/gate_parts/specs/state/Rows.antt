@@ -23,7 +23,7 @@ use Rattle.gate_history.specs.declared.request.Request.{Request}
 use Rattle.gate_history.specs.state.Flight.{wide_ids}
 use Rattle.gate_history.specs.host.Responses.{route_gets}
 use Rattle.gate_history.specs.write.Answers.{without_packets, ret_unlink}
-use Rattle.gate_history.specs.write.Bytes.{host_packet_bytes}
+use Rattle.redir_data.specs.Sent.{sent_packet_bytes}
 use Rattle.gate_history.specs.write.Asked.{HasItsPackets}
 use Rattle.unlink_race.specs.declared.live.StreamEnd.{StreamEnd}
 
@@ -113,7 +113,7 @@ abbrev pub is_cancelled_row : Live → Bool
 is_cancelled_row l = is_wire_row l.kind && is_none l.unlinker
 
 abbrev pub cancel_bytes : Caps → Live → List ℕ
-cancel_bytes caps l = if is_cancelled_row l then host_packet_bytes caps (l.id, Plain plain.Cancel) else []
+cancel_bytes caps l = if is_cancelled_row l then sent_packet_bytes caps (l.id, Plain plain.Cancel) else []
 
 abbrev pub is_asked_back : Live → Bool
 is_asked_back l = not (is_none l.unlinker)

@@ -8,7 +8,7 @@ ghost use Rattle.gate_parts.specs.state.Rows.{kind_of, IsRead};
 ghost use Rattle.gate_history.specs.client.Carried.{IsRequest, IsCarried};
 
 use control_route::{Route, route_of};
-use gate_history::{MAX_NARROW, Pipe, Request, Situation, Verdict, is_in_setup};
+use gate_history::{MAX_NARROW, Pipe, Request, Situation, Verdict};
 use usb_base::errno::{EBUSY, EINVAL, EMSGSIZE, ENOENT, ESHUTDOWN};
 use usb_base::{EpKind, EpRow, Setup};
 use usbip_urb::{MAX_LIVE, laid};
@@ -44,7 +44,7 @@ pub fn by_setup(request: &Request, setup: &Setup) -> Verdict
     if !request.descs.is_empty() {
         return Verdict::Now(EINVAL);
     }
-    if setup.length != 0 && is_in_setup(setup) != request.is_in {
+    if setup.length != 0 && setup.is_in() != request.is_in {
         return Verdict::Now(EINVAL);
     }
     if u32::from(setup.length) != request.transfer.wanted {

@@ -1,9 +1,8 @@
 //! The streams of endpoints that are up.
 
 ghost use Rattle.std.specs.Prelude.{◌≡◌, [], Some, None, length, option_copied, slice_set};
-ghost use Rattle.usb_base.specs.Endpoint.{endpoint_index};
+ghost use Rattle.usb_base.specs.Endpoint.{endpoint_index, is_iso};
 ghost use Rattle.usb_base.specs.declared.endpoint.TheConstants.{ENDPOINTS};
-ghost use Rattle.gate_history.specs.client.Verdict.{is_iso};
 ghost use Rattle.gate_history.specs.state.Ups.{no_streams, stream_at, raise, lower, lower_at, unless, is_ended};
 
 use control_route::{Route, touches};

@@ -1,8 +1,7 @@
 //! The answers of submits and unlinks ("usbip_protocol", USBIP_RET_SUBMIT and USBIP_RET_UNLINK).
 
 ghost use Rattle.stream_buffers.specs.Fillings.{is_failed};
-ghost use Rattle.usb_base.specs.declared.limits.TheConstants.{MAX_TRANSFER};
-ghost use Rattle.usbip_urb.specs.declared.code.TheConstants.{MAX_PACKETS};
+ghost use Rattle.usb_base.specs.declared.limits.TheConstants.{MAX_TRANSFER, MAX_PACKETS};
 ghost use Rattle.usbip_urb.specs.Buffers.{laid};
 ghost use Rattle.std.specs.Prelude.{◌≡◌, false, IsTrue, ◌++◌, ◌≤◌, ◌<◌, filter, length, not, OnOk, OnErr, IfOk};
 ghost use Rattle.usbip_urb.specs.Spelling.{spelling};

@@ -8,7 +8,8 @@ ghost use Rattle.redir_wire.specs.Capability.{no_caps};
 ghost use Rattle.redir_wire.specs.declared.packet.RedirControl.TheVariants.{Cancel, Reset as ResetPacket, GetConfiguration as GetConfigurationPacket};
 ghost use Rattle.redir_data.specs.declared.packet.RedirPacket.TheVariants.{Plain, Carrying};
 ghost use Rattle.gate_history.specs.write.Packets.{wire_packet, route_packets, start_packet, stop_packet};
-ghost use Rattle.gate_history.specs.write.Bytes.{host_packet_bytes, gateway_hello};
+ghost use Rattle.redir_data.specs.Sent.{sent_packet_bytes};
+ghost use Rattle.gate_history.specs.write.Bytes.{gateway_hello};
 ghost use Rattle.gate_history.specs.state.Flight.{wide_ids};
 ghost use Rattle.gate_history.specs.client.Carried.{HasItsSetup, LengthFits};
 ghost use Rattle.gate_parts.specs.state.Rows.{cancel_bytes, is_cancelled_row};
@@ -85,7 +86,7 @@ pub fn packet_count(route: &Route) -> usize
 pub fn write_route(route: &Route, ids: &[u64], caps: Caps, out: &mut Bytes) -> Result<(), Memory>
     requires count { length ids.now ≡ length (route_packets route.now) }
     requires ids_fit { All (IdFits (wide_ids caps)) ids.now }
-    ensures ok { OnOk result (out.new ≡ out.old ++ flat_map (host_packet_bytes caps) (zip ids.now (route_packets route.now))) }
+    ensures ok { OnOk result (out.new ≡ out.old ++ flat_map (sent_packet_bytes caps) (zip ids.now (route_packets route.now))) }
     ensures err { OnErr result (out.new ≡ out.old) }
 {
     match (route, ids) {
@@ -120,7 +121,7 @@ pub fn write_route(route: &Route, ids: &[u64], caps: Caps, out: &mut Bytes) -> R
 fn write_reset(first: u64, second: u64, caps: Caps, out: &mut Bytes) -> Result<(), Memory>
     requires first_fits { IdFits (wide_ids caps) first }
     requires second_fits { IdFits (wide_ids caps) second }
-    ensures ok { OnOk result (out.new ≡ out.old ++ host_packet_bytes caps (first, Plain ResetPacket) ++ host_packet_bytes caps (second, Plain GetConfigurationPacket)) }
+    ensures ok { OnOk result (out.new ≡ out.old ++ sent_packet_bytes caps (first, Plain ResetPacket) ++ sent_packet_bytes caps (second, Plain GetConfigurationPacket)) }
     ensures err { OnErr result (out.new ≡ out.old) }
 {
     let before = out.len();
@@ -138,7 +139,7 @@ pub fn write_start(
     out: &mut Bytes,
 ) -> Result<(), Memory>
     requires { IdFits (wide_ids caps) id }
-    ensures ok { OnOk result (out.new ≡ out.old ++ host_packet_bytes caps (id, start_packet ep row)) }
+    ensures ok { OnOk result (out.new ≡ out.old ++ sent_packet_bytes caps (id, start_packet ep row)) }
     ensures err { OnErr result (out.new ≡ out.old) }
 {
     let endpoint = ep.byte();
@@ -157,7 +158,7 @@ pub fn write_start(
 /// Appends the stop of a stream. For want of memory `out` stands.
 pub fn write_stop(up: &Up, id: u64, caps: Caps, out: &mut Bytes) -> Result<(), Memory>
     requires { IdFits (wide_ids caps) id }
-    ensures ok { OnOk result (out.new ≡ out.old ++ host_packet_bytes caps (id, stop_packet up.now)) }
+    ensures ok { OnOk result (out.new ≡ out.old ++ sent_packet_bytes caps (id, stop_packet up.now)) }
     ensures err { OnErr result (out.new ≡ out.old) }
 {
     let endpoint = up.ep().byte();
@@ -171,7 +172,7 @@ pub fn write_stop(up: &Up, id: u64, caps: Caps, out: &mut Bytes) -> Result<(), M
 /// Appends the cancel of the packet that has this id. For want of memory `out` stands.
 pub fn write_cancel(id: u64, caps: Caps, out: &mut Bytes) -> Result<(), Memory>
     requires { IdFits (wide_ids caps) id }
-    ensures ok { OnOk result (out.new ≡ out.old ++ host_packet_bytes caps (id, Plain Cancel)) }
+    ensures ok { OnOk result (out.new ≡ out.old ++ sent_packet_bytes caps (id, Plain Cancel)) }
     ensures err { OnErr result (out.new ≡ out.old) }
 {
     write_control(&RedirControl::Cancel, id, caps, out)
@@ -179,7 +180,7 @@ pub fn write_cancel(id: u64, caps: Caps, out: &mut Bytes) -> Result<(), Memory>
 
 /// Appends the gateway's hello: its name, and the capabilities that it announces. For want of memory `out` stands.
 pub fn write_hello(alloc: Global, out: &mut Bytes) -> Result<(), Memory>
-    ensures ok { OnOk result (out.new ≡ out.old ++ host_packet_bytes no_caps (0, gateway_hello)) }
+    ensures ok { OnOk result (out.new ≡ out.old ++ sent_packet_bytes no_caps (0, gateway_hello)) }
     ensures err { OnErr result (out.new ≡ out.old) }
 {
     let hello = Hello::of(alloc, b"usbgate 1", Caps::ANNOUNCED)?;
@@ -202,7 +203,7 @@ pub fn write_cancel_of(live: &Live, caps: Caps, to_host: &mut Bytes) -> Result<(
 /// A disconnect is acknowledged where that is agreed.
 pub fn acknowledge(id: u64, caps: Caps, to_host: &mut Bytes) -> Result<(), Memory>
     requires { IdFits (wide_ids caps) id }
-    ensures ok { OnOk result (to_host.new ≡ to_host.old ++ flat_map (host_packet_bytes caps) (acknowledgements caps (Disconnects id))) }
+    ensures ok { OnOk result (to_host.new ≡ to_host.old ++ flat_map (sent_packet_bytes caps) (acknowledgements caps (Disconnects id))) }
     ensures err { OnErr result (to_host.new ≡ to_host.old) }
     ensures wants { OnErr result (0 < length (acknowledgements caps (Disconnects id))) }
 {

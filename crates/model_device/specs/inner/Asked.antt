@@ -16,7 +16,7 @@ use Rattle.chapter9.specs.declared.requests.Request.TheVariants.{Read, Write}
 use Rattle.chapter9.specs.Requests.{is_request, request_of}
 use Rattle.chapter9.specs.State.{is_configured, unconfigured}
 use Rattle.chapter9.specs.Standard.{changed_by, halted, is_endpoint, is_setting, state_by}
-use Rattle.model_device.specs.Transfer.{is_in_setup}
+use Rattle.usb_base.specs.Setup.{is_in_setup}
 use Rattle.model_device.specs.Gadget.{is_get_configuration, is_port_reset}
 
 -- ---- from a request back to its setup

@@ -25,7 +25,8 @@ use Rattle.chapter9.specs.State.{is_configured}
 use Rattle.chapter9.specs.Table.{class_of, table_of}
 use Rattle.chapter9.specs.Standard.{changed_by, given_by, outcome_by, read_outcome, stall, state_by, success, write_outcome}
 use Rattle.model_device.specs.declared.gadget.TheConstants.{MAX_STREAM_PACKET}
-use Rattle.model_device.specs.Transfer.{IsTransfer, IsOutcome, is_in_setup}
+use Rattle.usb_base.specs.Setup.{is_in_setup}
+use Rattle.model_device.specs.Transfer.{IsTransfer, IsOutcome}
 use Rattle.model_device.specs.Gadget.{IsGadget, IsNamed, SameFacts, is_get_configuration, is_port_reset}
 use Rattle.model_device.specs.Function.{IsFunction}
 use Rattle.model_device.specs.Device.{Device, State, device_parts, interfaces_of, is_running, meaning_of, offer, one_interface, perform, with_kept}

@@ -4,7 +4,7 @@ use Rattle.std.specs.Prelude.{◌==◌, ◌||◌, nat_lt, not}
 use Rattle.std.specs.List.{list_all}
 use Rattle.std.proofs.lemmas.Bool.{and_parts, and_from, ltb-false, false≢true, cases_eq, cases_lt, cases_Bool, cond_both}
 use Rattle.std.proofs.lemmas.List.{get_or-replicate, set_past}
-use Rattle.usb_base.specs.Endpoint.{endpoint_index, is_in_endpoint, no_endpoint, no_endpoints}
+use Rattle.usb_base.specs.Endpoint.{endpoint_index, is_in_endpoint, no_endpoint, no_endpoints, is_iso}
 use Rattle.usb_base.specs.declared.endpoint.EpRow.{EpRow}
 use Rattle.usb_base.specs.declared.endpoint.EpKind.{EpKind}
 use Rattle.usb_base.specs.declared.endpoint.EpKind.TheVariants.{Iso, Invalid}
@@ -13,7 +13,7 @@ use Rattle.chapter9.specs.declared.part.Part.TheVariants.{Config, Interface, End
 use Rattle.chapter9.specs.declared.state.DevState.{DevState}
 use Rattle.chapter9.specs.State.{is_configured}
 use Rattle.chapter9.specs.Table.{EndpointRow, control_in, control_out, control_row, control_rows, endpoints_after, interface_after, endpoint_rows, table_of, with_row, with_rows}
-use Rattle.model_device.specs.Function.{is_fine, is_fine_part, is_iso, no_iso_out}
+use Rattle.model_device.specs.Function.{is_fine, is_fine_part, no_iso_out}
 
 -- rows of which none below 16 is isochronous
 abbrev Fine : List EpRow → Type 0

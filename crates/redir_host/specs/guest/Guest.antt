@@ -1,23 +1,20 @@
 -- How a guest's bytes are read: its hello, and then packets with the capabilities that are agreed.
 use Rattle.std.specs.Prelude.{ℕ, List, [], ◌∷◌, ◌++◌, length, map, drop, Option, Some, None}
 use Rattle.usb_base.specs.declared.reason.Reason.{Reason}
-use Rattle.packet_stream.specs.Split.{Reader, Position, Splitting, reads, split}
+use Rattle.packet_stream.specs.Split.{Reader, Splitting, reads, split}
 use Rattle.packet_stream.specs.Streams.{capped}
 use Rattle.redir_wire.specs.declared.packet.Header.{Header}
 use Rattle.redir_wire.specs.declared.packet.Way.TheVariants.{ToHost}
 use Rattle.redir_data.specs.declared.packet.RedirPacket.{RedirPacket}
 use Rattle.redir_data.specs.declared.state.RedirState.{RedirState}
-use Rattle.redir_data.specs.Streams.{start, after, stream_format}
+use Rattle.redir_data.specs.Streams.{after, stream_format, stream_start}
 use Rattle.redir_host.specs.step.Items.{Item, Asked, Wrong}
 
 abbrev pub guest_reader : Reader RedirState (Header × RedirPacket) Reason
 guest_reader = reads (stream_format ToHost) after
 
-abbrev pub guest_start : Position RedirState
-guest_start = record { state = start; place = 0 }
-
 abbrev pub guest_split : List ℕ → Splitting RedirState (Header × RedirPacket) Reason
-guest_split bytes = split guest_reader guest_start bytes
+guest_split bytes = split guest_reader stream_start bytes
 
 -- ---- the items of bytes
 

@@ -1,13 +1,9 @@
 -- A host as a machine: a state that steps with each item, what goes to the guest, and what is told. Lists of items have
 -- the latest first.
-use Rattle.std.specs.Prelude.{ℕ, false, List, [], ◌∷◌, ◌++◌}
+use Rattle.std.specs.Prelude.{false, List, [], ◌∷◌, ◌++◌}
 use Rattle.std.specs.List.{flat_map}
-use Rattle.redir_wire.specs.declared.packet.Caps.{Caps}
-use Rattle.redir_wire.specs.Written.{packet_bytes}
-use Rattle.redir_data.specs.declared.packet.RedirPacket.{RedirPacket}
-use Rattle.redir_data.specs.declared.packet.RedirPacket.TheVariants.{Plain, Carrying}
+use Rattle.redir_data.specs.Sent.{sent_packet_bytes}
 use Rattle.redir_data.specs.Streams.{start}
-use Rattle.redir_data.specs.Written as carrying
 use Rattle.model_device.specs.Meaning.{Meaning}
 use Rattle.redir_host.specs.declared.state.host.Host.{Host}
 use Rattle.redir_host.specs.declared.write.note.HostNote.{HostNote}
@@ -35,13 +31,9 @@ run m s (x ∷ xs) = (move m (run m s xs) x).host
 
 -- ---- bytes
 
-abbrev pub told_bytes : Caps → ℕ × RedirPacket → List ℕ
-told_bytes caps (id, Plain p) = packet_bytes id caps p
-told_bytes caps (id, Carrying p) = carrying.packet_bytes id caps p
-
 -- by the capabilities that are agreed once the item has come
 abbrev pub bytes_of : {S : Type 0} → Move S → List ℕ
-bytes_of v = flat_map (told_bytes v.host.guest.caps) v.sent
+bytes_of v = flat_map (sent_packet_bytes v.host.guest.caps) v.sent
 
 abbrev pub notes_of : {S : Type 0} → Move S → List HostNote
 notes_of v = v.notes

@@ -26,7 +26,8 @@ use Rattle.redir_host.specs.declared.state.request.Form.TheVariants as form
 use Rattle.redir_host.specs.declared.state.request.Request.{Request}
 use Rattle.redir_host.specs.write.Answers.{cancelled}
 use Rattle.redir_host.specs.device.Changes.{touched}
-use Rattle.redir_host.specs.step.Machine.{told_bytes, bytes_of}
+use Rattle.redir_data.specs.Sent.{sent_packet_bytes}
+use Rattle.redir_host.specs.step.Machine.{bytes_of}
 use Rattle.redir_host.specs.step.Moves.{Move}
 use Rattle.redir_host.specs.device.Performing.{told_performed_by, perform_move_by}
 use Rattle.redir_host.specs.write.Readable.{InRange}
@@ -62,7 +63,7 @@ IdFitsOf caps id p = is_hello p ≡ false → IdFits (is_wide false caps) id
 
 -- the bytes of the answers of those that a change flushes
 abbrev pub flushed_bytes : Caps → Route → EpTable → List Request → List ℕ
-flushed_bytes caps r table queue = flat_map (told_bytes caps) (map cancelled (filter (touched r table) queue))
+flushed_bytes caps r table queue = flat_map (sent_packet_bytes caps) (map cancelled (filter (touched r table) queue))
 
 -- the answer of a request of this form and endpoint can be written
 abbrev pub LengthFits : Caps → Form → ℕ → Type 0

@@ -10,7 +10,8 @@ use Rattle.redir_host.specs.declared.state.host.Host.{Host}
 use Rattle.redir_host.specs.declared.write.note.HostNote.{HostNote}
 use Rattle.redir_host.specs.step.Acts.{Act}
 use Rattle.redir_host.specs.step.History.{brought, history}
-use Rattle.redir_host.specs.step.Machine.{run, told_bytes, bytes_of, notes_of, all_given, given_by}
+use Rattle.redir_data.specs.Sent.{sent_packet_bytes}
+use Rattle.redir_host.specs.step.Machine.{run, bytes_of, notes_of, all_given, given_by}
 
 -- the host's hello: its name, and the capabilities that it announces
 abbrev pub host_hello : RedirControl
@@ -21,7 +22,7 @@ abbrev pub first_packet : ℕ × RedirPacket
 first_packet = (0, Plain host_hello)
 
 abbrev pub hello_bytes : List ℕ
-hello_bytes = told_bytes no_caps first_packet
+hello_bytes = sent_packet_bytes no_caps first_packet
 
 -- the state after these acts of the host of a device that began in state s
 abbrev pub host_of : {S : Type 0} → Meaning S → S → List Act → Host S

@@ -10,7 +10,7 @@ ghost use Rattle.redir_host.specs.declared.state.request.Request.{Request as Ask
 ghost use Rattle.redir_host.specs.write.Answers.{answer};
 ghost use Rattle.redir_host.specs.device.Changes.{changed, cleared};
 ghost use Rattle.redir_host.specs.device.Facts.{facts_of};
-ghost use Rattle.redir_host.specs.step.Machine.{told_bytes};
+ghost use Rattle.redir_data.specs.Sent.{sent_packet_bytes};
 ghost use Rattle.redir_host.specs.step.Makes.{Makes, TellsPerformed, Tells};
 ghost use Rattle.redir_host.specs.guest.Asking.{routed};
 ghost use Rattle.redir_host.specs.device.Performing.{does, done_by, performed, performs, performs_marked, perform_move, resets, told_performed, with_id};
@@ -175,7 +175,7 @@ impl<G: Gadget> Host<G> {
     fn answer(&self, request: &Request, outcome: Outcome, out: &mut Bytes) -> Result<(), Memory>
         requires request { IsRequest self.now.guest request.now }
         requires outcome { IsOutcome request.now.transfer outcome }
-        ensures ok { OnOk result (out.new ≡ out.old ++ told_bytes self.now.guest.caps (answer (G.meaning.configuration self.now.gadget) request.now outcome)) }
+        ensures ok { OnOk result (out.new ≡ out.old ++ sent_packet_bytes self.now.guest.caps (answer (G.meaning.configuration self.now.gadget) request.now outcome)) }
         ensures err { OnErr result (out.new ≡ out.old) }
     {
         let configuration = self.gadget.configuration();
@@ -211,7 +211,7 @@ impl<G: Gadget> Host<G> {
 
     /// Tells the endpoints and the interfaces as they are now.
     pub fn tell_facts(&self, out: &mut Bytes) -> Result<(), Memory>
-        ensures ok { OnOk result (out.new ≡ out.old ++ flat_map (told_bytes self.now.guest.caps) (facts_of self.now.guest.caps G.meaning self.now.gadget)) }
+        ensures ok { OnOk result (out.new ≡ out.old ++ flat_map (sent_packet_bytes self.now.guest.caps) (facts_of self.now.guest.caps G.meaning self.now.gadget)) }
         ensures ranges { OnOk result (AllByRecursion InRange (facts_of self.now.guest.caps G.meaning self.now.gadget)) }
         ensures err { OnErr result (Begins out.old out.new) }
     {

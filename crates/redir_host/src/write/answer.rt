@@ -6,7 +6,7 @@ ghost use Rattle.packet_stream.specs.Writes.{Begins};
 ghost use Rattle.redir_wire.specs.Header.{IdFits, is_wide};
 ghost use Rattle.chapter9.specs.Standard.{ended};
 ghost use Rattle.redir_host.specs.write.Answers.{alt_in, answer_by, cancelled};
-ghost use Rattle.redir_host.specs.step.Machine.{told_bytes};
+ghost use Rattle.redir_data.specs.Sent.{sent_packet_bytes};
 ghost use Rattle.redir_host.specs.step.Makes.{AnswerFits, flushed_bytes};
 ghost use Rattle.redir_host.specs.state.Sound.{DoneFits};
 
@@ -82,7 +82,7 @@ pub fn write_answer(
 ) -> Result<(), Memory>
     requires id_fits { IdFits (is_wide false caps) id }
     requires answer_fits { AnswerFits caps form endpoint outcome }
-    ensures ok { OnOk result (out.new ≡ out.old ++ told_bytes caps (id, answer_by configuration form endpoint outcome)) }
+    ensures ok { OnOk result (out.new ≡ out.old ++ sent_packet_bytes caps (id, answer_by configuration form endpoint outcome)) }
     ensures err { OnErr result (out.new ≡ out.old) }
 {
     let answer = answer_of(configuration, form, endpoint, outcome);
@@ -100,7 +100,7 @@ pub fn write_ended(
     out: &mut Bytes,
 ) -> Result<(), Memory>
     requires { IdFits (is_wide false caps) id }
-    ensures ok { OnOk result (out.new ≡ out.old ++ told_bytes caps (id, answer_by 0 form endpoint (ended status))) }
+    ensures ok { OnOk result (out.new ≡ out.old ++ sent_packet_bytes caps (id, answer_by 0 form endpoint (ended status))) }
     ensures err { OnErr result (out.new ≡ out.old) }
 {
     write_answer(0, id, form, endpoint, ended(alloc, status), caps, out)
@@ -114,7 +114,7 @@ pub fn write_cancelled(
     out: &mut Bytes,
 ) -> Result<(), Memory>
     requires { IdFits (is_wide false caps) request.now.id }
-    ensures ok { OnOk result (out.new ≡ out.old ++ told_bytes caps (cancelled request.now)) }
+    ensures ok { OnOk result (out.new ≡ out.old ++ sent_packet_bytes caps (cancelled request.now)) }
     ensures err { OnErr result (out.new ≡ out.old) }
 {
     let status = UsbStatus::Cancelled;

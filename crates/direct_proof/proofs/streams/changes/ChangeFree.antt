@@ -11,7 +11,7 @@ use Rattle.gate_history.proofs.lemmas.Lists.{Each-append}
 use Rattle.gate_history.specs.write.Packets.{stops, stop_packet, route_packets}
 use Rattle.gate_history.specs.state.State.{State}
 use Rattle.gate_history.specs.state.Ups.{Up, is_ended}
-use Rattle.gate_history.specs.client.Verdict.{is_iso}
+use Rattle.usb_base.specs.Endpoint.{is_iso}
 use Rattle.direct_proof.specs.Requests.{Entry}
 use Rattle.direct_proof.specs.Cancels.{CancelsFit, IsAsking, begins, is_cancel, left, moved}
 use Rattle.direct_proof.proofs.shared.Folds.{clash}

@@ -7,7 +7,7 @@ use Rattle.redir_data.specs.declared.packet.RedirPacket.{RedirPacket}
 use Rattle.redir_data.specs.declared.packet.RedirPacket.TheVariants.{Plain}
 use Rattle.gate_history.specs.write.Packets.{stop_packet, stops}
 use Rattle.gate_history.specs.state.Ups.{Up}
-use Rattle.gate_history.specs.client.Verdict.{is_iso}
+use Rattle.usb_base.specs.Endpoint.{is_iso}
 use Rattle.direct_proof.specs.Shared.{lines}
 use Rattle.direct_proof.specs.Kinds.{IsIn, UpsFit, UpFits, StreamIsIn}
 use Rattle.direct_proof.specs.Running.{stream_endpoint, started_kind, runs_after, Quits, Trails}

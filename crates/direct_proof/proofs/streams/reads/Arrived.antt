@@ -8,7 +8,7 @@ use Rattle.model_device.specs.Meaning.{Meaning}
 use Rattle.gate_history.specs.host.Fillings.{Fill}
 use Rattle.gate_history.specs.state.Sound.{IsSound}
 use Rattle.gate_history.specs.step.Meaning.{mark_as, arrives}
-use Rattle.gate_history.specs.client.Verdict.{is_iso}
+use Rattle.usb_base.specs.Endpoint.{is_iso}
 use Rattle.gate_history.specs.state.Ups.{Up, stream_of, hold}
 use Rattle.direct_device.specs.Direct.{Direct}
 use Rattle.direct_device.specs.Acting.{Answer, Arrive, received, arrived_by}

@@ -3,7 +3,7 @@ use Rattle.std.specs.Bool.{beq}
 use Rattle.std.proofs.Common.{◌≡◌, ℕ, suc, ◌≤◌, ◌==◌, ◌&&◌, not, nat_lt, Bool, true, false, cond, List, [], ◌∷◌, ◌++◌, map, filter, Option, Some, None, is_none, refl, sym, ap, ◌∙◌, arith, append-nil}
 use Rattle.std.specs.Option.{option_map}
 use Rattle.std.specs.List.{flat_map}
-use Rattle.usb_base.specs.Endpoint.{is_in_endpoint}
+use Rattle.usb_base.specs.Endpoint.{is_in_endpoint, is_iso}
 use Rattle.usb_base.specs.declared.status.UsbStatus.{UsbStatus}
 use Rattle.usb_base.specs.declared.transfer.StreamPacket.{StreamPacket}
 use Rattle.stream_buffers.specs.Held.{is_full}
@@ -26,7 +26,7 @@ use Rattle.gate_history.specs.declared.note.Note.{Note}
 use Rattle.gate_history.specs.declared.note.Note.TheVariants as note
 use Rattle.gate_history.specs.declared.verdict.Verdict.{Verdict}
 use Rattle.gate_history.specs.declared.verdict.Verdict.TheVariants.{Now}
-use Rattle.gate_history.specs.client.Verdict.{is_iso, goes_by_id}
+use Rattle.gate_history.specs.client.Verdict.{goes_by_id}
 use Rattle.gate_history.specs.state.Ups.{Up, stream_of, hold}
 use Rattle.gate_history.proofs.lemmas.Lists.{filter-all, filter-map, map-map}
 use Rattle.gate_history.proofs.lemmas.step.NoCancel.{asks-none, none-cancelled, stays-uncancelled}

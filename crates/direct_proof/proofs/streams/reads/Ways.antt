@@ -4,7 +4,7 @@ use Rattle.std.specs.Option.{option_map}
 use Rattle.usb_base.specs.declared.endpoint.EpRow.{EpRow}
 use Rattle.usb_base.specs.declared.transfer.StreamPacket.{StreamPacket}
 use Rattle.redir_host.specs.declared.state.running.StreamKind.{StreamKind}
-use Rattle.gate_history.specs.client.Verdict.{is_iso}
+use Rattle.usb_base.specs.Endpoint.{is_iso}
 use Rattle.gate_history.specs.state.Ups.{Up, stream_of}
 use Rattle.direct_proof.specs.Tagged.{Tagged, Packed, packets_in, is_kind}
 use Rattle.direct_proof.specs.Shared.{way_of}

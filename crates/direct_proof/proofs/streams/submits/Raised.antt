@@ -2,7 +2,7 @@
 use Rattle.direct_proof.proofs.streams.submits.RaisedLists.{packets-none, none-runs}
 use Rattle.std.proofs.Common.{◌≡◌, ℕ, ◌+◌, ◌≤◌, ◌==◌, ◌||◌, ◌⊎◌, Bool, true, false, cond, List, [], ◌∷◌, ◌++◌, Option, Some, None, is_none, refl, sym, ap, ◌∙◌, subst, arith, append-nil}
 use Rattle.std.specs.List.{list_any, AllByRecursion as Each}
-use Rattle.usb_base.specs.Endpoint.{row_of}
+use Rattle.usb_base.specs.Endpoint.{row_of, is_iso}
 use Rattle.usb_base.specs.declared.endpoint.EpKind.TheVariants as kind
 use Rattle.usb_base.specs.declared.endpoint.EpRow.{EpRow}
 use Rattle.redir_wire.specs.declared.packet.RedirControl.TheVariants as plain
@@ -14,7 +14,6 @@ use Rattle.gate_history.specs.state.StreamIds.{ids_of_streams, started}
 use Rattle.gate_history.specs.state.Ids.{times, holds}
 use Rattle.gate_history.specs.write.Packets.{start_packet}
 use Rattle.gate_history.specs.state.Ups.{Up, stream_of}
-use Rattle.gate_history.specs.client.Verdict.{is_iso}
 use Rattle.gate_history.proofs.lemmas.state.StreamIds.{AreLong, times-append}
 use Rattle.direct_device.specs.Direct.{way_if}
 use Rattle.direct_run.specs.Moves.{World}

@@ -4,7 +4,7 @@ use Rattle.std.specs.Prelude.{get_or, slice_set}
 use Rattle.std.specs.List.{list_any, flat_map, AllByRecursion as Each}
 use Rattle.std.specs.Option.{option_to_list}
 use Rattle.std.proofs.lemmas.List.{get_or-set_same, get_or-set_other}
-use Rattle.usb_base.specs.Endpoint.{endpoint_index, is_in_endpoint, row_of}
+use Rattle.usb_base.specs.Endpoint.{endpoint_index, is_in_endpoint, row_of, is_iso}
 use Rattle.usb_base.specs.declared.endpoint.EpKind.{EpKind}
 use Rattle.usb_base.specs.declared.endpoint.EpKind.TheVariants as kind
 use Rattle.usb_base.specs.declared.endpoint.EpRow.{EpRow}
@@ -18,7 +18,6 @@ use Rattle.redir_host.specs.guest.Packets.{can_start, is_kind_of}
 use Rattle.gate_history.specs.state.StreamIds.{StreamIds, ids_of_streams, started}
 use Rattle.gate_history.specs.state.Ids.{times, holds}
 use Rattle.gate_history.specs.write.Packets.{start_packet}
-use Rattle.gate_history.specs.client.Verdict.{is_iso}
 use Rattle.gate_history.proofs.lemmas.state.StreamIds.{AreLong, times-append}
 use Rattle.direct_proof.specs.Tagged.{Tagged, Stated, is_kind}
 use Rattle.direct_proof.specs.Kinds.{IsIn}

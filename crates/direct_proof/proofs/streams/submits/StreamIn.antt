@@ -1,7 +1,7 @@
 -- A submit that waits for a stream is one of an IN endpoint's address.
 use Rattle.std.proofs.Common.{◌≡◌, ℕ, ◌+◌, ◌-◌, ◌≤◌, ◌<◌, ◌==◌, ◌⊎◌, inl, inr, nat_lt, not, Bool, true, false, cond, length, Some, None, refl, sym, ap, ◌∙◌, subst, arith}
 use Rattle.std.proofs.lemmas.List.{get_or_past}
-use Rattle.usb_base.specs.Setup.{setup_at}
+use Rattle.usb_base.specs.Setup.{setup_at, is_in_setup}
 use Rattle.usb_base.specs.Endpoint.{endpoint_index, no_endpoint, row_of}
 use Rattle.usb_base.specs.declared.setup.Setup.{Setup}
 use Rattle.usb_base.specs.declared.endpoint.EpKind.TheVariants as kind
@@ -13,7 +13,7 @@ use Rattle.usbip_urb.specs.declared.client.ClientPacket.TheVariants.{Urb}
 use Rattle.usbip_urb.specs.Sizes.{is_out}
 use Rattle.model_device.specs.Meaning.{Meaning}
 use Rattle.gate_history.specs.declared.item.Item.TheVariants.{Asked}
-use Rattle.gate_history.specs.client.Requests.{request_of, address, is_in_setup}
+use Rattle.gate_history.specs.client.Requests.{request_of, address}
 use Rattle.gate_history.specs.state.State.{has_number}
 use Rattle.gate_history.specs.step.Meaning.{verdict_of, situation}
 use Rattle.gate_history.specs.declared.verdict.Verdict.TheVariants.{Stream}

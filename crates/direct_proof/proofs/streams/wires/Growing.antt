@@ -11,7 +11,7 @@ use Rattle.gate_history.specs.state.Facts.{tell}
 use Rattle.gate_history.specs.step.Meaning.{fact_of}
 use Rattle.gate_history.specs.state.Ups.{Up, stream_of}
 use Rattle.gate_history.specs.declared.facts.Facts.{Facts}
-use Rattle.gate_history.specs.client.Verdict.{is_iso}
+use Rattle.usb_base.specs.Endpoint.{is_iso}
 use Rattle.direct_device.specs.Direct.{way_if}
 use Rattle.direct_proof.specs.Requests.{Coming}
 use Rattle.direct_proof.specs.Tagged.{Tagged, Packed, Stated, on_wire, runs_in, ran_in, told, packets_in, is_kind}

@@ -4,14 +4,13 @@ use Rattle.std.specs.Prelude.{get_or, slice_set}
 use Rattle.std.specs.List.{AllByRecursion as Each}
 use Rattle.std.specs.Option.{option_map}
 use Rattle.std.proofs.lemmas.List.{get_or-set_same, get_or-set_other, length-set}
-use Rattle.usb_base.specs.Endpoint.{endpoint_index}
+use Rattle.usb_base.specs.Endpoint.{endpoint_index, is_iso}
 use Rattle.usb_base.specs.declared.endpoint.EpRow.{EpRow}
 use Rattle.usb_base.specs.declared.transfer.StreamPacket.{StreamPacket}
 use Rattle.redir_data.specs.declared.packet.RedirPacket.{RedirPacket}
 use Rattle.redir_host.specs.declared.state.running.Running.{Running}
 use Rattle.redir_host.specs.declared.state.running.StreamKind.{StreamKind}
 use Rattle.gate_history.specs.state.Ups.{Up, stream_at, stream_of, hold}
-use Rattle.gate_history.specs.client.Verdict.{is_iso}
 use Rattle.direct_proof.specs.Tagged.{Tagged, Answered, Packed, Stated, is_kind}
 use Rattle.direct_proof.specs.Kinds.{IsIn, OfKind, TaggedOfKind, StartOfKind, UpsFit, UpFits}
 use Rattle.direct_proof.specs.Session.{down_in}

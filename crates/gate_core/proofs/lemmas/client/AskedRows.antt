@@ -11,7 +11,7 @@ use Rattle.unlink_race.specs.declared.unlink.AskedBack.TheVariants.{Already, Can
 use Rattle.usbip_urb.specs.Spelling.{spelling}
 use Rattle.usb_base.specs.declared.errno.TheConstants.{ECONNRESET}
 use Rattle.gate_history.specs.write.Answers.{ret_unlink}
-use Rattle.gate_history.specs.write.Bytes.{host_packet_bytes}
+use Rattle.redir_data.specs.Sent.{sent_packet_bytes}
 use Rattle.gate_parts.specs.state.Rows.{is_wire_row}
 
 -- ---- of every row
@@ -26,7 +26,7 @@ abbrev pub is_taken_row : ℕ → Live → Bool
 is_taken_row target l = is_stream l.kind && (l.seqnum == target)
 
 abbrev pub cancel_row : Caps → ℕ → Live → List ℕ
-cancel_row caps target l = if is_wire_row l.kind && is_target_row target l then host_packet_bytes caps (l.id, Plain plain.Cancel) else []
+cancel_row caps target l = if is_wire_row l.kind && is_target_row target l then sent_packet_bytes caps (l.id, Plain plain.Cancel) else []
 
 -- those that stay
 abbrev pub asked_rows : ℕ → ℕ → List Live → List Live
@@ -51,5 +51,5 @@ taken_bytes by (Some Taken) = spelling (ret_unlink by ECONNRESET)
 taken_bytes by _ = []
 
 abbrev pub asked_bytes : Caps → Option AskedBack → List ℕ
-asked_bytes caps (Some (Cancel id)) = host_packet_bytes caps (id, Plain plain.Cancel)
+asked_bytes caps (Some (Cancel id)) = sent_packet_bytes caps (id, Plain plain.Cancel)
 asked_bytes caps _ = []

@@ -33,7 +33,7 @@ use Rattle.gate_history.specs.state.Sound.{IsSound}
 use Rattle.gate_history.specs.write.Answers.{without_packets}
 use Rattle.gate_history.specs.write.Output.{fresh}
 use Rattle.gate_history.specs.write.All.{is_ret_submit, is_won_unlink}
-use Rattle.gate_history.specs.write.Bytes.{host_packet_bytes}
+use Rattle.redir_data.specs.Sent.{sent_packet_bytes}
 use Rattle.gate_history.specs.step.Machine.{live_after}
 use Rattle.gate_parts.specs.state.Rows.{row, row_request, ended_bytes}
 use Rattle.gate_core.specs.inner.Holds.{Holds, Does}
@@ -115,7 +115,7 @@ module _ (st : State) (sound : IsSound st) (q : Request) (r : Route) where
         answered = capped (old.answered + length (filter (touched_by r) old.lives.live));
       } →
       out_new.to_client ≡ out_old.to_client ++ flat_map (ended_bytes (Change r) ESHUTDOWN) old.lives.live →
-      out_new.to_host ≡ out_old.to_host ++ flat_map (host_packet_bytes old.caps) (zip (drawn_for st q (Routed r)) (packets_of st.streams (Routed r) q)) →
+      out_new.to_host ≡ out_old.to_host ++ flat_map (sent_packet_bytes old.caps) (zip (drawn_for st q (Routed r)) (packets_of st.streams (Routed r) q)) →
       out_new.notes ≡ out_old.notes ++ note.Submitted q.number change.id ∷ [] →
       Does st (mark_as st (Opens change) None) old new out_old out_new
   does-change old new out_old out_new h unlinked_fits dropped_fits is client host notes =
@@ -132,5 +132,5 @@ module _ (st : State) (sound : IsSound st) (q : Request) (r : Route) where
       (client ∙ ap (λ (bs : List ℕ). out_old.to_client ++ bs)
       (ap (flat_map (ended_bytes (Change r) ESHUTDOWN)) h.live ∙ sym (ended-bytes e (touched_by r) packet st.live all-so)
       ∙ ap (λ (ps : List UrbPacket). flat_map client_spelling (map Urb ps)) (sym change-sent)))
-      (host ∙ (λ i. out_old.to_host ++ flat_map (host_packet_bytes (h.caps i)) (sym (none-cancelled e stays-uncancelled st.live) i ++ zip (drawn_for st q (Routed r)) (packets_of st.streams (Routed r) q))))
+      (host ∙ (λ i. out_old.to_host ++ flat_map (sent_packet_bytes (h.caps i)) (sym (none-cancelled e stays-uncancelled st.live) i ++ zip (drawn_for st q (Routed r)) (packets_of st.streams (Routed r) q))))
       (notes ∙ ap (λ (ns : List Note). out_old.notes ++ note.Submitted q.number change.id ∷ ns) (sym (change-noted st change touched (ByStatus ESHUTDOWN) others own refl)))

@@ -32,7 +32,7 @@ use Rattle.gate_history.specs.step.Meaning.{mark_as, drawn_by}
 use Rattle.gate_history.specs.write.Output.{fresh, present, answered, cancels, cancel, acknowledgements, to_client}
 use Rattle.gate_history.specs.write.Notes.{when, answer_notes, refusal_notes, dropped}
 use Rattle.gate_history.specs.write.All.{is_ret_submit, is_won_unlink}
-use Rattle.gate_history.specs.write.Bytes.{host_packet_bytes}
+use Rattle.redir_data.specs.Sent.{sent_packet_bytes}
 use Rattle.gate_history.specs.step.Machine.{live_after}
 use Rattle.gate_parts.specs.state.Rows.{row, unmarked, left_row, cancel_bytes}
 use Rattle.gate_core.specs.inner.Holds.{Holds, Does, left_by}
@@ -81,7 +81,7 @@ module _ (st : State) (e : Effect) (over : is_quiet e ≡ false) (gone : leaves 
   -- what is kept, sent and told
   pub does-leave : (c : SentIds) (old new : Kept) (out : Outputs) (host_new : List ℕ) (notes_new : List Note) → Holds old st → old.answered ≤ 2 ^ 64 - 1 → old.unlinked ≤ 2 ^ 64 - 1 → HasParted st e c →
       new ≡ record (left_by c old) { client_over = turned refuses_client ends_client e old.client_over } →
-      host_new ≡ out.to_host ++ (flat_map (cancel_bytes old.caps) old.lives.live ++ flat_map (host_packet_bytes old.caps) (zip (drawn_by st e) (asked_packets st.streams e))) →
+      host_new ≡ out.to_host ++ (flat_map (cancel_bytes old.caps) old.lives.live ++ flat_map (sent_packet_bytes old.caps) (zip (drawn_by st e) (asked_packets st.streams e))) →
       notes_new ≡ out.notes ++ (when (not old.client_over) note.ClientGone ++ refusal_notes (refused_at e)) →
       Does st (mark_as st e None) old new out (record out { to_host = host_new; notes = notes_new })
   does-leave c old new out host_new notes_new h answered_fits unlinked_fits parted is host notes =
@@ -112,8 +112,8 @@ module _ (st : State) (e : Effect) (over : is_quiet e ≡ false) (gone : leaves 
       ∙ ap (λ (b : Bool). map left_row (cond b (st.abandoned ++ filter (λ s. goes_by_id s.verdict) (submits st)) (cond (is_loss e) [] (filter (λ s. not (is_answered e s)) st.abandoned)))) (sym gone))
       (sym (append-nil out.to_client) ∙ ap (λ (ps : List ClientPacket). out.to_client ++ flat_map client_spelling ps) (sym left-answers))
       (host ∙ ap (λ (bs : List ℕ). out.to_host ++ bs)
-      ((λ i. flat_map (cancel_bytes (h.caps i)) (h.live i) ++ flat_map (host_packet_bytes (h.caps i)) asking) ∙ ap (λ (bs : List ℕ). bs ++ flat_map (host_packet_bytes st.agreed) asking) (cancel-rows st.agreed (cancels e) (leaving-cancels st e over gone) st.live)
-      ∙ sym (flat_map-append (host_packet_bytes st.agreed) (map cancel (filter (cancels e) st.live)) asking)
-      ∙ ap (flat_map (host_packet_bytes st.agreed)) (sym (append-nil (map cancel (filter (cancels e) st.live) ++ asking)) ∙ (λ i. (map cancel (filter (cancels e) st.live) ++ asking) ++ sym no-word i))))
+      ((λ i. flat_map (cancel_bytes (h.caps i)) (h.live i) ++ flat_map (sent_packet_bytes (h.caps i)) asking) ∙ ap (λ (bs : List ℕ). bs ++ flat_map (sent_packet_bytes st.agreed) asking) (cancel-rows st.agreed (cancels e) (leaving-cancels st e over gone) st.live)
+      ∙ sym (flat_map-append (sent_packet_bytes st.agreed) (map cancel (filter (cancels e) st.live)) asking)
+      ∙ ap (flat_map (sent_packet_bytes st.agreed)) (sym (append-nil (map cancel (filter (cancels e) st.live) ++ asking)) ∙ (λ i. (map cancel (filter (cancels e) st.live) ++ asking) ++ sym no-word i))))
       (notes ∙ ap (λ (ns : List Note). out.notes ++ ns)
       (λ i. (((sym o.no_notes i ++ sym left-notes i) ++ when ((sym keeps i && st.imported) && not st.lost) note.DeviceGone) ++ when (sym gone i && not (h.client_over i)) note.ClientGone) ++ refusal_notes (refused_at e)))

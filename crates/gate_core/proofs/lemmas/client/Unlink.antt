@@ -30,7 +30,7 @@ use Rattle.gate_history.specs.state.Sound.{IsSound}
 use Rattle.gate_history.specs.write.Answers.{ret_unlink}
 use Rattle.gate_history.specs.write.Output.{is_target, is_taken, cancels, cancel}
 use Rattle.gate_history.specs.write.All.{is_ret_submit, is_won_unlink}
-use Rattle.gate_history.specs.write.Bytes.{host_packet_bytes}
+use Rattle.redir_data.specs.Sent.{sent_packet_bytes}
 use Rattle.gate_history.specs.step.Machine.{ask}
 use Rattle.gate_parts.specs.state.Rows.{row, row_of}
 use Rattle.gate_core.proofs.lemmas.client.AskedRows.{asked_row, is_taken_row, cancel_row, asked_rows, is_late, taken_count, taken_bytes, asked_bytes}
@@ -81,12 +81,12 @@ found-rows caps by target [] h = refl
 found-rows caps by target (p ∷ ps) h =
     λ i. ((by_id-row p.submit p.unlinker i && (p.submit.request.number == target) && is_none p.unlinker) || (stream-row p h.0 i && (p.submit.request.number == target))) || found-rows caps by target ps h.1 i
 
-cancelled-rows : (caps : Caps) (by target : ℕ) (ps : List Pending) → flat_map (cancel_row caps target) (map row ps) ≡ flat_map (host_packet_bytes caps) (map cancel (filter (cancels (Unlinks by target)) ps))
+cancelled-rows : (caps : Caps) (by target : ℕ) (ps : List Pending) → flat_map (cancel_row caps target) (map row ps) ≡ flat_map (sent_packet_bytes caps) (map cancel (filter (cancels (Unlinks by target)) ps))
 cancelled-rows caps by target [] = refl
 cancelled-rows caps by target (p ∷ ps) =
-    (λ i. cond (wire-row p.submit.verdict p.submit.request.transfer.ep i && (by_id-row p.submit p.unlinker i && (p.submit.request.number == target) && is_none p.unlinker)) (host_packet_bytes caps (p.submit.id, Plain plain.Cancel)) [] ++ cancelled-rows caps by target ps i)
-    ∙ elim (cancels (Unlinks by target) p) as (λ b. cond b (host_packet_bytes caps (p.submit.id, Plain plain.Cancel)) [] ++ flat_map (host_packet_bytes caps) (map cancel (filter (cancels (Unlinks by target)) ps))
-    ≡ flat_map (host_packet_bytes caps) (map cancel (cond b (p ∷ filter (cancels (Unlinks by target)) ps) (filter (cancels (Unlinks by target)) ps)))) [ true ↦ refl | false ↦ refl ]
+    (λ i. cond (wire-row p.submit.verdict p.submit.request.transfer.ep i && (by_id-row p.submit p.unlinker i && (p.submit.request.number == target) && is_none p.unlinker)) (sent_packet_bytes caps (p.submit.id, Plain plain.Cancel)) [] ++ cancelled-rows caps by target ps i)
+    ∙ elim (cancels (Unlinks by target) p) as (λ b. cond b (sent_packet_bytes caps (p.submit.id, Plain plain.Cancel)) [] ++ flat_map (sent_packet_bytes caps) (map cancel (filter (cancels (Unlinks by target)) ps))
+    ≡ flat_map (sent_packet_bytes caps) (map cancel (cond b (p ∷ filter (cancels (Unlinks by target)) ps) (filter (cancels (Unlinks by target)) ps)))) [ true ↦ refl | false ↦ refl ]
 
 pub one-numbered : (t : Kept) (st : State) (target : ℕ) → Holds t st → IsSound st → length (filter (has_number target) t.lives.live) ≤ 1
 one-numbered t st target h sound =

@@ -17,7 +17,7 @@ use Rattle.unlink_race.specs.Unlinking.{asked_as, asked_back, left_as, unlinked_
 use Rattle.unlink_race.specs.declared.unlink.AskedBack.{AskedBack}
 use Rattle.unlink_race.specs.declared.unlink.AskedBack.TheVariants.{Already, Cancel, Waits, Taken}
 use Rattle.unlink_race.proofs.Firsts.{took_first, took_none}
-use Rattle.gate_history.specs.write.Bytes.{host_packet_bytes}
+use Rattle.redir_data.specs.Sent.{sent_packet_bytes}
 use Rattle.gate_parts.specs.state.Rows.{is_wire_row}
 use Rattle.gate_history.proofs.lemmas.Lists.{Each}
 use Rattle.gate_history.proofs.lemmas.step.NoCancel.{or_else-none}
@@ -61,7 +61,7 @@ module _ (caps : Caps) (target by : ℕ) where
         same = λ i. record l { unlinker = (ap (λ (b : Bool). option_or l.unlinker (cond b (Some by) None)) no ∙ or_else-none l.unlinker) i };
         no_target = none;
         not_taken = ap (λ (b : Bool). is_stream l.kind && b) e ∙ and-false (is_stream l.kind);
-        silent = ap (λ (b : Bool). cond b (host_packet_bytes caps (l.id, Plain plain.Cancel)) []) (ap (λ (b : Bool). is_wire_row l.kind && b) none ∙ and-false (is_wire_row l.kind));
+        silent = ap (λ (b : Bool). cond b (sent_packet_bytes caps (l.id, Plain plain.Cancel)) []) (ap (λ (b : Bool). is_wire_row l.kind && b) none ∙ and-false (is_wire_row l.kind));
       }
 
   -- ahead of the others
@@ -101,7 +101,7 @@ module _ (caps : Caps) (target by : ℕ) where
         late = λ i. (and-false (l.seqnum == target) i || false) || rest.late i;
         count = rest.count;
         back = rest.back;
-        bytes = λ i. cond (sym (and-false (l.seqnum == target)) i) (host_packet_bytes caps (l.id, Plain plain.Cancel)) [] ++ rest.bytes i;
+        bytes = λ i. cond (sym (and-false (l.seqnum == target)) i) (sent_packet_bytes caps (l.id, Plain plain.Cancel)) [] ++ rest.bytes i;
       }
       of (Some other) (live_kind.Routed route) h = record {
         rows = λ i. record l { unlinker = Some other; kind = live_kind.Routed route } ∷ rest.rows i;
@@ -116,7 +116,7 @@ module _ (caps : Caps) (target by : ℕ) where
         late = ap (λ (b : Bool). ((b && true) || false) || list_any is_found_row ls) e;
         count = rest.count;
         back = rest.back;
-        bytes = sym (append-nil (host_packet_bytes caps (l.id, Plain plain.Cancel))) ∙ (λ i. cond (sym e i && true) (host_packet_bytes caps (l.id, Plain plain.Cancel)) [] ++ rest.bytes i);
+        bytes = sym (append-nil (sent_packet_bytes caps (l.id, Plain plain.Cancel))) ∙ (λ i. cond (sym e i && true) (sent_packet_bytes caps (l.id, Plain plain.Cancel)) [] ++ rest.bytes i);
       }
       of None (live_kind.Routed route) h = record {
         rows = ap (λ (b : Bool). cond b (unlinked_by by (record l { unlinker = None; kind = live_kind.Routed route }) ∷ ls) (record l { unlinker = None; kind = live_kind.Routed route } ∷ change_first (has_number target) (unlinked_by by) ls)) e

@@ -32,7 +32,7 @@ use Rattle.gate_history.specs.state.State.{State, next_ids}
 use Rattle.gate_history.specs.state.Sound.{IsSound}
 use Rattle.gate_history.specs.step.Meaning.{mark_as, drawn_for, waiting, submission, by_stream, accepted_as, accepts}
 use Rattle.gate_history.specs.write.Output.{fresh, present}
-use Rattle.gate_history.specs.write.Bytes.{host_packet_bytes}
+use Rattle.redir_data.specs.Sent.{sent_packet_bytes}
 use Rattle.gate_parts.specs.state.Rows.{row, row_for}
 use Rattle.gate_parts.specs.host.Fill.{filled_notes, waiting_rows, without_firsts, up_fill, up_bytes}
 use Rattle.gate_parts.specs.write.Outputs.{with_answers}
@@ -170,7 +170,7 @@ pub does-start : (st : State) (sound : IsSound st) (r : Request) (told : EpRow) 
     } →
     stream_ids_new ≡ stream_ids_after (zip (next_ids st (length (starts (stream_at st.streams r.transfer.ep) r.transfer.ep told))) (starts (stream_at st.streams r.transfer.ep) r.transfer.ep told)) old.stream_ids →
     last_new ≡ last_of old.last (next_ids st (length (starts (stream_at st.streams r.transfer.ep) r.transfer.ep told))) →
-    host_new ≡ out.to_host ++ flat_map (host_packet_bytes st.agreed) (zip (next_ids st (length (starts (stream_at st.streams r.transfer.ep) r.transfer.ep told))) (starts (stream_at st.streams r.transfer.ep) r.transfer.ep told)) →
+    host_new ≡ out.to_host ++ flat_map (sent_packet_bytes st.agreed) (zip (next_ids st (length (starts (stream_at st.streams r.transfer.ep) r.transfer.ep told))) (starts (stream_at st.streams r.transfer.ep) r.transfer.ep told)) →
     notes_new ≡ out.notes ++ note.Submitted r.number 0 ∷ [] →
     Does st (mark_as st (accepts st r (Stream told)) None) old new out (record out { to_host = host_new; notes = notes_new })
 does-start st sound r told old new stream_ids_new last_new out host_new notes_new h k free at is stream_ids-is last-is host notes =

@@ -45,7 +45,7 @@ use Rattle.gate_history.specs.state.Sound.{IsSound}
 use Rattle.gate_history.specs.write.Output.{cancels, cancel, to_client}
 use Rattle.gate_history.specs.write.Notes.{answer_notes}
 use Rattle.gate_history.specs.write.All.{is_ret_submit, is_won_unlink}
-use Rattle.gate_history.specs.write.Bytes.{host_packet_bytes}
+use Rattle.redir_data.specs.Sent.{sent_packet_bytes}
 use Rattle.gate_parts.specs.state.Rows.{row_of, row, unmarked, left_row}
 use Rattle.gate_parts.specs.host.Responses.{row_mismatch, completes, IsAnswer, IsCounted}
 use Rattle.gate_parts.specs.write.Outputs.{with_answers}
@@ -218,7 +218,7 @@ module _ (st : State) (id : ℕ) (o : Outcome) where
       (ap (λ (ps : List ClientPacket). length (filter is_ret_submit ps)) sends) (ap (λ (ps : List ClientPacket). length (filter is_won_unlink ps)) sends) (answer-dropped st id o)
       (ap (λ (x : Outputs). x.to_client) gives ∙ ap (λ (ps : List ClientPacket). out.to_client ++ flat_map client_spelling ps) sends)
       (ap (λ (x : Outputs). x.to_host) gives ∙ host-same st.agreed (Answers id o) out.to_host st.live stays-uncancelled
-      ∙ ap (λ (ps : List (ℕ × RedirPacket)). out.to_host ++ flat_map (host_packet_bytes st.agreed) ps) (sym (append-nil (map cancel (filter (cancels (Answers id o)) st.live)))))
+      ∙ ap (λ (ps : List (ℕ × RedirPacket)). out.to_host ++ flat_map (sent_packet_bytes st.agreed) ps) (sym (append-nil (map cancel (filter (cancels (Answers id o)) st.live)))))
       (ap (λ (x : Outputs). x.notes) gives ∙ ap (λ (ns : List Note). out.notes ++ ns) tells)
 
 -- ---- the answer of the one that waits

@@ -29,7 +29,7 @@ use Rattle.gate_history.specs.step.Meaning.{mark_as, drawn_by}
 use Rattle.gate_history.specs.write.Output.{present, cancels, cancel, acknowledgements, to_client}
 use Rattle.gate_history.specs.write.Notes.{when, answer_notes, is_by_answer, refusal_notes, is_by_client, dropped}
 use Rattle.gate_history.specs.write.All.{is_ret_submit, is_won_unlink}
-use Rattle.gate_history.specs.write.Bytes.{host_packet_bytes}
+use Rattle.redir_data.specs.Sent.{sent_packet_bytes}
 use Rattle.gate_history.specs.step.Machine.{ask}
 use Rattle.gate_parts.specs.state.Rows.{row_of, row, left_row, lost_packet, lost_bytes, is_asked_back}
 use Rattle.gate_core.specs.inner.Holds.{Holds, Does, HasLost, lost_by}
@@ -108,7 +108,7 @@ module _ (st : State) (e : Effect) (told : Option Fact) (over : is_quiet e ≡ f
   pub does-loss : (old new : Kept) (out_old out_new : Outputs) → Holds old st → old.dropped ≤ 2 ^ 64 - 1 →
       new ≡ record (lost_by (backs old) old) { host_over = turned closes_host (λ e. false) e old.host_over } →
       out_new.to_client ≡ out_old.to_client ++ flat_map lost_bytes old.lives.live →
-      out_new.to_host ≡ out_old.to_host ++ flat_map (host_packet_bytes old.caps) (acknowledgements old.caps e) →
+      out_new.to_host ≡ out_old.to_host ++ flat_map (sent_packet_bytes old.caps) (acknowledgements old.caps e) →
       out_new.notes ≡ out_old.notes ++ (when (old.imported && not old.lost) note.DeviceGone ++ refusal_notes (refused_at e)) →
       Does st (mark_as st e told) old new out_old out_new
   does-loss old new out_old out_new h few is client host notes =
@@ -141,8 +141,8 @@ module _ (st : State) (e : Effect) (told : Option Fact) (over : is_quiet e ≡ f
       (λ i. map left_row (cond (sym stays i) (st.abandoned ++ filter (λ s. goes_by_id s.verdict) (submits st)) (cond (sym loss i) [] (filter (λ s. not (is_answered e s)) st.abandoned))))
       (client ∙ ap (λ (bs : List ℕ). out_old.to_client ++ bs) (ap (flat_map lost_bytes) h.live ∙ sym (lost-packets st.live) ∙ ap (flat_map client_spelling) (sym answers)))
       (host ∙ ap (λ (bs : List ℕ). out_old.to_host ++ bs)
-      ((λ i. flat_map (host_packet_bytes (h.caps i)) (acknowledgements (h.caps i) e))
-      ∙ (λ i. flat_map (host_packet_bytes st.agreed) (sym lost-cancels i ++ zip (sym no-ids i) (sym no-packets i) ++ acknowledgements st.agreed e))))
+      ((λ i. flat_map (sent_packet_bytes (h.caps i)) (acknowledgements (h.caps i) e))
+      ∙ (λ i. flat_map (sent_packet_bytes st.agreed) (sym lost-cancels i ++ zip (sym no-ids i) (sym no-packets i) ++ acknowledgements st.agreed e))))
       (notes ∙ ap (λ (ns : List Note). out_old.notes ++ ns)
       (ap (λ (ns : List Note). ns ++ refusal_notes (refused_at e)) (sym (append-nil (when (old.imported && not old.lost) note.DeviceGone)))
       ∙ (λ i. (((sym o.no_notes i ++ sym lost-notes i) ++ when ((sym loss i && h.imported i) && not (h.lost i)) note.DeviceGone) ++ when (sym stays i && not st.client_over) note.ClientGone) ++ refusal_notes (refused_at e))))

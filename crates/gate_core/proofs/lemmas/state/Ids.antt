@@ -22,7 +22,7 @@ use Rattle.gate_history.specs.step.Meaning.{drawn_by}
 use Rattle.gate_history.specs.state.State.{State, flying, next_ids, is_number}
 use Rattle.gate_parts.specs.state.Ids.{row_ids}
 use Rattle.gate_core.specs.inner.SentIds.{flying_in, ids_after, with_ids, stops_of, sent_ids_of, after_stops, bytes_of, HasParted}
-use Rattle.gate_history.specs.write.Bytes.{host_packet_bytes}
+use Rattle.redir_data.specs.Sent.{sent_packet_bytes}
 use Rattle.gate_parts.specs.state.Rows.{kind_of, row, unmarked, left_row, cancel_bytes}
 use Rattle.gate_core.specs.inner.Holds.{Holds}
 use Rattle.gate_parts.proofs.lemmas.state.Rows.{by-verdict, by_id-row}
@@ -89,10 +89,10 @@ module _ (t : Kept) (st : State) (h : Holds t st) where
   pub leaving-sent : (e : Effect) → asked_packets st.streams e ≡ stops (is_ended None) st.streams → (old mid new : List ℕ) →
       mid ≡ old ++ flat_map (cancel_bytes t.caps) t.lives.live →
       new ≡ mid ++ bytes_of t t.last (stops_of t None) →
-      new ≡ old ++ (flat_map (cancel_bytes t.caps) t.lives.live ++ flat_map (host_packet_bytes t.caps) (zip (drawn_by st e) (asked_packets st.streams e)))
+      new ≡ old ++ (flat_map (cancel_bytes t.caps) t.lives.live ++ flat_map (sent_packet_bytes t.caps) (zip (drawn_by st e) (asked_packets st.streams e)))
   leaving-sent e asked old mid new a b =
-      b ∙ (λ i. a i ++ flat_map (host_packet_bytes t.caps) (parts-sent e asked i))
-      ∙ append_assoc old (flat_map (cancel_bytes t.caps) t.lives.live) (flat_map (host_packet_bytes t.caps) (zip (drawn_by st e) (asked_packets st.streams e)))
+      b ∙ (λ i. a i ++ flat_map (sent_packet_bytes t.caps) (parts-sent e asked i))
+      ∙ append_assoc old (flat_map (cancel_bytes t.caps) t.lives.live) (flat_map (sent_packet_bytes t.caps) (zip (drawn_by st e) (asked_packets st.streams e)))
 
 -- ---- the ids of a route's packets, of two that are drawn in turn
 

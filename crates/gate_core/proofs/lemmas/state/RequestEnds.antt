@@ -20,7 +20,7 @@ use Rattle.gate_history.specs.step.Meaning.{mark_as}
 use Rattle.gate_history.specs.write.Output.{present, answered, replies, cancels, cancel}
 use Rattle.gate_history.specs.write.Notes.{came_notes, submit_notes, is_by_answer, is_by_client}
 use Rattle.gate_history.specs.write.All.{is_ret_submit, is_won_unlink}
-use Rattle.gate_history.specs.write.Bytes.{host_packet_bytes}
+use Rattle.redir_data.specs.Sent.{sent_packet_bytes}
 use Rattle.gate_history.specs.step.Machine.{ask}
 use Rattle.gate_parts.specs.state.Rows.{row}
 use Rattle.gate_core.specs.inner.Holds.{Holds, Does}
@@ -114,7 +114,7 @@ module _ (st : State) (e : Effect) (test : Live → Bool) (packet : Live → Urb
       rows ≡ map row (map (ask e) (filter (λ p. is_none (ends e p.submit)) st.live)) →
       new ≡ moved_alone e rows done won old →
       out_new.to_client ≡ out_old.to_client ++ (flat_map client_spelling (replies st e) ++ flat_map (λ l. cond (test l) (spelling (packet l)) []) old.lives.live) →
-      out_new.to_host ≡ out_old.to_host ++ flat_map (host_packet_bytes st.agreed) (map cancel (filter (cancels e) st.live)) →
+      out_new.to_host ≡ out_old.to_host ++ flat_map (sent_packet_bytes st.agreed) (map cancel (filter (cancels e) st.live)) →
       out_new.notes ≡ out_old.notes ++ (came_notes e ++ submit_notes e) →
       Does st (mark_as st e None) old new out_old out_new
   does-ending old new rows done won out_old out_new h dropped_fits done-is won-is rows-are is client host notes =

@@ -7,7 +7,7 @@ use Rattle.packet_stream.specs.Split.{Position, Splitting, reads}
 use Rattle.packet_stream.specs.Streams.{StreamView, ended, capped}
 use Rattle.redir_wire.specs.declared.packet.Way.TheVariants.{ToGuest}
 use Rattle.redir_data.specs.declared.state.RedirState.{RedirState}
-use Rattle.redir_data.specs.Streams.{start, after, stream_format}
+use Rattle.redir_data.specs.Streams.{start, after, stream_format, stream_start}
 use Rattle.redir_data.specs.sound.Joined.{stream_sound}
 use Rattle.usbip_urb.specs.Sound.ClientPackets.{client_packets_sound}
 use Rattle.usbip_urb.specs.ClientPackets.{client_packets}
@@ -18,7 +18,7 @@ use Rattle.gate_core.specs.declared.state.kept.Kept.{Kept as Translator}
 use Rattle.gate_history.specs.declared.item.Item.TheVariants.{ClientLeft, HostLeft}
 use Rattle.gate_history.specs.step.Events.{Event, ClientEnd, HostEnd, client_bytes, host_bytes}
 use Rattle.gate_history.specs.state.Sides.{client_over, host_over}
-use Rattle.gate_history.specs.step.Streams.{client_reader, client_start, host_reader, host_start}
+use Rattle.gate_history.specs.step.Streams.{client_reader, client_start, host_reader}
 use Rattle.gate_history.specs.state.State.{state_of}
 use Rattle.gate_history.specs.step.Past.{is_left_out, past}
 use Rattle.gate_history.specs.step.History.{brought, arrivals}
@@ -66,7 +66,7 @@ all-first {S = S} {P = P} format next sound s kept none is =
 pub client-first : (kept : StreamView (Unit {0})) → kept ≡ record { state = tt; rest = []; place = 0; held = []; at = 0; over = false } → HasAll client_reader client_start kept [] [] false
 client-first kept is = all-first (λ s. client_packets) (λ s p. s) (λ s. client_packets_sound) tt kept refl is
 
-host-first : (kept : StreamView RedirState) → kept ≡ record { state = start; rest = []; place = 0; held = []; at = 0; over = false } → HasAll host_reader host_start kept [] [] false
+host-first : (kept : StreamView RedirState) → kept ≡ record { state = start; rest = []; place = 0; held = []; at = 0; over = false } → HasAll host_reader stream_start kept [] [] false
 host-first kept is = all-first (stream_format ToGuest) after (stream_sound ToGuest) start kept refl is
 
 pub stands-first : (first : ℕ) (g : Inner) → g.want ≡ None → IsFirst g.translator first → g.client ≡ record { state = tt; rest = []; place = 0; held = []; at = 0; over = false } →
@@ -91,7 +91,7 @@ ends-client first old t kept events out_old out_new stands takes is =
         works = stands.works;
         translates = translates-item first old.translator t xs ClientLeft out_old out_new stands.translates refl does;
         client = client-first kept is;
-        host = all-same host_reader host_start old.host old.host (host_bytes events) (told xs) (told xs) (host_over (past first xs)) (host_over (past first (ClientLeft ∷ xs))) refl refl (left-host first xs) stands.host;
+        host = all-same host_reader stream_start old.host old.host (host_bytes events) (told xs) (told xs) (host_over (past first xs)) (host_over (past first (ClientLeft ∷ xs))) refl refl (left-host first xs) stands.host;
       };
       sends = sends-item first old.translator t xs xs ClientLeft out_old out_old out_new
           (sends-none first out_old xs) refl does;
@@ -110,7 +110,7 @@ ends-again first g events out stands over =
         works = stands.works;
         translates = translates-past first g.translator xs (HostLeft ∷ xs) same stands.translates;
         client = all-same client_reader client_start g.client g.client (client_bytes events) (asked xs) (asked xs) (client_over (past first xs)) (client_over (past first (HostLeft ∷ xs))) refl refl (ap client_over same) stands.client;
-        host = all-same host_reader host_start g.host g.host (host_bytes events) (told xs) (told xs) (host_over (past first xs)) (host_over (past first (HostLeft ∷ xs))) refl refl (ap host_over same) stands.host;
+        host = all-same host_reader stream_start g.host g.host (host_bytes events) (told xs) (told xs) (host_over (past first xs)) (host_over (past first (HostLeft ∷ xs))) refl refl (ap host_over same) stands.host;
       };
       sends = sends-past first out out xs xs (HostLeft ∷ xs) same (sends-none first out xs);
     }

@@ -17,7 +17,8 @@ use Rattle.gate_core.specs.declared.state.kept.Kept.{Kept as Translator}
 use Rattle.gate_history.specs.step.Events.{Event, ClientPiece, HostPiece, client_bytes, host_bytes}
 use Rattle.gate_history.specs.declared.item.Item.{Item}
 use Rattle.gate_history.specs.state.Sides.{client_over, host_over}
-use Rattle.gate_history.specs.step.Streams.{client_reader, client_start, host_reader, host_start}
+use Rattle.redir_data.specs.Streams.{stream_start}
+use Rattle.gate_history.specs.step.Streams.{client_reader, client_start, host_reader}
 use Rattle.gate_history.specs.step.History.{brought, onto, arrivals, history}
 use Rattle.gate_history.specs.step.Came.{asked, told}
 use Rattle.gate_core.specs.step.Stands.{IsLeftBy, StreamStands, StandsFor, HasAll, Stands, Stops, HasPast}
@@ -77,7 +78,7 @@ pub stands-for : (first : ℕ) (g : Inner) (events : List Event) → Stands firs
 stands-for first g events stands = record {
   translates = stands.translates;
   client = stands-all client_reader client-steady client_start g.client (client_bytes events) (asked (arrivals events)) (client_over (history first events)) stands.client;
-  host = stands-all host_reader host-steady host_start g.host (host_bytes events) (told (arrivals events)) (host_over (history first events)) stands.host;
+  host = stands-all host_reader host-steady stream_start g.host (host_bytes events) (told (arrivals events)) (host_over (history first events)) stands.host;
 }
 
 -- for want of memory the translator has changed nothing

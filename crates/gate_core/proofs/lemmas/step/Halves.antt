@@ -11,7 +11,8 @@ use Rattle.redir_data.specs.declared.packet.RedirPacket.{RedirPacket}
 use Rattle.redir_data.specs.declared.state.RedirState.{RedirState}
 use Rattle.gate_history.specs.declared.item.Item.{Item as RawItem, Item}
 use Rattle.gate_history.specs.declared.item.Item.TheVariants.{Asked, ClientWrong, Told, HostWrong}
-use Rattle.gate_history.specs.step.Streams.{client_reader, client_start, host_reader, host_start}
+use Rattle.redir_data.specs.Streams.{stream_start}
+use Rattle.gate_history.specs.step.Streams.{client_reader, client_start, host_reader}
 use Rattle.gate_history.specs.step.Came.{asked, told}
 use Rattle.gate_history.specs.step.Fits.{IsItem, ItemFits}
 use Rattle.gate_history.specs.step.History.{onto}
@@ -47,7 +48,7 @@ client_half first = record {
 
 abbrev pub host_half : ℕ → Half RedirState (Header × RedirPacket)
 host_half first = record {
-  stream = record { reader = host_reader; start = host_start; packet = λ place p. Told place p.0 p.1; wrong = HostWrong; over = λ xs. host_over (past first xs) };
+  stream = record { reader = host_reader; start = stream_start; packet = λ place p. Told place p.0 p.1; wrong = HostWrong; over = λ xs. host_over (past first xs) };
   came = told;
   others = λ xs. (asked xs, []);
   other_over = λ xs. client_over (past first xs);

@@ -29,7 +29,8 @@ use Rattle.gate_history.specs.step.Meaning.{mark_as, drawn_by}
 use Rattle.gate_history.specs.write.Output.{fresh, present, answered, replies, cancels, cancel, acknowledgements, to_client}
 use Rattle.gate_history.specs.write.Notes.{when, came_notes, submit_notes, answer_notes, refusal_notes, notes_of, dropped}
 use Rattle.gate_history.specs.write.All.{is_ret_submit, is_won_unlink}
-use Rattle.gate_history.specs.write.Bytes.{host_packet_bytes, client_bytes_of, host_bytes_of}
+use Rattle.redir_data.specs.Sent.{sent_packet_bytes}
+use Rattle.gate_history.specs.write.Bytes.{client_bytes_of, host_bytes_of}
 use Rattle.gate_history.specs.step.Machine.{live_after}
 use Rattle.gate_parts.specs.state.Rows.{row, unmarked, left_row}
 use Rattle.gate_core.specs.inner.Holds.{Holds, Does}
@@ -145,7 +146,7 @@ module _ (st : State) (e : Effect) (quiet : is_quiet e ≡ true) where
       won ≡ length (filter is_won_unlink (to_client st (mark_as st e None))) →
       dropped st (mark_as st e None) ≡ [] →
       out_new.to_client ≡ out_old.to_client ++ client_bytes_of st (mark_as st e None) →
-      out_new.to_host ≡ out_old.to_host ++ flat_map (host_packet_bytes st.agreed) (map cancel (filter (cancels e) st.live) ++ asking st.streams (mark_as st e None)) →
+      out_new.to_host ≡ out_old.to_host ++ flat_map (sent_packet_bytes st.agreed) (map cancel (filter (cancels e) st.live) ++ asking st.streams (mark_as st e None)) →
       out_new.notes ≡ out_old.notes ++ (came_notes e ++ submit_notes e ++ answer_notes st e) →
       Does st (mark_as st e None) old new out_old out_new
   does-quiet old new rows left done won out_old out_new h dropped_fits is rows-are left-are done-is won-is undropped client host notes =
@@ -161,7 +162,7 @@ module _ (st : State) (e : Effect) (quiet : is_quiet e ≡ true) where
       rows-are
       (left-are ∙ (λ i. map left_row (cond (sym q.stays i) (st.abandoned ++ filter (λ s. goes_by_id s.verdict) (submits st)) (cond (sym q.keeps i) [] (filter (λ s. not (is_answered e s)) st.abandoned)))))
       client
-      (host ∙ ap (λ (ps : List (ℕ × RedirPacket)). out_old.to_host ++ flat_map (host_packet_bytes st.agreed) ps) (sym (append-nil asked) ∙ (λ i. asked ++ sym (q.no_word st.agreed) i)))
+      (host ∙ ap (λ (ps : List (ℕ × RedirPacket)). out_old.to_host ++ flat_map (sent_packet_bytes st.agreed) ps) (sym (append-nil asked) ∙ (λ i. asked ++ sym (q.no_word st.agreed) i)))
       (notes ∙ ap (λ (ns : List Note). out_old.notes ++ ns)
       (sym (append-nil told) ∙ sym (append-nil (told ++ [])) ∙ sym (append-nil ((told ++ []) ++ []))
       ∙ (λ i. ((told ++ when ((sym q.keeps i && st.imported) && not st.lost) note.DeviceGone) ++ when (sym q.stays i && not st.client_over) note.ClientGone) ++ refusal_notes (sym q.no_place i))))
@@ -238,14 +239,14 @@ module _ (st : State) (e : Effect) (quiet : is_quiet e ≡ true) (s : IsSilent s
       won ≡ length (filter is_won_unlink (answered st e)) →
       answer_notes st e ≡ [] → dropped st (mark_as st e None) ≡ [] →
       out_new.to_client ≡ out_old.to_client ++ client_bytes_of st (mark_as st e None) →
-      out_new.to_host ≡ out_old.to_host ++ flat_map (host_packet_bytes st.agreed) (map cancel (filter (cancels e) st.live)) →
+      out_new.to_host ≡ out_old.to_host ++ flat_map (sent_packet_bytes st.agreed) (map cancel (filter (cancels e) st.live)) →
       out_new.notes ≡ out_old.notes ++ (came_notes e ++ submit_notes e) →
       Does st (mark_as st e None) old new out_old out_new
   does-silent old new rows done won out_old out_new h dropped_fits is rows-are done-is won-is untold undropped client host notes =
       does-quiet st e quiet old new rows old.lives.abandoned done won out_old out_new h dropped_fits
       (is ∙ (λ i. record (moved_alone e rows done won old) { stream_ids = stream_ids_after (sym none-asked i) old.stream_ids; last = last_of old.last (sym no-ids i) }))
       rows-are (h.abandoned ∙ none-answered e st.abandoned s.answers_none) (done-is ∙ counted is_ret_submit s.no_answer) (won-is ∙ counted is_won_unlink s.none_won) undropped client
-      (host ∙ ap (λ (ps : List (ℕ × RedirPacket)). out_old.to_host ++ flat_map (host_packet_bytes st.agreed) ps)
+      (host ∙ ap (λ (ps : List (ℕ × RedirPacket)). out_old.to_host ++ flat_map (sent_packet_bytes st.agreed) ps)
       (sym (append-nil (map cancel (filter (cancels e) st.live))) ∙ (λ i. map cancel (filter (cancels e) st.live) ++ sym none-asked i)))
       (notes ∙ ap (λ (ns : List Note). out_old.notes ++ ns)
       (sym (append-nil told) ∙ (λ i. told ++ sym untold i)))

@@ -20,7 +20,7 @@ use Rattle.gate_history.specs.step.Meaning.{mark_as}
 use Rattle.gate_history.specs.write.Output.{present, answered, replies, cancels, cancel}
 use Rattle.gate_history.specs.write.Notes.{came_notes, submit_notes, is_by_answer, is_by_client}
 use Rattle.gate_history.specs.write.All.{is_ret_submit, is_won_unlink}
-use Rattle.gate_history.specs.write.Bytes.{host_packet_bytes}
+use Rattle.redir_data.specs.Sent.{sent_packet_bytes}
 use Rattle.gate_history.specs.step.Machine.{ask}
 use Rattle.gate_parts.specs.state.Rows.{row}
 use Rattle.gate_core.specs.inner.Holds.{Holds, Does}
@@ -46,7 +46,7 @@ module _ (st : State) (e : Effect) (quiet : is_quiet e ≡ true) (s : IsSilent s
       lives ≡ map row (map (ask e) st.live) →
       new ≡ record (moved_alone e lives 0 0 old) { answered = old.answered; unlinked = old.unlinked } →
       out_new.to_client ≡ out_old.to_client ++ flat_map client_spelling (replies st e) →
-      out_new.to_host ≡ out_old.to_host ++ flat_map (host_packet_bytes st.agreed) (map cancel (filter (cancels e) st.live)) →
+      out_new.to_host ≡ out_old.to_host ++ flat_map (sent_packet_bytes st.agreed) (map cancel (filter (cancels e) st.live)) →
       out_new.notes ≡ out_old.notes ++ (came_notes e ++ submit_notes e) →
       Does st (mark_as st e None) old new out_old out_new
   does-steady old new lives out_old out_new h answered_fits unlinked_fits dropped_fits asked is client host notes =
@@ -62,8 +62,8 @@ module _ (st : State) (e : Effect) (quiet : is_quiet e ≡ true) (s : IsSilent s
 pub rows-same : (e : Effect) (rows : List Live) (ps : List Pending) → ((s : Submission) → asks e s ≡ None) → rows ≡ map row ps → rows ≡ map row (map (ask e) ps)
 rows-same e rows ps h is = is ∙ ap (map row) (sym (asks-none e h ps))
 
-pub host-same : (caps : Caps) (e : Effect) (host : List ℕ) (ps : List Pending) → ((p : Pending) → cancels e p ≡ false) → host ≡ host ++ flat_map (host_packet_bytes caps) (map cancel (filter (cancels e) ps))
-host-same caps e host ps h = sym (append-nil host) ∙ ap (λ (qs : List (ℕ × RedirPacket)). host ++ flat_map (host_packet_bytes caps) qs) (sym (none-cancelled e h ps))
+pub host-same : (caps : Caps) (e : Effect) (host : List ℕ) (ps : List Pending) → ((p : Pending) → cancels e p ≡ false) → host ≡ host ++ flat_map (sent_packet_bytes caps) (map cancel (filter (cancels e) ps))
+host-same caps e host ps h = sym (append-nil host) ∙ ap (λ (qs : List (ℕ × RedirPacket)). host ++ flat_map (sent_packet_bytes caps) qs) (sym (none-cancelled e h ps))
 
 pub one-reply : (old new : List ℕ) (p : ClientPacket) → new ≡ old ++ client_spelling p → new ≡ old ++ flat_map client_spelling (p ∷ [])
 one-reply old new p h = h ∙ ap (λ (bs : List ℕ). old ++ bs) (sym (append-nil (client_spelling p)))

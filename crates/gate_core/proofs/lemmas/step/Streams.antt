@@ -16,7 +16,8 @@ use Rattle.usbip_urb.specs.ClientPackets.{takes_memory as asked_takes_memory, cl
 use Rattle.usbip_urb.specs.Sound.ClientPackets.{client_packets_sound}
 use Rattle.gate_history.specs.declared.item.Item.TheVariants as raw
 use Rattle.gate_core.specs.declared.state.kept.Kept.{Kept as Translator}
-use Rattle.gate_history.specs.step.Streams.{client_reader, host_reader, host_start}
+use Rattle.redir_data.specs.Streams.{stream_start}
+use Rattle.gate_history.specs.step.Streams.{client_reader, host_reader}
 use Rattle.gate_history.specs.step.Came.{told}
 use Rattle.gate_history.specs.step.Fits.{ToldFits}
 use Rattle.gate_core.specs.inner.Steps.{raw_told}
@@ -51,10 +52,10 @@ asked-fits kept new t i goes changes nexts =
 told-next : (first : ℕ) (kept new : StreamView RedirState) (t : Translator) (i : ℕ × (Header × RedirPacket)) → Nexts host_reader told_takes_memory (Ok (Some i)) kept new → GoesOn first (host_half first) kept t → ToldFits t.caps i.1.0 i.1.1
 told-next first kept new t i nexts g =
     let given = told g.items in
-    let n = nexts host_start g.bytes given g.follows in
+    let n = nexts stream_start g.bytes given g.follows in
     let one : List (ℕ × (Header × RedirPacket)) = (n.at, i.1) ∷ [] in
-    let front = follows-front host_reader host_start new g.bytes (given ++ one) n.follows in
-    let parts : (split host_reader host_start g.bytes).packets ≡ given ++ (n.at, i.1) ∷ front.0 = front.1 ∙ append_assoc given one front.0 in
+    let front = follows-front host_reader stream_start new g.bytes (given ++ one) n.follows in
+    let parts : (split host_reader stream_start g.bytes).packets ≡ given ++ (n.at, i.1) ∷ front.0 = front.1 ∙ append_assoc given one front.0 in
     subst (λ (c : Caps). ToldFits c i.1.0 i.1.1) (sym g.translates.state.caps) (told-fits first g.items g.bytes front.0 (n.at, i.1) g.runs g.follows.fits parts)
 
 pub told-fits-next : FitsNext host_half host_reader told_takes_memory raw_told

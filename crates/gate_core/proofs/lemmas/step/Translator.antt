@@ -16,7 +16,8 @@ use Rattle.gate_history.specs.step.Past.{is_left_out, past}
 use Rattle.gate_history.specs.write.Output.{to_client}
 use Rattle.gate_history.specs.write.Notes.{notes_of, dropped}
 use Rattle.gate_history.specs.write.All.{all_of, is_ret_submit, is_won_unlink}
-use Rattle.gate_history.specs.write.Bytes.{host_packet_bytes, gateway_hello, client_bytes_of, host_bytes_of, out_client, out_host}
+use Rattle.redir_data.specs.Sent.{sent_packet_bytes}
+use Rattle.gate_history.specs.write.Bytes.{gateway_hello, client_bytes_of, host_bytes_of, out_client, out_host}
 use Rattle.gate_history.specs.step.Machine.{after, step}
 use Rattle.gate_core.specs.step.Stands.{Translates}
 use Rattle.gate_history.specs.Headline.{Gains}
@@ -108,7 +109,7 @@ sends-item first old new h xs x out_old out out_new s taken does =
     let st = state_of first ms in
     let m = mark_of st x in
     let is = past-taken first xs x taken in
-    let hello = host_packet_bytes no_caps (0, gateway_hello) in
+    let hello = sent_packet_bytes no_caps (0, gateway_hello) in
     record {
       client = gains-then out_old.to_client out.to_client out_new.to_client (out_client first (past first h)) (out_client first ms) (out_client first (past first (x ∷ xs))) s.client
           (record { more = client_bytes_of st m; new-is = does.client; after-is = ap (out_client first) is });

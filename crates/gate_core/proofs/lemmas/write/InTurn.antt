@@ -14,7 +14,7 @@ use Rattle.gate_history.specs.state.Ids.{greatest, last_of}
 use Rattle.gate_history.specs.state.Flight.{wide_ids}
 use Rattle.gate_history.specs.state.StreamIds.{stream_ids_after}
 use Rattle.gate_history.specs.write.Packets.{stop_of, stops}
-use Rattle.gate_history.specs.write.Bytes.{host_packet_bytes}
+use Rattle.redir_data.specs.Sent.{sent_packet_bytes}
 use Rattle.packet_stream.specs.Writes.{Begins}
 use Rattle.gate_parts.specs.write.Outputs.{HasSome}
 use Rattle.gate_core.specs.inner.Holds.{StopsShort}
@@ -34,8 +34,8 @@ module _ (t : Kept) where
 
   pub bytes-more : (last : ℕ) (ps qs : List RedirPacket) → bytes_of t last (ps ++ qs) ≡ bytes_of t last ps ++ bytes_of t (last_of last (ids_after t last (length ps))) qs
   bytes-more last ps qs =
-      ap (flat_map (host_packet_bytes t.caps)) (with-more last ps qs)
-      ∙ flat_map-append (host_packet_bytes t.caps) (with_ids t last ps) (with_ids t (last_of last (ids_after t last (length ps))) qs)
+      ap (flat_map (sent_packet_bytes t.caps)) (with-more last ps qs)
+      ∙ flat_map-append (sent_packet_bytes t.caps) (with_ids t last ps) (with_ids t (last_of last (ids_after t last (length ps))) qs)
 
   pub stops-more : (c : SentIds) (ps qs : List RedirPacket) → after_stops t c (ps ++ qs) ≡ after_stops t (after_stops t c ps) qs
   stops-more c ps qs =

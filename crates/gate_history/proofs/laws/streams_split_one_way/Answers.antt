@@ -1,6 +1,6 @@
 -- src/laws.rt: `splits_well` says it of every format.
-use Rattle.gate_history.specs.step.Streams.{host_start}
+use Rattle.redir_data.specs.Streams.{stream_start}
 use Rattle.gate_history.proofs.laws.streams_split_one_way.Goals as goal
 
 pub returns-clause-host : goal.returns-clause-host
-returns-clause-host c = c.splits_well-2.ensures host_start
+returns-clause-host c = c.splits_well-2.ensures stream_start

@@ -9,7 +9,7 @@ use Rattle.usb_base.specs.declared.endpoint.EpKind.TheVariants as kind
 use Rattle.usb_base.specs.declared.endpoint.EpRow.{EpRow}
 use Rattle.usb_base.specs.declared.refusal.Refusal.{Refusal}
 use Rattle.usb_base.specs.declared.transfer.Outcome.{Outcome}
-use Rattle.usb_base.specs.Endpoint.{is_in_endpoint}
+use Rattle.usb_base.specs.Endpoint.{is_in_endpoint, is_iso}
 use Rattle.usbip_op.specs.declared.packet.OpPacket.{OpPacket}
 use Rattle.usbip_op.specs.declared.packet.OpPacket.TheVariants as op
 use Rattle.usbip_urb.specs.declared.packet.UrbPacket.{UrbPacket}
@@ -33,12 +33,13 @@ use Rattle.gate_history.specs.declared.item.Item.{Item}
 use Rattle.gate_history.specs.declared.item.Item.TheVariants.{Asked, ClientWrong, ClientLeft, Told, HostWrong, HostLeft}
 use Rattle.usb_base.specs.declared.errno.TheConstants.{ENOENT, EBUSY, EINVAL, EMSGSIZE, ESHUTDOWN}
 use Rattle.gate_history.specs.declared.request.Request.{Request}
-use Rattle.gate_history.specs.client.Requests.{request_of, is_in_setup}
+use Rattle.usb_base.specs.Setup.{is_in_setup}
+use Rattle.gate_history.specs.client.Requests.{request_of}
 use Rattle.gate_history.specs.declared.verdict.Situation.{Situation}
 use Rattle.gate_history.specs.declared.verdict.TheConstants.{MAX_NARROW}
 use Rattle.gate_history.specs.declared.verdict.Verdict.{Verdict}
 use Rattle.gate_history.specs.declared.verdict.Verdict.TheVariants.{Now, Wire, Routed, IsoOut, Stream}
-use Rattle.gate_history.specs.client.Verdict.{none_of, is_invalid, is_control, is_iso, is_narrow, by_route, by_kind, by_transfer, verdict, goes_by_id}
+use Rattle.gate_history.specs.client.Verdict.{none_of, is_invalid, is_control, is_narrow, by_route, by_kind, by_transfer, verdict, goes_by_id}
 use Rattle.gate_history.specs.step.Marks.{Submission, Effect, Opens, Waits}
 use Rattle.gate_history.specs.state.Sides.{imports}
 use Rattle.gate_history.specs.client.Submits.{opened}

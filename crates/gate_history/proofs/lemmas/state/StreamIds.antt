@@ -5,7 +5,7 @@ use Rattle.std.specs.Prelude.{zip}
 use Rattle.std.specs.List.{flat_map, last_or}
 use Rattle.std.specs.Option.{option_to_list}
 use Rattle.std.proofs.lemmas.List.{length-append, length-set}
-use Rattle.usb_base.specs.Endpoint.{endpoint_index}
+use Rattle.usb_base.specs.Endpoint.{endpoint_index, is_iso}
 use Rattle.usb_base.specs.declared.endpoint.EpRow.{EpRow}
 use Rattle.usb_base.specs.declared.transfer.Transfer.{Transfer}
 use Rattle.usbip_urb.specs.declared.packet.IsoDesc.{IsoDesc}
@@ -20,7 +20,6 @@ use Rattle.gate_history.specs.state.StreamIds.{StreamIds, started, stopped, stre
 use Rattle.gate_history.specs.state.Ids.{draw, draws, last_of, times}
 use Rattle.gate_history.specs.declared.verdict.Pipe.{Pipe}
 use Rattle.gate_history.specs.declared.verdict.Pipe.TheVariants.{Control, Bulk, InterruptOut}
-use Rattle.gate_history.specs.client.Verdict.{is_iso}
 use Rattle.gate_history.specs.declared.request.Request.{Request}
 use Rattle.gate_history.specs.write.Packets.{wire_packet, start_packet, starts, stop_packet, stop_of, stops, iso_packets, route_packets}
 use Rattle.gate_history.proofs.lemmas.Lists.{Each}

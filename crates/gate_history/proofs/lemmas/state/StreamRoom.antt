@@ -5,7 +5,7 @@ use Rattle.std.specs.Prelude.{zero, suc, ◌%◌, ◌||◌, ◌&&◌, nat_lt, op
 use Rattle.std.proofs.lemmas.Bool.{leb-false, false≢true}
 use Rattle.std.proofs.lemmas.List.{length-append, length-drop}
 use Rattle.usb_base.specs.declared.transfer.StreamPacket.{StreamPacket}
-use Rattle.usb_base.specs.Endpoint.{endpoint_index, is_in_endpoint}
+use Rattle.usb_base.specs.Endpoint.{endpoint_index, is_in_endpoint, is_iso}
 use Rattle.usb_base.specs.Status.{is_success}
 use Rattle.usbip_urb.specs.declared.packet.UrbPacket.TheVariants as urb
 use Rattle.usbip_urb.specs.declared.client.ClientPacket.TheVariants.{Op, Urb}
@@ -25,7 +25,7 @@ use Rattle.gate_history.specs.declared.request.Request.{Request}
 use Rattle.gate_history.specs.client.Requests.{request_of}
 use Rattle.gate_history.specs.declared.verdict.Verdict.{Verdict}
 use Rattle.gate_history.specs.declared.verdict.Verdict.TheVariants.{Now, Wire, Routed, IsoOut, Stream}
-use Rattle.gate_history.specs.client.Verdict.{none_of, is_iso}
+use Rattle.gate_history.specs.client.Verdict.{none_of}
 use Rattle.gate_history.specs.step.Marks.{Submission, Effect, Opens, Waits, Arrives, StreamTold}
 use Rattle.gate_history.specs.state.Sides.{leaves, is_loss}
 use Rattle.gate_history.specs.host.Fillings.{Given, Transferred, Isochronous, cut_as, cut_of, none_filled, filled_by, fill}

@@ -16,9 +16,9 @@ use Rattle.redir_wire.specs.Header.{IdFits}
 use Rattle.redir_data.specs.declared.packet.RedirPacket.{RedirPacket}
 use Rattle.redir_data.specs.declared.packet.RedirPacket.TheVariants.{Plain, Carrying}
 use Rattle.redir_data.specs.declared.state.RedirState.{RedirState}
-use Rattle.redir_data.specs.Streams.{start, advanced, after, stream_format}
+use Rattle.redir_data.specs.Streams.{start, advanced, after, stream_format, stream_start}
 use Rattle.redir_data.specs.sound.Joined.{stream_sound}
-use Rattle.gate_history.specs.step.Streams.{host_reader, host_start}
+use Rattle.gate_history.specs.step.Streams.{host_reader}
 use Rattle.gate_history.specs.declared.item.Item.{Item}
 use Rattle.gate_history.specs.declared.item.Item.TheVariants.{Asked, ClientWrong, ClientLeft, Told, HostWrong, HostLeft}
 use Rattle.gate_history.specs.step.Marks.{Mark}
@@ -118,10 +118,10 @@ in-step first (HostLeft ∷ xs) going = absurd (true≢false (sym (left-over fir
 
 -- the next packet of a host that isn't over
 pub told-fits : (first : ℕ) (xs : List Item) (bytes : List ℕ) (left : List (ℕ × (Header × RedirPacket))) (i : ℕ × (Header × RedirPacket)) → host_over (past first xs) ≡ false → AreBytes bytes →
-    (split host_reader host_start bytes).packets ≡ told xs ++ i ∷ left → ToldFits (agreed (past first xs)) i.1.0 i.1.1
+    (split host_reader stream_start bytes).packets ≡ told xs ++ i ∷ left → ToldFits (agreed (past first xs)) i.1.0 i.1.1
 told-fits first xs bytes left i going are is =
     told_fits (states after start (told xs)) (agreed (past first xs)) i.1.0 i.1.1 (in-step first xs going)
-    (fits-at (stream_format ToGuest) after (stream_sound ToGuest) host_start bytes (told xs) left i are is)
+    (fits-at (stream_format ToGuest) after (stream_sound ToGuest) stream_start bytes (told xs) left i are is)
 
 -- ---- there is one proof of it
 

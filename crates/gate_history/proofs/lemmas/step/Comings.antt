@@ -20,7 +20,7 @@ use Rattle.redir_wire.specs.declared.packet.Header.{Header}
 use Rattle.redir_wire.specs.declared.packet.Way.TheVariants.{ToGuest}
 use Rattle.redir_data.specs.declared.packet.RedirPacket.{RedirPacket}
 use Rattle.redir_data.specs.declared.state.RedirState.{RedirState}
-use Rattle.redir_data.specs.Streams.{start, after, stream_format}
+use Rattle.redir_data.specs.Streams.{start, after, stream_format, stream_start}
 use Rattle.redir_data.specs.sound.Joined.{stream_sound}
 use Rattle.gate_history.specs.step.Events.{Event, ClientPiece, ClientEnd, HostPiece, HostEnd, client_bytes, host_bytes}
 use Rattle.gate_history.specs.step.History.{client_split, host_split, client_items, host_items, added, onto, arrivals, wrong_items}
@@ -29,7 +29,7 @@ use Rattle.gate_history.specs.declared.item.Item.TheVariants.{Asked, ClientWrong
 use Rattle.gate_history.specs.write.Readable.{piece_bytes}
 use Rattle.gate_history.specs.client.Requests.{transfer_by}
 use Rattle.gate_history.specs.step.Came.{told}
-use Rattle.gate_history.specs.step.Streams.{client_start, host_reader, host_start}
+use Rattle.gate_history.specs.step.Streams.{client_start, host_reader}
 use Rattle.gate_history.proofs.lemmas.step.Piece.{host-added, onto-append}
 use Rattle.gate_history.proofs.lemmas.step.Empty.{split-empty}
 use Rattle.gate_history.proofs.lemmas.step.Capabilities.{states, fits-at}
@@ -108,7 +108,7 @@ comes-told bytes are given [] is ys c = (c.0, c.1 ∙ sym (append-nil given))
 comes-told bytes are given (i ∷ more) is ys c =
     let next = given ++ i ∷ [] in
     let fits : ComesNow (heard ys) (told_item i) =
-    subst (λ (g : List (ℕ × (Header × RedirPacket))). ComesNow (states after start g) (told_item i)) (sym c.1) (fits-at (stream_format ToGuest) after (stream_sound ToGuest) host_start bytes given more i are is) in
+    subst (λ (g : List (ℕ × (Header × RedirPacket))). ComesNow (states after start g) (told_item i)) (sym c.1) (fits-at (stream_format ToGuest) after (stream_sound ToGuest) stream_start bytes given more i are is) in
     let later = comes-told bytes are next more (is ∙ sym (append_assoc given (i ∷ []) more)) (told_item i ∷ ys) ((fits, c.0), ap (λ (g : List (ℕ × (Header × RedirPacket))). g ++ i ∷ []) c.1) in
     (later.0, later.1 ∙ append_assoc given (i ∷ []) more)
 
@@ -135,14 +135,14 @@ comes-piece bytes piece are all ys c = by x.wrong refl
     by : (w : Option (ℕ × Reason)) → x.wrong ≡ w → Comes y.packets (onto (added host_items bytes piece) ys)
     by None right =
         let more = (split host_reader x.position (x.rest ++ piece)).packets in
-        let same : y.packets ≡ x.packets ++ more = ap (λ (z : Splitting RedirState (Header × RedirPacket) Reason). z.packets) (split-more host_reader host-steady host_start bytes piece are ∙ ap (further_by host_reader x piece) right) in
+        let same : y.packets ≡ x.packets ++ more = ap (λ (z : Splitting RedirState (Header × RedirPacket) Reason). z.packets) (split-more host_reader host-steady stream_start bytes piece are ∙ ap (further_by host_reader x piece) right) in
         let parts = host-added bytes piece x.packets more y.wrong refl right same refl in
         let told = comes-told (bytes ++ piece) all x.packets more same ys c in
         let ended = comes-own (x.packets ++ more) (wrong_items HostWrong y.wrong) (onto (map told_item more) ys) (host-wrong-own y.wrong) told in
         let joined : onto (wrong_items HostWrong y.wrong) (onto (map told_item more) ys) ≡ onto (added host_items bytes piece) ys = sym (onto-append (map told_item more) (wrong_items HostWrong y.wrong) ys) ∙ ap (λ (l : List Item). onto l ys) (sym parts) in
         subst (λ (l : List Item). Comes y.packets l) joined (ended.0, ended.1 ∙ sym same)
     by (Some w) wrong =
-        let same : y ≡ x = split-more host_reader host-steady host_start bytes piece are ∙ ap (further_by host_reader x piece) wrong in
+        let same : y ≡ x = split-more host_reader host-steady stream_start bytes piece are ∙ ap (further_by host_reader x piece) wrong in
         let items : host_items (bytes ++ piece) ≡ host_items bytes = ap (λ (z : Splitting RedirState (Header × RedirPacket) Reason). map told_item z.packets ++ wrong_items HostWrong z.wrong) same in
         let none : added host_items bytes piece ≡ [] = ap (drop (length (host_items bytes))) items ∙ drop-whole (host_items bytes) in
         subst (λ (l : List Item). Comes y.packets (onto l ys)) (sym none) (c.0, c.1 ∙ sym (ap (λ (z : Splitting RedirState (Header × RedirPacket) Reason). z.packets) same))
@@ -169,7 +169,7 @@ host-are (ClientEnd ∷ events) are = host-are events are
 host-are (HostEnd ∷ events) are = host-are events are
 
 nothing-told : (host_split []).packets ≡ []
-nothing-told = ap (λ (x : Splitting RedirState (Header × RedirPacket) Reason). x.packets) (split-empty (stream_format ToGuest) after (stream_sound ToGuest) host_start refl)
+nothing-told = ap (λ (x : Splitting RedirState (Header × RedirPacket) Reason). x.packets) (split-empty (stream_format ToGuest) after (stream_sound ToGuest) stream_start refl)
 
 pub comes : (events : List Event) → AreBytes (flat_map piece_bytes events) → Comes (host_split (host_bytes events)).packets (arrivals events)
 comes [] are = (tt, sym nothing-told)

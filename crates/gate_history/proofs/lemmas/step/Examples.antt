@@ -6,7 +6,8 @@ use Rattle.usb_base.specs.declared.endpoint.EpRow.{EpRow}
 use Rattle.usb_base.specs.declared.side.Side.TheVariants.{Client, Host}
 use Rattle.usb_base.specs.declared.reason.Reason.TheVariants.{Version, AlreadyImported, NotImported, DuplicateSeq, Mismatch}
 use Rattle.usbip_op.specs.declared.packet.OpPacket.TheVariants as op
-use Rattle.usbip_urb.specs.declared.code.TheConstants.{MAX_LIVE, MAX_PACKETS}
+use Rattle.usb_base.specs.declared.limits.TheConstants.{MAX_PACKETS}
+use Rattle.usbip_urb.specs.declared.code.TheConstants.{MAX_LIVE}
 use Rattle.usbip_urb.specs.declared.packet.UrbPacket.TheVariants as urb
 use Rattle.redir_wire.specs.declared.packet.RedirControl.TheVariants as plain
 use Rattle.redir_wire.specs.EpTable.{ep_rows}

@@ -14,7 +14,8 @@ use Rattle.packet_stream.proofs.Joins.{joined-left, joined-right}
 use Rattle.usbip_op.specs.declared.code.TheConstants.{OP_REQ_DEVLIST}
 use Rattle.usbip_op.specs.Requests.{requests as op_requests}
 use Rattle.usbip_op.proofs.Requests.{request_size_by as op_size}
-use Rattle.usbip_urb.specs.declared.code.TheConstants.{MAX_PACKETS, NO_PACKETS, USBIP_CMD_SUBMIT}
+use Rattle.usb_base.specs.declared.limits.TheConstants.{MAX_PACKETS}
+use Rattle.usbip_urb.specs.declared.code.TheConstants.{NO_PACKETS, USBIP_CMD_SUBMIT}
 use Rattle.usbip_urb.specs.Checks.{request_checks as urb_checks}
 use Rattle.usbip_urb.specs.Requests.{requests as urb_requests}
 use Rattle.usbip_urb.specs.Sound.Requests.{request_size_by as urb_size, limits_there}
@@ -33,12 +34,12 @@ use Rattle.redir_wire.specs.Plain.{controls, plain}
 use Rattle.redir_data.specs.Carrying.{transfers, carrying}
 use Rattle.redir_data.specs.Packets.{begins_plain}
 use Rattle.redir_data.specs.declared.state.RedirState.{RedirState}
-use Rattle.redir_data.specs.Streams.{after, stream_format}
+use Rattle.redir_data.specs.Streams.{after, stream_format, stream_start}
 use Rattle.redir_data.specs.sound.Joined.{stream_sound}
 use Rattle.gate_history.specs.step.Events.{Event, client_bytes, host_bytes}
 use Rattle.gate_history.specs.state.Sides.{client_over, host_over}
 use Rattle.gate_history.specs.step.History.{client_split, host_split, history, rest_length}
-use Rattle.gate_history.specs.step.Streams.{client_start, host_start}
+use Rattle.gate_history.specs.step.Streams.{client_start}
 
 -- ---- of any stream
 
@@ -142,7 +143,7 @@ host-short s b right short =
     ]
 
 pub host-rest : (bytes : List ℕ) → AreBytes bytes → length (host_split bytes).rest ≤ 16777295
-host-rest bytes are = rest-short (stream_format ToGuest) after (λ s. stream_sound ToGuest s) host_start bytes are 16777295 host-short
+host-rest bytes are = rest-short (stream_format ToGuest) after (λ s. stream_sound ToGuest s) stream_start bytes are 16777295 host-short
 
 -- ---- both
 

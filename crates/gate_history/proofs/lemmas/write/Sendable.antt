@@ -2,7 +2,7 @@
 use Rattle.std.proofs.Common.{◌≡◌, ℕ, ◌≤◌, ◌<◌, ◌^◌, Bool, true, false, cond, not, List, [], ◌∷◌, length, map, Option, Some, None, unwrap_or, refl, sym, ap, subst, ◌∙◌, arith, lit<}
 use Rattle.std.specs.Prelude.{IfSome, drop}
 use Rattle.std.proofs.lemmas.List.{length-take, length-drop}
-use Rattle.usb_base.specs.Endpoint.{is_in_endpoint}
+use Rattle.usb_base.specs.Endpoint.{is_in_endpoint, is_iso}
 use Rattle.usb_base.specs.Number.{part}
 use Rattle.usb_base.specs.declared.endpoint.EpRow.{EpRow}
 use Rattle.usb_base.specs.declared.setup.Setup.{Setup}
@@ -27,7 +27,6 @@ use Rattle.gate_history.specs.declared.verdict.Pipe.{Pipe}
 use Rattle.gate_history.specs.declared.verdict.Pipe.TheVariants.{Control, Bulk, InterruptOut}
 use Rattle.gate_history.specs.declared.verdict.Verdict.{Verdict}
 use Rattle.gate_history.specs.declared.verdict.Verdict.TheVariants.{Now, Wire, Routed, IsoOut, Stream}
-use Rattle.gate_history.specs.client.Verdict.{is_iso}
 use Rattle.gate_history.specs.client.Carried.{HasItsSetup, IsSent, IsLaid, IsCarried}
 use Rattle.gate_history.proofs.lemmas.client.Carried.{can_be_written}
 use Rattle.gate_history.proofs.lemmas.write.Laid.{IsWithin, all-within}

@@ -16,7 +16,7 @@ use Rattle.gate_history.specs.declared.verdict.Verdict.{Verdict}
 use Rattle.gate_history.specs.declared.verdict.Verdict.TheVariants.{Now, Wire, Routed, IsoOut, Stream}
 use Rattle.gate_history.specs.client.Verdict.{is_wire, goes_by_id}
 use Rattle.gate_history.specs.write.Output.{cancel}
-use Rattle.gate_history.specs.write.Bytes.{host_packet_bytes}
+use Rattle.redir_data.specs.Sent.{sent_packet_bytes}
 use Rattle.gate_parts.specs.state.Rows.{is_wire_row, kind_of, row_of, row, unmarked, left_row, cancel_bytes}
 
 -- what holds of each verdict
@@ -48,12 +48,12 @@ left-rows (p ∷ ps) =
 
 -- the cancels
 pub cancel-rows : (caps : Caps) (test : Pending → Bool) → ((p : Pending) → test p ≡ (is_wire p.submit.verdict && is_none p.unlinker)) → (ps : List Pending) →
-    flat_map (cancel_bytes caps) (map row ps) ≡ flat_map (host_packet_bytes caps) (map cancel (filter test ps))
+    flat_map (cancel_bytes caps) (map row ps) ≡ flat_map (sent_packet_bytes caps) (map cancel (filter test ps))
 cancel-rows caps test h [] = refl
 cancel-rows caps test h (p ∷ ps) =
-    (λ i. cond (wire-row p.submit.verdict p.submit.request.transfer.ep i && is_none p.unlinker) (host_packet_bytes caps (p.submit.id, Plain plain.Cancel)) [] ++ cancel-rows caps test h ps i)
-    ∙ ap (λ (b : Bool). cond b (host_packet_bytes caps (p.submit.id, Plain plain.Cancel)) [] ++ flat_map (host_packet_bytes caps) (map cancel (filter test ps))) (sym (h p))
-    ∙ elim (test p) as (λ b. cond b (host_packet_bytes caps (p.submit.id, Plain plain.Cancel)) [] ++ flat_map (host_packet_bytes caps) (map cancel (filter test ps)) ≡ flat_map (host_packet_bytes caps) (map cancel (cond b (p ∷ filter test ps) (filter test ps)))) [
+    (λ i. cond (wire-row p.submit.verdict p.submit.request.transfer.ep i && is_none p.unlinker) (sent_packet_bytes caps (p.submit.id, Plain plain.Cancel)) [] ++ cancel-rows caps test h ps i)
+    ∙ ap (λ (b : Bool). cond b (sent_packet_bytes caps (p.submit.id, Plain plain.Cancel)) [] ++ flat_map (sent_packet_bytes caps) (map cancel (filter test ps))) (sym (h p))
+    ∙ elim (test p) as (λ b. cond b (sent_packet_bytes caps (p.submit.id, Plain plain.Cancel)) [] ++ flat_map (sent_packet_bytes caps) (map cancel (filter test ps)) ≡ flat_map (sent_packet_bytes caps) (map cancel (cond b (p ∷ filter test ps) (filter test ps)))) [
       | true ↦ refl
       | false ↦ refl
     ]

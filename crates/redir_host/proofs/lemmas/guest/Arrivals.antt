@@ -11,7 +11,8 @@ use Rattle.redir_wire.specs.declared.packet.Header.{Header}
 use Rattle.redir_data.specs.declared.packet.RedirPacket.{RedirPacket}
 use Rattle.redir_data.specs.declared.state.RedirState.{RedirState}
 use Rattle.redir_host.specs.step.Acts.{Act, Piece, Perform, Offer, Unplug, guest_bytes}
-use Rattle.redir_host.specs.guest.Guest.{guest_reader, guest_start, guest_split, guest_items, asked, wrongs, added}
+use Rattle.redir_data.specs.Streams.{stream_start}
+use Rattle.redir_host.specs.guest.Guest.{guest_reader, guest_split, guest_items, asked, wrongs, added}
 use Rattle.redir_host.specs.step.History.{onto, history, of_guest}
 use Rattle.redir_host.specs.step.Items.{Item}
 use Rattle.redir_host.proofs.lemmas.guest.Pieces.{guest-steady}
@@ -34,7 +35,7 @@ grows-by bytes piece are None right =
     let x = guest_split bytes in
     let z = split guest_reader x.position (x.rest ++ piece) in
     let y : guest_split (bytes ++ piece) ≡ record z { packets = x.packets ++ z.packets } =
-    split-more guest_reader guest-steady guest_start bytes piece are ∙ ap (further_by guest_reader x piece) right in
+    split-more guest_reader guest-steady stream_start bytes piece are ∙ ap (further_by guest_reader x piece) right in
     let before : guest_items bytes ≡ map asked x.packets = ap (λ (o : Option (ℕ × Reason)). map asked x.packets ++ wrongs o) right ∙ append-nil (map asked x.packets) in
     record {
       more = z.packets;
@@ -47,7 +48,7 @@ grows-by bytes piece are None right =
 grows-by bytes piece are (Some w) wrong = record {
   more = [];
   wrong = None;
-  whole = ap items (split-more guest_reader guest-steady guest_start bytes piece are ∙ ap (further_by guest_reader (guest_split bytes) piece) wrong) ∙ sym (append-nil (guest_items bytes));
+  whole = ap items (split-more guest_reader guest-steady stream_start bytes piece are ∙ ap (further_by guest_reader (guest_split bytes) piece) wrong) ∙ sym (append-nil (guest_items bytes));
 }
 
 of_guest-onto : (more : List (ℕ × (Header × RedirPacket))) (wrong : Option (ℕ × Reason)) (xs : List Item) → of_guest (onto (map asked more ++ wrongs wrong) xs) ≡ of_guest xs ++ (map asked more ++ wrongs wrong)

@@ -17,7 +17,7 @@ use Rattle.redir_data.specs.Packets.{takes_memory as redir_takes_memory}
 use Rattle.redir_data.specs.declared.packet.RedirPacket.{RedirPacket}
 use Rattle.redir_data.specs.declared.packet.RedirPacket.TheVariants.{Plain, Carrying}
 use Rattle.redir_data.specs.declared.state.RedirState.{RedirState}
-use Rattle.redir_data.specs.Streams.{start}
+use Rattle.redir_data.specs.Streams.{start, stream_start}
 use Rattle.model_device.specs.Gadget.{IsGadget}
 use Rattle.model_device.specs.Meaning.{Meaning}
 use Rattle.redir_host.specs.declared.state.host.Host.{Host}
@@ -25,7 +25,7 @@ use Rattle.redir_host.specs.state.Kept.{HostKept}
 use Rattle.redir_host.specs.declared.write.note.HostNote.{HostNote}
 use Rattle.redir_host.specs.declared.step.taker.GuestTaker.{GuestTaker}
 use Rattle.redir_host.specs.step.Acts.{Act, Piece, guest_bytes}
-use Rattle.redir_host.specs.guest.Guest.{guest_reader, guest_start, guest_split, asked, wrongs, added}
+use Rattle.redir_host.specs.guest.Guest.{guest_reader, guest_split, asked, wrongs, added}
 use Rattle.redir_host.specs.step.History.{history}
 use Rattle.redir_host.specs.step.Items.{Item, Asked, Wrong}
 use Rattle.redir_host.specs.step.Machine.{all_given, bytes_of, notes_of, steps}
@@ -49,7 +49,7 @@ done-by : {S : Type 0} (m : Meaning S) (bytes piece : List ℕ) (first : GuestTa
 done-by {S = S} m bytes piece first last new changes nexts false going g =
     let y = guest_split (bytes ++ piece) in
     let over : new.over ≡ false = ap (λ (k : Stream RedirState). k.over) changes ∙ going in
-    let d : Drained new y ((guest_split bytes).packets ++ g.more) = nexts guest_start (bytes ++ piece) ((guest_split bytes).packets ++ g.more) g.follows over in
+    let d : Drained new y ((guest_split bytes).packets ++ g.more) = nexts stream_start (bytes ++ piece) ((guest_split bytes).packets ++ g.more) g.follows over in
     let drained : Drained new y y.packets = record { packets = refl; right = d.right; rest = d.rest; place = d.place; state = d.state } in
     let parts : added bytes piece ≡ map asked g.more =
     added-more side bytes piece g.more g.right d.packets
@@ -135,21 +135,21 @@ stops-by m s failed old last new t acts piece memory (Ok (Some i)) stands w chan
     let bytes = guest_bytes acts in
     let g = going-at m bytes piece old.taker last changes.1 w in
     let given : List Found = (guest_split bytes).packets ++ g.more in
-    let n = nexts guest_start (bytes ++ piece) given g.follows in
+    let n = nexts stream_start (bytes ++ piece) given g.follows in
     let one : List Found = (n.at, i.1) ∷ [] in
-    let front = follows-front guest_reader guest_start new (bytes ++ piece) (given ++ one) n.follows in
+    let front = follows-front guest_reader stream_start new (bytes ++ piece) (given ++ one) n.follows in
     stops-next m s failed old last acts piece t.out.now (asked (n.at, i.1)) (map asked front.0 ++ wrongs (guest_split (bytes ++ piece)).wrong) stands g
     (added-front side bytes piece g.more ((n.at, i.1) ∷ front.0) g.right (front.1 ∙ append_assoc given one front.0)) takes.1.0 (inr takes.1.1)
 stops-by m s failed old last new t acts piece memory (Err (IsRefused place why)) stands w changes nexts takes =
     let bytes = guest_bytes acts in
     let g = going-at m bytes piece old.taker last changes.0 w in
-    let n = nexts guest_start (bytes ++ piece) ((guest_split bytes).packets ++ g.more) g.follows in
+    let n = nexts stream_start (bytes ++ piece) ((guest_split bytes).packets ++ g.more) g.follows in
     stops-next m s failed old last acts piece t.out.now (Wrong place why) [] stands g
     (added-more side bytes piece g.more g.right n.packets ∙ ap (λ (o : Option (ℕ × Reason)). map asked g.more ++ wrongs o) n.wrong ∙ ap (λ (at : ℕ). map asked g.more ++ Wrong at why ∷ []) (sym n.place-is)) takes.1.0 (inr takes.1.1)
 stops-by {S = S} m s failed old last new t acts piece memory (Err (Memory _)) stands w changes nexts takes =
     let bytes = guest_bytes acts in
     let g = going-at m bytes piece old.taker last changes.0 w in
-    let n = nexts guest_start (bytes ++ piece) ((guest_split bytes).packets ++ g.more) g.follows in
+    let n = nexts stream_start (bytes ++ piece) ((guest_split bytes).packets ++ g.more) g.follows in
     stops-next m s failed old last acts piece t.out.now (asked n.next) (map asked n.left ++ wrongs (guest_split (bytes ++ piece)).wrong) stands g
     (added-front side bytes piece g.more (n.next ∷ n.left) g.right n.packets) (ap (λ (u : GuestTaker S). u.out.now) takes.1) (inl (asks-memory n.next.1.0 n.next.1.1 n.takes-some))
 

@@ -20,7 +20,7 @@ use Rattle.redir_wire.specs.declared.packet.Way.TheVariants.{ToHost}
 use Rattle.redir_data.specs.Packets.{takes_memory as redir_takes_memory}
 use Rattle.redir_data.specs.declared.packet.RedirPacket.{RedirPacket}
 use Rattle.redir_data.specs.declared.state.RedirState.{RedirState}
-use Rattle.redir_data.specs.Streams.{start, after, stream_format}
+use Rattle.redir_data.specs.Streams.{start, after, stream_format, stream_start}
 use Rattle.redir_data.specs.sound.Joined.{stream_sound}
 use Rattle.model_device.specs.Gadget.{IsGadget}
 use Rattle.model_device.specs.Meaning.{Meaning}
@@ -29,7 +29,7 @@ use Rattle.redir_host.specs.state.Kept.{HostKept}
 use Rattle.redir_host.specs.declared.write.note.HostNote.{HostNote}
 use Rattle.redir_host.specs.declared.step.taker.GuestTaker.{GuestTaker}
 use Rattle.redir_host.specs.step.Acts.{Act}
-use Rattle.redir_host.specs.guest.Guest.{guest_reader, guest_start, guest_split, guest_items, asked, wrongs, added}
+use Rattle.redir_host.specs.guest.Guest.{guest_reader, guest_split, guest_items, asked, wrongs, added}
 use Rattle.redir_host.specs.step.History.{brought, history}
 use Rattle.redir_host.specs.step.Items.{Item, Asked, Wrong}
 use Rattle.redir_host.specs.step.Machine.{move, all_given, bytes_of, notes_of, steps, given_by}
@@ -62,17 +62,17 @@ fits-behind a z bytes rest [] left i spelled = spelled.2
 fits-behind a z bytes rest (j ∷ given) left i spelled = fits-behind (past after a j.1 (length ((stream_format ToHost a.state).spelling j.1))) z spelled.0 rest given left i spelled.4
 
 -- a packet that comes next is one that the guest can send now
-pub next-taken : (takes : Header × RedirPacket → Bool) (kept new : Stream RedirState) (guest : RedirState) (bytes : List ℕ) (given : List Found) (i : Found) → Follows guest_reader guest_start kept bytes given → guest ≡ told_state start given → Nexts guest_reader takes (Ok (Some i)) kept new →
+pub next-taken : (takes : Header × RedirPacket → Bool) (kept new : Stream RedirState) (guest : RedirState) (bytes : List ℕ) (given : List Found) (i : Found) → Follows guest_reader stream_start kept bytes given → guest ≡ told_state start given → Nexts guest_reader takes (Ok (Some i)) kept new →
     IsTaken guest i.1.0 i.1.1
 next-taken takes kept new guest bytes given i follows state nexts =
-    let n = nexts guest_start bytes given follows in
+    let n = nexts stream_start bytes given follows in
     let item : List Found = (n.at, i.1) ∷ [] in
-    let front = follows-front guest_reader guest_start new bytes (given ++ item) n.follows in
+    let front = follows-front guest_reader stream_start new bytes (given ++ item) n.follows in
     let x = guest_split bytes in
-    let found = is_splitting (stream_format ToHost) after (stream_sound ToHost) guest_start bytes follows.fits in
-    let spelled : Spells (stream_format ToHost) after guest_start bytes (given ++ (n.at, i.1) ∷ front.0) x.position found.left =
-    subst (λ (ps : List Found). Spells (stream_format ToHost) after guest_start bytes ps x.position found.left) (front.1 ∙ append_assoc given item front.0) found.spelled in
-    subst (λ (s : RedirState). IsTaken s i.1.0 i.1.1) (sym state) (fits-behind guest_start x.position bytes found.left given front.0 (n.at, i.1) spelled)
+    let found = is_splitting (stream_format ToHost) after (stream_sound ToHost) stream_start bytes follows.fits in
+    let spelled : Spells (stream_format ToHost) after stream_start bytes (given ++ (n.at, i.1) ∷ front.0) x.position found.left =
+    subst (λ (ps : List Found). Spells (stream_format ToHost) after stream_start bytes ps x.position found.left) (front.1 ∙ append_assoc given item front.0) found.spelled in
+    subst (λ (s : RedirState). IsTaken s i.1.0 i.1.1) (sym state) (fits-behind stream_start x.position bytes found.left given front.0 (n.at, i.1) spelled)
 
 -- ---- items that the host takes
 
@@ -122,7 +122,7 @@ guest_taking m = taken_by (stream_format ToHost) after redir_takes_memory (Taker
 -- these packets of it were taken, and the stream goes on behind them
 pub record IsGoing {S : Type 0} (m : Meaning S) (bytes piece : List ℕ) (first : GuestTaker S) (now : TakenStream RedirState (GuestTaker S)) : Type 0 where
   pub more : List Found
-  pub follows : Follows guest_reader guest_start now.stream (bytes ++ piece) ((guest_split bytes).packets ++ more)
+  pub follows : Follows guest_reader stream_start now.stream (bytes ++ piece) ((guest_split bytes).packets ++ more)
   pub right : (guest_split bytes).wrong ≡ None
   pub state : now.taker.host.now.guest ≡ told_state start ((guest_split bytes).packets ++ more)
   pub taken : HasTaken m first.host.now now.taker.host.now first.out.now now.taker.out.now first.notes.now now.taker.notes.now (map asked more)
@@ -150,7 +150,7 @@ going-at m bytes piece first now is w = subst (IsWithinBy m bytes piece first no
 -- ---- the piece has come
 
 still : (bytes piece : List ℕ) (w : ℕ × Reason) → AreBytes bytes → (guest_split bytes).wrong ≡ Some w → guest_split (bytes ++ piece) ≡ guest_split bytes
-still bytes piece w fits wrong = split-more guest_reader guest-steady guest_start bytes piece fits ∙ ap (further_by guest_reader (guest_split bytes) piece) wrong
+still bytes piece w fits wrong = split-more guest_reader guest-steady stream_start bytes piece fits ∙ ap (further_by guest_reader (guest_split bytes) piece) wrong
 
 none-added : (bytes piece : List ℕ) → guest_split (bytes ++ piece) ≡ guest_split bytes → added bytes piece ≡ []
 none-added bytes piece same =
@@ -172,8 +172,8 @@ first-by {S = S} m old new first bytes piece are b puts false going =
     let d : Drained old x x.packets = subst (IsReadBy old x) going b.read.read in
     record {
       more = [];
-      follows = subst (Follows guest_reader guest_start new (bytes ++ piece)) (sym (append-nil x.packets))
-          (puts guest_start bytes x.packets (drained-follows guest_reader guest-steady guest_start old bytes x.packets b.read.fits going d));
+      follows = subst (Follows guest_reader stream_start new (bytes ++ piece)) (sym (append-nil x.packets))
+          (puts stream_start bytes x.packets (drained-follows guest_reader guest-steady stream_start old bytes x.packets b.read.fits going d));
       right = d.right;
       state = b.state ∙ ap (told_state start) (sym (append-nil x.packets));
       taken = taken-none m first.host.now first.out.now first.notes.now b.sound;
@@ -200,7 +200,7 @@ within-first m old new first bytes piece are b is puts =
 
 -- the items of a piece that is taken so far
 abbrev pub side : SideStream RedirState (Header × RedirPacket) Reason Item
-side = record { reader = guest_reader; start = guest_start; packet = λ place p. Asked p.0.id p.1; wrong = λ at why. Wrong (capped at) why; over = λ xs. false }
+side = record { reader = guest_reader; start = stream_start; packet = λ place p. Asked p.0.id p.1; wrong = λ at why. Wrong (capped at) why; over = λ xs. false }
 
 one-by : {S : Type 0} (m : Meaning S) → IsGadget m → (bytes piece : List ℕ) (first : GuestTaker S) (old new : TakenStream RedirState (GuestTaker S)) (answer : Result (Option Found) ReadError) → IsWithin m bytes piece first old →
     Changes answer old.stream new.stream → Nexts guest_reader redir_takes_memory answer old.stream new.stream → TakesAnswer (guest_taking m) answer (Ok tt) old.taker new.taker → IsWithin m bytes piece first new
@@ -209,7 +209,7 @@ one-by {S = S} m lawful bytes piece first old new (Ok (Some i)) w changes nexts 
     let g = going-at m bytes piece first old changes.1 w in
     let x = guest_split bytes in
     let mid = old.taker.host.now in
-    let n = nexts guest_start (bytes ++ piece) (x.packets ++ g.more) g.follows in
+    let n = nexts stream_start (bytes ++ piece) (x.packets ++ g.more) g.follows in
     let one : List Found = (n.at, i.1) ∷ [] in
     let is = next-taken redir_takes_memory old.stream new.stream mid.guest (bytes ++ piece) (x.packets ++ g.more) i g.follows g.state nexts in
     let keeps = keeps-packet m mid i.1.0 i.1.1 g.taken.sound is in
@@ -218,7 +218,7 @@ one-by {S = S} m lawful bytes piece first old new (Ok (Some i)) w changes nexts 
     let behind : (x.packets ++ g.more) ++ one ≡ x.packets ++ (g.more ++ one) = append_assoc x.packets g.more one in
     within-at m bytes piece first new false changes.2 (record {
       more = g.more ++ one;
-      follows = subst (Follows guest_reader guest_start new.stream (bytes ++ piece)) behind n.follows;
+      follows = subst (Follows guest_reader stream_start new.stream (bytes ++ piece)) behind n.follows;
       right = g.right;
       state = guest ∙ ap (λ (s : RedirState). after s i.1) g.state ∙ sym (state-append start (x.packets ++ g.more) one) ∙ ap (told_state start) behind;
       taken = subst (HasTaken m first.host.now new.taker.host.now first.out.now new.taker.out.now first.notes.now new.taker.notes.now) (sym (map-append asked g.more one))
@@ -230,7 +230,7 @@ one-by {S = S} m lawful bytes piece first old new (Err (IsRefused place why)) w 
     let g = going-at m bytes piece first old changes.0 w in
     let x = guest_split bytes in
     let mid = old.taker.host.now in
-    let n = nexts guest_start (bytes ++ piece) (x.packets ++ g.more) g.follows in
+    let n = nexts stream_start (bytes ++ piece) (x.packets ++ g.more) g.follows in
     let host : new.taker.host.now ≡ mid = takes.1.0.makes.host in
     let parts : added bytes piece ≡ map asked g.more ++ Wrong place why ∷ [] =
     added-more side bytes piece g.more g.right n.packets

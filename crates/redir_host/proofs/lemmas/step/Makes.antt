@@ -26,7 +26,8 @@ use Rattle.chapter9.specs.Standard.{ended}
 use Rattle.redir_host.specs.write.Answers.{answer, answer_by, cancelled}
 use Rattle.redir_host.specs.device.Changes.{change_of, cleared, changed, runs_on, stays, touched}
 use Rattle.redir_host.specs.device.Facts.{facts_of}
-use Rattle.redir_host.specs.step.Machine.{told_bytes, bytes_of}
+use Rattle.redir_data.specs.Sent.{sent_packet_bytes}
+use Rattle.redir_host.specs.step.Machine.{bytes_of}
 use Rattle.redir_host.specs.step.Makes.{Makes, TellsPerformed, Tells}
 use Rattle.redir_host.specs.step.Moves.{Move, behind, then_sends}
 use Rattle.redir_host.specs.device.Performing.{done_by, does, performs, performs_marked, resets, performed, first_performed, with_id, perform_move, perform_move_by, told_performed, told_performed_by}
@@ -40,14 +41,14 @@ use Rattle.redir_host.proofs.lemmas.write.Flushes.{flat_map-append}
 use Rattle.redir_host.proofs.lemmas.state.Each.{each_appended, each_filtered, each_joined, given_if}
 
 -- and then one packet more
-pub makes_then : {S : Type 0} (v : Move S) (p q : ℕ × RedirPacket) (new : Host S) (o0 o1 o2 : List ℕ) → Makes v new o0 o1 → p ≡ q → o2 ≡ o1 ++ told_bytes new.guest.caps q → Makes (then_sends v p) new o0 o2
+pub makes_then : {S : Type 0} (v : Move S) (p q : ℕ × RedirPacket) (new : Host S) (o0 o1 o2 : List ℕ) → Makes v new o0 o1 → p ≡ q → o2 ≡ o1 ++ sent_packet_bytes new.guest.caps q → Makes (then_sends v p) new o0 o2
 makes_then {S = S} v p q new o0 o1 o2 m same e =
-    let f = told_bytes v.host.guest.caps in
+    let f = sent_packet_bytes v.host.guest.caps in
     let one : flat_map f (p ∷ []) ≡ f p = append-nil (f p) in
     record {
       host = m.host;
       sent = e
-          ∙ (λ i. m.sent i ++ told_bytes (m.host i).guest.caps (sym same i))
+          ∙ (λ i. m.sent i ++ sent_packet_bytes (m.host i).guest.caps (sym same i))
           ∙ append_assoc o0 (bytes_of v) (f p)
           ∙ ap (λ bs. o0 ++ (bytes_of v ++ bs)) (sym one)
           ∙ ap (λ bs. o0 ++ bs) (sym (flat_map-append f v.sent (p ∷ [])));
@@ -81,10 +82,10 @@ kept_facts m false r t h = refl
 
 -- what is touched is answered, and then the facts are told
 pub tells_changed : {S : Type 0} (m : Meaning S) (r : Route) (t : EpTable) (success : Bool) (h new : Host S) (o0 o1 o2 : List ℕ) → Makes (cleared success r t h) new o0 o1 →
-    o2 ≡ o1 ++ flat_map (told_bytes new.guest.caps) (facts_of new.guest.caps m new.gadget) → Each InRange (facts_of new.guest.caps m new.gadget) → Tells (changed m r t success h) new o0 o2
+    o2 ≡ o1 ++ flat_map (sent_packet_bytes new.guest.caps) (facts_of new.guest.caps m new.gadget) → Each InRange (facts_of new.guest.caps m new.gadget) → Tells (changed m r t success h) new o0 o2
 tells_changed {S = S} m r t success h new o0 o1 o2 made e fit =
     let v : Move S = cleared success r t h in
-    let f = told_bytes v.host.guest.caps in
+    let f = sent_packet_bytes v.host.guest.caps in
     let facts = facts_of h.guest.caps m h.gadget in
     let told : Host S → List (ℕ × RedirPacket) = λ x. facts_of x.guest.caps m x.gadget in
     let kept : told v.host ≡ facts = kept_facts m success r t h in
@@ -92,7 +93,7 @@ tells_changed {S = S} m r t success h new o0 o1 o2 made e fit =
       makes = record {
         host = made.host;
         sent = e
-            ∙ (λ i. made.sent i ++ flat_map (told_bytes (made.host i).guest.caps) (told (made.host i)))
+            ∙ (λ i. made.sent i ++ flat_map (sent_packet_bytes (made.host i).guest.caps) (told (made.host i)))
             ∙ ap (λ (ps : List (ℕ × RedirPacket)). (o0 ++ flat_map f v.sent) ++ flat_map f ps) kept
             ∙ append_assoc o0 (flat_map f v.sent) (flat_map f facts)
             ∙ ap (λ bs. o0 ++ bs) (sym (flat_map-append f v.sent facts));
@@ -102,7 +103,7 @@ tells_changed {S = S} m r t success h new o0 o1 o2 made e fit =
 
 -- a change and then the answer
 pub tells_change : {S : Type 0} (m : Meaning S) (t : EpTable) (h new : Host S) (q : Request) (r : Route) (success : Bool) (o : Outcome) (o0 o1 o2 : List ℕ) → success ≡ is_success o.status →
-    Tells (changed m r t success h) new o0 o1 → o2 ≡ o1 ++ told_bytes new.guest.caps (answer (m.configuration new.gadget) q o) → Tells (done_by m t h q (Some r) o) new o0 o2
+    Tells (changed m r t success h) new o0 o1 → o2 ≡ o1 ++ sent_packet_bytes new.guest.caps (answer (m.configuration new.gadget) q o) → Tells (done_by m t h q (Some r) o) new o0 o2
 tells_change {S = S} m t h new q r success o o0 o1 o2 is made e =
     let made' : Tells (changed m r t (is_success o.status) h) new o0 o1 = subst (λ (b : Bool). Tells (changed m r t b h) new o0 o1) is made in
     let kept : h.gadget ≡ new.gadget = sym (cleared_gadget (is_success o.status) r t h) ∙ sym (ap (λ (x : Host S). x.gadget) made'.makes.host) in
@@ -112,9 +113,9 @@ tells_change {S = S} m t h new q r success o o0 o1 o2 is made e =
     }
 
 -- the answer alone
-pub tells_answer : {S : Type 0} (m : Meaning S) (t : EpTable) (h : Host S) (q : Request) (o : Outcome) (o0 o1 : List ℕ) → o1 ≡ o0 ++ told_bytes h.guest.caps (answer (m.configuration h.gadget) q o) → Tells (done_by m t h q None o) h o0 o1
+pub tells_answer : {S : Type 0} (m : Meaning S) (t : EpTable) (h : Host S) (q : Request) (o : Outcome) (o0 o1 : List ℕ) → o1 ≡ o0 ++ sent_packet_bytes h.guest.caps (answer (m.configuration h.gadget) q o) → Tells (done_by m t h q None o) h o0 o1
 tells_answer m t h q o o0 o1 e = record {
-  makes = record { host = refl; sent = e ∙ ap (λ bs. o0 ++ bs) (sym (append-nil (told_bytes h.guest.caps (answer (m.configuration h.gadget) q o)))) };
+  makes = record { host = refl; sent = e ∙ ap (λ bs. o0 ++ bs) (sym (append-nil (sent_packet_bytes h.guest.caps (answer (m.configuration h.gadget) q o)))) };
   in_range = (answer_ranges (m.configuration h.gadget) q.id q.form q.transfer.ep o, tt);
 }
 
@@ -217,12 +218,12 @@ changed_request {S = S} m r t b h new o0 o1 q is made =
 
 made_behind : {S : Type 0} (v w : Move S) (before new : Host S) (o0 o1 o2 : List ℕ) → w.host.guest ≡ v.host.guest → Tells v before o0 o1 → Tells w new o1 o2 → Tells (behind v w) new o0 o2
 made_behind v w before new o0 o1 o2 keeps a b =
-    let f = told_bytes w.host.guest.caps in
+    let f = sent_packet_bytes w.host.guest.caps in
     record {
       makes = record {
         host = b.makes.host;
         sent = b.makes.sent
-            ∙ ap (λ bs. bs ++ bytes_of w) (a.makes.sent ∙ ap (λ (g : RedirState). o0 ++ flat_map (told_bytes g.caps) v.sent) (sym keeps))
+            ∙ ap (λ bs. bs ++ bytes_of w) (a.makes.sent ∙ ap (λ (g : RedirState). o0 ++ flat_map (sent_packet_bytes g.caps) v.sent) (sym keeps))
             ∙ append_assoc o0 (flat_map f v.sent) (bytes_of w)
             ∙ ap (λ bs. o0 ++ bs) (sym (flat_map-append f v.sent w.sent));
       };

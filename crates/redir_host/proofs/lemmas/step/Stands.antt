@@ -12,14 +12,14 @@ use Rattle.redir_wire.specs.declared.packet.Header.{Header}
 use Rattle.redir_wire.specs.declared.packet.Way.TheVariants.{ToHost}
 use Rattle.redir_data.specs.declared.packet.RedirPacket.{RedirPacket}
 use Rattle.redir_data.specs.declared.state.RedirState.{RedirState}
-use Rattle.redir_data.specs.Streams.{start, after, stream_format}
+use Rattle.redir_data.specs.Streams.{start, after, stream_format, stream_start}
 use Rattle.redir_data.specs.sound.Joined.{stream_sound}
 use Rattle.model_device.specs.Gadget.{IsGadget}
 use Rattle.model_device.specs.Meaning.{Meaning}
 use Rattle.redir_host.specs.declared.state.host.Host.{Host}
 use Rattle.redir_host.specs.state.Kept.{HostKept}
 use Rattle.redir_host.specs.step.Acts.{Act, Perform, Offer, Unplug, guest_bytes}
-use Rattle.redir_host.specs.guest.Guest.{guest_reader, guest_start, guest_split}
+use Rattle.redir_host.specs.guest.Guest.{guest_reader, guest_split}
 use Rattle.redir_host.specs.step.Machine.{all_given, bytes_of, first_host, move}
 use Rattle.redir_host.specs.step.Makes.{Makes, Tells}
 use Rattle.redir_host.specs.step.Moves.{Move}
@@ -40,9 +40,9 @@ use Rattle.redir_host.proofs.lemmas.write.Replies.{read-more}
 short-by : {P : Type 0} (p : P) (n : ℕ) → 0 < n → ◌≡◌ {A = Found P Reason} (cond (nat_lt 0 n) Short (Whole p n)) Short
 short-by {P = P} p n some = ap (λ (b : Bool). cond {A = Found P Reason} b Short (Whole p n)) (lt-ltb 0 n some)
 
-pub split-none : guest_split [] ≡ record { packets = []; wrong = None; position = guest_start; rest = [] }
+pub split-none : guest_split [] ≡ record { packets = []; wrong = None; position = stream_start; rest = [] }
 split-none =
-    split-is guest_reader (reads_steady (stream_format ToHost) after (stream_sound ToHost)) guest_start [] Short
+    split-is guest_reader (reads_steady (stream_format ToHost) after (stream_sound ToHost)) stream_start [] Short
     (short-by ((stream_format ToHost start).packet []) ((stream_format ToHost start).size []) ((stream_sound ToHost start).some []))
 
 abbrev first-stream : Stream RedirState

@@ -5,7 +5,7 @@ use Rattle.redir_wire.specs.Header.{IdFits}
 use Rattle.gate_history.specs.state.Ids.{draw, greatest}
 use Rattle.gate_history.specs.state.Flight.{wide_ids}
 use Rattle.gate_history.specs.write.Packets.{route_packets}
-use Rattle.gate_history.specs.write.Bytes.{host_packet_bytes}
+use Rattle.redir_data.specs.Sent.{sent_packet_bytes}
 use Rattle.gate_core.specs.inner.SentIds.{flying_in, ids_after}
 use Rattle.gate_history.proofs.lemmas.state.StreamIds.{last-any}
 use Rattle.gate_history.proofs.lemmas.state.Draws.{length-draws}
@@ -21,7 +21,7 @@ returns-clause-sent c =
     let t = c.args.self.now in
     let r = c.args.route.now in
     let drawn = in-turn (greatest (wide_ids t.caps)) (flying_in t) c.args.last _ _ c.draw-first.ensures.value c.draw-second.ensures.value in
-    c.in_ok-write_route.ensures.ok ∙ ap (λ (ns : List ℕ). c.args.to_host.now ++ flat_map (host_packet_bytes t.caps) (zip ns (route_packets r)))
+    c.in_ok-write_route.ensures.ok ∙ ap (λ (ns : List ℕ). c.args.to_host.now ++ flat_map (sent_packet_bytes t.caps) (zip ns (route_packets r)))
     ((λ i. take (c.packet_count-count.ensures.count i) (drawn i)) ∙ route-ids (greatest (wide_ids t.caps)) (flying_in t) c.args.last r)
 
 pub returns-clause-id : goal.returns-clause-id

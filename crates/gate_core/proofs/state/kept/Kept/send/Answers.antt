@@ -11,7 +11,7 @@ use Rattle.gate_history.specs.state.State.{flying, next_ids}
 use Rattle.gate_history.specs.write.Packets.{wire_packet}
 use Rattle.gate_history.specs.step.Meaning.{submission}
 use Rattle.gate_history.specs.write.Output.{fresh}
-use Rattle.gate_history.specs.write.Bytes.{host_packet_bytes}
+use Rattle.redir_data.specs.Sent.{sent_packet_bytes}
 use Rattle.gate_history.proofs.lemmas.client.Carried.{can_be_written}
 use Rattle.gate_history.proofs.lemmas.state.StreamIds.{stream_ids_after-silent, wire-silent}
 use Rattle.gate_core.proofs.lemmas.state.Ids.{draw-is}
@@ -37,6 +37,6 @@ returns-clause-ok c st h sound =
       answered = capped-same old.answered c.requires.kept.answered_fits i;
     }))
     (sym (append-nil c.args.out.now.to_client))
-    (c.in_ok-move_data.ensures.ok ∙ (λ i. c.args.out.now.to_host ++ host_packet_bytes old.caps (id i, c.wire_packet-packet.ensures i))
-    ∙ ap (λ (bs : List ℕ). c.args.out.now.to_host ++ bs) (sym (append-nil (host_packet_bytes old.caps (draw (greatest (wide_ids st.agreed)) (flying st) st.last, wire_packet c.args.pipe r.transfer)))))
+    (c.in_ok-move_data.ensures.ok ∙ (λ i. c.args.out.now.to_host ++ sent_packet_bytes old.caps (id i, c.wire_packet-packet.ensures i))
+    ∙ ap (λ (bs : List ℕ). c.args.out.now.to_host ++ bs) (sym (append-nil (sent_packet_bytes old.caps (draw (greatest (wide_ids st.agreed)) (flying st) st.last, wire_packet c.args.pipe r.transfer)))))
     (c.in_ok-push.ensures.ok ∙ ap (λ (n : ℕ). c.args.out.now.notes ++ note.Submitted r.number n ∷ []) id)

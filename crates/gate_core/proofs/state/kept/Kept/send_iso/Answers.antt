@@ -14,7 +14,7 @@ use Rattle.gate_history.specs.write.Packets.{starts, iso_packets}
 use Rattle.gate_history.specs.state.StreamIds.{stream_ids_after}
 use Rattle.gate_history.specs.step.Meaning.{drawn_for, submission}
 use Rattle.gate_history.specs.write.Answers.{all_sent}
-use Rattle.gate_history.specs.write.Bytes.{host_packet_bytes}
+use Rattle.redir_data.specs.Sent.{sent_packet_bytes}
 use Rattle.gate_core.specs.inner.SentIds.{ids_after, with_ids, starts_of, sent_ids_of, after_starts, bytes_of}
 use Rattle.gate_history.proofs.lemmas.state.StreamIds.{iso-silent}
 use Rattle.gate_core.proofs.lemmas.state.Ids.{ids-are, asked-are}
@@ -49,7 +49,7 @@ returns-clause-ok c st h sound =
     (c.in_ok-write_all_sent.ensures.ok ∙ (λ i. c.args.out.now.to_client ++ spelling (all_sent (c.asked.ensures i)))))
     (c.in_ok-last.ensures.sent ∙ (λ i. c.in_ok-sent_ids.ensures.sent i ++ bytes_of old (started i).last isos)
     ∙ append_assoc c.args.out.now.to_host (bytes_of old old.last starting) (bytes_of old (after_starts old (sent_ids_of old) starting).last isos)
-    ∙ ap (λ (bs : List _). c.args.out.now.to_host ++ bs) (sym (bytes-more old old.last starting isos) ∙ ap (flat_map (host_packet_bytes old.caps)) asked))
+    ∙ ap (λ (bs : List _). c.args.out.now.to_host ++ bs) (sym (bytes-more old old.last starting isos) ∙ ap (flat_map (sent_packet_bytes old.caps)) asked))
     c.in_ok-push.ensures.ok
 
 pub returns-in_err-last-clause-err : goal.returns-in_err-last-clause-err

@@ -20,7 +20,7 @@ use Rattle.gate_history.specs.state.Flight.{wide_ids}
 use Rattle.gate_history.specs.write.Packets.{stops, route_packets}
 use Rattle.gate_history.specs.state.StreamIds.{stream_ids_after}
 use Rattle.gate_history.specs.step.Meaning.{drawn_for, submission}
-use Rattle.gate_history.specs.write.Bytes.{host_packet_bytes}
+use Rattle.redir_data.specs.Sent.{sent_packet_bytes}
 use Rattle.gate_core.specs.inner.SentIds.{flying_in, ids_after, with_ids, stops_of, sent_ids_of, after_stops, bytes_of}
 use Rattle.gate_parts.specs.state.Rows.{ended_bytes, row_for}
 use Rattle.gate_history.proofs.lemmas.state.StreamIds.{last-any, route-silent}
@@ -85,7 +85,7 @@ returns-clause-ok c st h sound =
     c.in_ok-write_ends.ensures.ok
     (c.in_ok-id.ensures.sent ∙ (λ i. c.in_ok-sent_ids.ensures.sent i ++ bytes_of old (stopped i).last asks)
     ∙ append_assoc c.args.out.now.to_host (bytes_of old old.last before) (bytes_of old (after_stops old (sent_ids_of old) before).last asks)
-    ∙ ap (λ (bs : List ℕ). c.args.out.now.to_host ++ bs) (sym (bytes-more old old.last before asks) ∙ ap (flat_map (host_packet_bytes old.caps)) asked))
+    ∙ ap (λ (bs : List ℕ). c.args.out.now.to_host ++ bs) (sym (bytes-more old old.last before asks) ∙ ap (flat_map (sent_packet_bytes old.caps)) asked))
     (c.in_ok-push.ensures.ok ∙ ap (λ (n : ℕ). c.args.out.now.notes ++ note.Submitted r.number n ∷ []) id)
 
 pub returns-in_err-write_ends-clause-err : goal.returns-in_err-write_ends-clause-err

@@ -11,7 +11,7 @@ use Rattle.gate_history.specs.state.State.{next_ids}
 use Rattle.gate_history.specs.state.Ups.{Up, stream_at, raise}
 use Rattle.gate_history.specs.write.Packets.{starts}
 use Rattle.gate_history.specs.state.StreamIds.{stream_ids_after}
-use Rattle.gate_history.specs.write.Bytes.{host_packet_bytes}
+use Rattle.redir_data.specs.Sent.{sent_packet_bytes}
 use Rattle.gate_parts.specs.state.Rows.{row_for}
 use Rattle.gate_core.specs.inner.SentIds.{ids_after, with_ids, starts_of, sent_ids_of, after_starts, bytes_of}
 use Rattle.gate_core.proofs.lemmas.state.Ids.{ids-are, asked-are}
@@ -44,7 +44,7 @@ returns-clause-ok c st h sound =
     (ap (λ (k : SentIds). k.stream_ids) started ∙ ap (λ l. stream_ids_after l old.stream_ids) asked)
     (ap (λ (k : SentIds). k.last) started ∙ ap (last_of old.last) drawn)
     (c.in_ok-sent_ids.ensures.sent ∙ ap (λ (n : ℕ). c.args.out.now.to_host ++ bytes_of old old.last (starts_of old n row)) ep
-    ∙ (λ i. c.args.out.now.to_host ++ flat_map (host_packet_bytes (h.caps i)) (asked i)))
+    ∙ (λ i. c.args.out.now.to_host ++ flat_map (sent_packet_bytes (h.caps i)) (asked i)))
     c.in_ok-push.ensures.ok
 
 pub returns-in_err-push-clause-err : goal.returns-in_err-push-clause-err

@@ -9,7 +9,7 @@ use Rattle.redir_data.specs.declared.packet.RedirPacket.TheVariants.{Carrying}
 use Rattle.gate_history.specs.state.Ids.{draw, greatest, last_of}
 use Rattle.gate_history.specs.state.Flight.{wide_ids}
 use Rattle.gate_history.specs.write.Packets.{iso_packets}
-use Rattle.gate_history.specs.write.Bytes.{host_packet_bytes}
+use Rattle.redir_data.specs.Sent.{sent_packet_bytes}
 use Rattle.gate_core.specs.inner.SentIds.{flying_in, ids_after, bytes_of}
 use Rattle.gate_history.proofs.lemmas.write.Laid.{no_desc, few-stretch, stretch-packet, next-iso}
 use Rattle.gate_core.proofs.lemmas.write.InTurn.{last-more, bytes-more}
@@ -43,8 +43,8 @@ loop-place-preserved c =
     record {
       last = id ∙ sym (last-more t c.args.last before (p ∷ [])) ∙ ap (λ (ps : List RedirPacket). last_of c.args.last (ids_after t c.args.last (length ps))) (sym next);
       sent = c.in_ok-write_iso_out.ensures.ok
-          ∙ ap (λ (n : ℕ). c.loop-place.to_host ++ host_packet_bytes t.caps (c.draw-id.result, Carrying (data_packet.Iso n 0 (length c.part-data.result.now) c.part-data.result.now))) c.byte.ensures.value
-          ∙ (λ i. c.loop-place.invariant.sent i ++ host_packet_bytes t.caps (id i, same i))
+          ∙ ap (λ (n : ℕ). c.loop-place.to_host ++ sent_packet_bytes t.caps (c.draw-id.result, Carrying (data_packet.Iso n 0 (length c.part-data.result.now) c.part-data.result.now))) c.byte.ensures.value
+          ∙ (λ i. c.loop-place.invariant.sent i ++ sent_packet_bytes t.caps (id i, same i))
           ∙ append_assoc c.args.to_host.now (bytes_of t c.args.last before) _
           ∙ ap (λ (bs : List ℕ). c.args.to_host.now ++ bs) (ap (λ (bs : List ℕ). bytes_of t c.args.last before ++ bs) (sym (append-nil _)) ∙ sym (bytes-more t c.args.last before (p ∷ [])) ∙ ap (bytes_of t c.args.last) (sym next));
     }
