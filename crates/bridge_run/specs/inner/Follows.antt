@@ -6,7 +6,7 @@ use Rattle.bridge_run.specs.events.Events.{LinkEvent}
 use Rattle.usb_base.specs.declared.side.Side.{Side}
 use Rattle.usb_base.specs.declared.side.Side.TheVariants.{Client, Host}
 use Rattle.bridge_run.specs.declared.course.serve_end.ServeEnd.{ServeEnd}
-use Rattle.bridge_run.specs.declared.course.serve_end.ServeEnd.TheVariants.{Ended, LinkFault, WriteFault, Idle, Spent, Memory}
+use Rattle.bridge_run.specs.declared.course.serve_end.ServeEnd.TheVariants.{LinkFault, WriteFault, Memory}
 use Rattle.bridge_run.specs.declared.course.rounds.Rounds.{Rounds}
 use Rattle.bridge_run.specs.declared.events.sent.Sent.{Sent}
 use Rattle.bridge_run.specs.events.Prescribed.{Prescribed, gained, drops, first_of}
@@ -47,9 +47,7 @@ abbrev pub IsCutEnd : ServeEnd → Type 0
 IsCutEnd (LinkFault side) = Unit {0}
 IsCutEnd WriteFault = Unit {0}
 IsCutEnd Memory = Unit {0}
-IsCutEnd (Ended refused) = ⊥
-IsCutEnd Idle = ⊥
-IsCutEnd Spent = ⊥
+IsCutEnd _ = ⊥
 
 -- ---- one event
 

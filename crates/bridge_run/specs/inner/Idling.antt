@@ -2,7 +2,7 @@
 use Rattle.std.specs.Prelude.{◌≡◌, ◌⊎◌, ◌≤◌, ◌-◌, ℕ, Bool, true, false, Result, Ok, Err}
 use Rattle.gate_outside.specs.Faults.{one_more}
 use Rattle.bridge_run.specs.declared.course.serve_end.ServeEnd.{ServeEnd}
-use Rattle.bridge_run.specs.declared.course.serve_end.ServeEnd.TheVariants.{Ended, LinkFault, WriteFault, Idle, Spent, Memory}
+use Rattle.bridge_run.specs.declared.course.serve_end.ServeEnd.TheVariants.{Ended, Idle}
 use Rattle.bridge_run.specs.declared.course.rounds.Rounds.{Rounds}
 use Rattle.bridge_run.specs.course.Outside.{Outside, IsDown}
 
@@ -18,13 +18,9 @@ IdledOnce false k k' old new = (k' ≡ k) × (new ≡ old)
 
 -- an end within a round: with `Ended` no link is up, and `Idle` doesn't come
 abbrev pub EndsWithin : {T : Type 0} → Result T ServeEnd → Outside → Type 0
-EndsWithin (Ok _) w = Unit {0}
 EndsWithin (Err (Ended refused)) w = IsDown w
 EndsWithin (Err Idle) w = ⊥
-EndsWithin (Err Spent) w = Unit {0}
-EndsWithin (Err (LinkFault side)) w = Unit {0}
-EndsWithin (Err WriteFault) w = Unit {0}
-EndsWithin (Err Memory) w = Unit {0}
+EndsWithin _ w = Unit {0}
 
 -- in a round that brought nothing each side that it asks was idle once
 pub record QuietRound (old new : Outside) : Type 0 where
@@ -40,7 +36,4 @@ abbrev pub RoundIdles : Result (Unit {0}) ServeEnd → Rounds → Rounds → Out
 RoundIdles (Ok _) k k' old new = AnyRound old new × ((k'.waits ≡ k.idle) ⊎ (k'.waits ≡ k.waits - 1) × QuietRound old new)
 RoundIdles (Err Idle) k k' old new = (k.waits ≡ 1) × QuietRound old new
 RoundIdles (Err (Ended refused)) k k' old new = IsDown new
-RoundIdles (Err Spent) k k' old new = Unit {0}
-RoundIdles (Err (LinkFault side)) k k' old new = Unit {0}
-RoundIdles (Err WriteFault) k k' old new = Unit {0}
-RoundIdles (Err Memory) k k' old new = Unit {0}
+RoundIdles (Err _) k k' old new = Unit {0}

@@ -5,7 +5,7 @@ use Rattle.usb_base.specs.declared.side.Side.{Side}
 use Rattle.usb_base.specs.declared.side.Side.TheVariants.{Client, Host}
 use Rattle.usb_base.specs.declared.refusal.Refusal.{Refusal}
 use Rattle.bridge_run.specs.declared.course.serve_end.ServeEnd.{ServeEnd}
-use Rattle.bridge_run.specs.declared.course.serve_end.ServeEnd.TheVariants.{Ended, LinkFault, WriteFault, Idle, Spent, Memory}
+use Rattle.bridge_run.specs.declared.course.serve_end.ServeEnd.TheVariants.{Ended, Idle, Spent}
 use Rattle.bridge_run.specs.declared.course.rounds.Rounds.{Rounds}
 use Rattle.bridge_run.specs.events.Prescribed.{refuses, first_of}
 use Rattle.bridge_run.specs.course.Outside.{Outside}
@@ -46,10 +46,7 @@ abbrev pub Settles : Result (Unit {0}) ServeEnd → Rounds → Type 0
 Settles (Ok _) k = (is_over k ≡ false) × (0 < k.left)
 Settles (Err (Ended refused)) k = (is_over k ≡ true) × (refused ≡ k.refused)
 Settles (Err Spent) k = (is_over k ≡ false) × (k.left ≡ 0)
-Settles (Err (LinkFault side)) k = ⊥
-Settles (Err WriteFault) k = ⊥
-Settles (Err Idle) k = ⊥
-Settles (Err Memory) k = ⊥
+Settles (Err _) k = ⊥
 
 abbrev pub RestsBusy : Bool → Rounds → Rounds → Type 0
 RestsBusy true old new = new ≡ record old { busy = false; waits = old.idle }
@@ -58,11 +55,7 @@ RestsBusy false old new = (new ≡ record old { waits = old.waits - 1 }) × (0 <
 abbrev pub Rests : Result (Unit {0}) ServeEnd → Rounds → Rounds → Type 0
 Rests (Ok _) old new = RestsBusy old.busy old new
 Rests (Err Idle) old new = (old.busy ≡ false) × (new ≡ record old { waits = old.waits - 1 }) × (new.waits ≡ 0)
-Rests (Err (Ended refused)) old new = ⊥
-Rests (Err Spent) old new = ⊥
-Rests (Err (LinkFault side)) old new = ⊥
-Rests (Err WriteFault) old new = ⊥
-Rests (Err Memory) old new = ⊥
+Rests (Err _) old new = ⊥
 
 -- ---- what is always so
 

@@ -6,7 +6,7 @@ use Rattle.gate_outside.specs.Calls.{Call, Close, Called, went}
 use Rattle.gate_outside.specs.Link.{other}
 use Rattle.bridge_run.specs.events.Events.{LinkEvent, ClientQuiet, SideEnd}
 use Rattle.bridge_run.specs.declared.course.serve_end.ServeEnd.{ServeEnd}
-use Rattle.bridge_run.specs.declared.course.serve_end.ServeEnd.TheVariants.{Ended, LinkFault, WriteFault, Idle, Spent, Memory}
+use Rattle.bridge_run.specs.declared.course.serve_end.ServeEnd.TheVariants.{LinkFault}
 use Rattle.bridge_run.specs.declared.course.rounds.Rounds.{Rounds}
 use Rattle.bridge_run.specs.events.Prescribed.{Prescribed, first_of}
 use Rattle.bridge_run.specs.course.Course.{Next, AtDoor, AtClient, AtHost}
@@ -189,8 +189,4 @@ pub record OpenFailed {D : Type 0} (side : Side) (gives : D → Call → D → T
 abbrev pub OpenLogs : {T D : Type 0} → Result T ServeEnd → (D → Call → D → Type 0) → Terms → Prescribed → D → D → Type 0
 OpenLogs (Ok _) gives terms p begun now = HasOpened gives terms p begun now
 OpenLogs (Err (LinkFault side)) gives terms p begun now = OpenFailed side gives terms p begun now
-OpenLogs (Err (Ended refused)) gives terms p begun now = ⊥
-OpenLogs (Err WriteFault) gives terms p begun now = ⊥
-OpenLogs (Err Idle) gives terms p begun now = ⊥
-OpenLogs (Err Spent) gives terms p begun now = ⊥
-OpenLogs (Err Memory) gives terms p begun now = ⊥
+OpenLogs (Err _) gives terms p begun now = ⊥

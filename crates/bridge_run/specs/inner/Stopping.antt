@@ -5,7 +5,7 @@ use Rattle.usb_base.specs.declared.side.Side.TheVariants.{Client, Host}
 use Rattle.gate_outside.specs.Calls.{Call, Called, went}
 use Rattle.bridge_run.specs.events.Events.{LinkEvent}
 use Rattle.bridge_run.specs.declared.course.serve_end.ServeEnd.{ServeEnd}
-use Rattle.bridge_run.specs.declared.course.serve_end.ServeEnd.TheVariants.{Ended, LinkFault, WriteFault, Idle, Spent, Memory}
+use Rattle.bridge_run.specs.declared.course.serve_end.ServeEnd.TheVariants.{LinkFault, WriteFault, Memory}
 use Rattle.bridge_run.specs.declared.course.rounds.Rounds.{Rounds}
 use Rattle.bridge_run.specs.events.Prescribed.{Prescribed}
 use Rattle.bridge_run.specs.course.Course.{Course}
@@ -63,6 +63,4 @@ abbrev pub StopLogs : {D : Type 0} → ServeEnd → (D → Call → D → Type 0
 StopLogs Memory gives runs_out terms p e events begun now = HasStopped gives runs_out terms p e events begun now
 StopLogs WriteFault gives runs_out terms p e events begun now = StopFailed gives terms p e events begun now
 StopLogs (LinkFault side) gives runs_out terms p e events begun now = StopCut side gives terms p e events begun now
-StopLogs (Ended refused) gives runs_out terms p e events begun now = ⊥
-StopLogs Idle gives runs_out terms p e events begun now = ⊥
-StopLogs Spent gives runs_out terms p e events begun now = ⊥
+StopLogs _ gives runs_out terms p e events begun now = ⊥

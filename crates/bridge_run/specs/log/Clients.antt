@@ -1,5 +1,5 @@
 -- What each client got: by the log of the doors' calls, and by the events.
-use Rattle.std.specs.Prelude.{ℕ, Bool, true, false, if◌then◌else◌, List, [], ◌∷◌, ◌++◌, Result, Ok, Err}
+use Rattle.std.specs.Prelude.{ℕ, Bool, true, if◌then◌else◌, List, [], ◌∷◌, ◌++◌, Result, Ok}
 use Rattle.usb_base.specs.declared.side.Side.TheVariants.{Client}
 use Rattle.gate_outside.specs.declared.fault.Failed.{Failed as Fault}
 use Rattle.gate_outside.specs.Calls.{Call, Accept, Write, written_by}
@@ -35,8 +35,7 @@ joined shares = joined_list shares.earlier ++ shares.latest
 
 abbrev pub behind_answer : Result Bool Fault → Shares → Shares
 behind_answer (Ok true) shares = with_next [] shares
-behind_answer (Ok false) shares = shares
-behind_answer (Err _) shares = shares
+behind_answer _ shares = shares
 
 abbrev pub with_call : Call → Shares → Shares
 with_call (Accept answer) shares = behind_answer answer shares

@@ -5,7 +5,7 @@ use Rattle.gate_outside.specs.declared.fault.Failed.{Failed}
 use Rattle.usbgate_tapes.specs.declared.tape.lines.TapeLines.{TapeLines}
 use Rattle.usbgate_tapes.specs.declared.tape.reader.TapeReader.{TapeReader}
 use Rattle.usbgate_tapes.specs.declared.status.Status.{Status}
-use Rattle.usbgate_tapes.specs.declared.status.Status.TheVariants.{Done, Usage, Refused, ReadFault, WriteFault, LinkFault, OutOfMemory, BadTape, Idle, Spent}
+use Rattle.usbgate_tapes.specs.declared.status.Status.TheVariants.{BadTape}
 use Rattle.usbgate_tapes.specs.tape.Tape.{lines_of, content}
 use Rattle.usbgate_tapes.specs.Text.{bad_line}
 use Rattle.packet_show.specs.declared.tape.TheConstants.{TAPE_LIMIT}
@@ -48,15 +48,7 @@ pub record EndWants {S : Type 0} (command : TapeCommand S) (s : Progress S) (pen
 -- what is written behind the text where the run ends: at a bad line its own line
 abbrev pub end_text : Status → List ℕ
 end_text (BadTape number) = bad_line number
-end_text Done = []
-end_text Usage = []
-end_text Refused = []
-end_text ReadFault = []
-end_text WriteFault = []
-end_text (LinkFault side) = []
-end_text OutOfMemory = []
-end_text Idle = []
-end_text Spent = []
+end_text _ = []
 
 abbrev pub with_text : {S : Type 0} → List ℕ → Reading S → Reading S
 with_text text x = record x { text = text ++ x.text }
