@@ -1,5 +1,5 @@
 -- How far a session has come by the log of the doors' calls.
-use Rattle.std.specs.Prelude.{◌≡◌, ◌⊎◌, ◌≤◌, ◌<◌, ◌+◌, ◌-◌, ◌++◌, ◌∷◌, [], ℕ, not, Bool, true, false, if◌then◌else◌, List, Some, is_some, Result, Ok, Err}
+use Rattle.std.specs.Prelude.{◌≡◌, ◌⊎◌, ◌≤◌, ◌<◌, ◌+◌, ◌-◌, ◌++◌, ◌∷◌, [], ℕ, not, Bool, true, false, List, Some, is_some, Result, Ok, Err}
 use Rattle.usb_base.specs.declared.side.Side.{Side}
 use Rattle.usb_base.specs.declared.side.Side.TheVariants.{Client, Host}
 use Rattle.gate_outside.specs.Calls.{Call, Close, Called, went}
@@ -11,6 +11,7 @@ use Rattle.bridge_run.specs.declared.course.rounds.Rounds.{Rounds}
 use Rattle.bridge_run.specs.events.Prescribed.{Prescribed, first_of}
 use Rattle.bridge_run.specs.course.Course.{Next, AtDoor, AtClient, AtHost}
 use Rattle.bridge_run.specs.course.Calls.{ends_next}
+use Rattle.bridge_run.specs.written.Recorded.{written_if}
 use Rattle.bridge_run.specs.written.Ups.{client_at, client_behind, host_at, host_since, told_of, up_by}
 use Rattle.bridge_run.specs.log.Asks.{Ask, asks_of, taken, has_just_come, quiet_rounds, is_behind_host, last_fault}
 use Rattle.bridge_run.specs.log.Log.{Terms, events_of, events_before, IsFront, IsWritten, IsWrittenInPart, is_up, GoesOn, is_over, Settled, JustCame, Logged}
@@ -142,9 +143,6 @@ pub record WroteMore {D : Type 0} (gives : D → Call → D → Type 0) (side : 
   pub side-is : went side behind ≡ went side calls ++ bytes
   pub other-is : went (other side) behind ≡ went (other side) calls
 
-abbrev pub all_if : Bool → List ℕ → List ℕ
-all_if up bytes = if up then bytes else []
-
 -- a front of the bytes was written to a link that is up, and then a call failed
 pub record FailedBehind {D : Type 0} (gives : D → Call → D → Type 0) (side : Side) (up : Bool) (bytes : List ℕ) (calls : List Call) (begun now : D) : Type 0 where
   pub front : List ℕ
@@ -156,7 +154,7 @@ pub record FailedBehind {D : Type 0} (gives : D → Call → D → Type 0) (side
 
 -- all of the bytes, if the link is up, or a front of them
 abbrev pub LogsAll : {T D : Type 0} → Result T ServeEnd → (D → Call → D → Type 0) → Side → Bool → List ℕ → List Call → D → D → Type 0
-LogsAll (Ok _) gives side up bytes calls begun now = WroteMore gives side (all_if up bytes) calls begun now
+LogsAll (Ok _) gives side up bytes calls begun now = WroteMore gives side (written_if up bytes) calls begun now
 LogsAll (Err _) gives side up bytes calls begun now = FailedBehind gives side up bytes calls begun now
 
 abbrev pub closing : Bool → Side → List Call → List Call

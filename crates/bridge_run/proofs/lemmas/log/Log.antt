@@ -13,12 +13,13 @@ use Rattle.bridge_run.specs.declared.course.serve_end.ServeEnd.{ServeEnd}
 use Rattle.bridge_run.specs.declared.course.serve_end.ServeEnd.TheVariants as end
 use Rattle.bridge_run.specs.events.Prescribed.{Prescribed, gained, refuses, drops, first_of}
 use Rattle.bridge_run.specs.course.Calls.{ends_next}
+use Rattle.bridge_run.specs.written.Recorded.{written_if}
 use Rattle.bridge_run.specs.written.Ups.{client_at, client_behind, host_at, host_since, to_clients, sent_to_host, told_of, up_by}
 use Rattle.bridge_run.specs.log.Asks.{Ask, asks_of, taken, last_fault}
 use Rattle.bridge_run.specs.log.Log.{Terms, events_of, events_before, behind_call, IsWritten, IsFront, IsWrittenInPart, InPart, is_up, is_over, Settled, JustCame, WroteInPart, HasEnded, Logged}
 use Rattle.bridge_run.specs.inner.Follows.{Prepared}
 use Rattle.bridge_run.specs.inner.Keeping.{refusing, Settles, is_over as none_up}
-use Rattle.bridge_run.specs.inner.Logging.{IsAt, up_at, IsTaking, HasTaken, IsBehind, PutLogs, HappenLogs, WroteMore, all_if, FailedBehind, closing}
+use Rattle.bridge_run.specs.inner.Logging.{IsAt, up_at, IsTaking, HasTaken, IsBehind, PutLogs, HappenLogs, WroteMore, FailedBehind, closing}
 use Rattle.bridge_run.proofs.lemmas.log.Sink.{front-more, told-all, part-more, part-least}
 use Rattle.bridge_run.proofs.lemmas.written.Put.{dropped-is, first_of-append}
 use Rattle.bridge_run.proofs.lemmas.log.Writing.{went-closing, settled-closing, client-closing, host-closing, events-closing, before-closing, asks-closing, just-host}
@@ -44,7 +45,7 @@ sent-closing r of terms p calls events w = record { client = went-closing r of C
 
 has-sent : {D : Type 0} → (gives : D → Call → D → Type 0) (stands : List LinkEvent → Type 0) (tells : List ℕ → Type 0) (terms : Terms) (p : Prescribed) (asks : List Ask) (e : LinkEvent) (k k1 : Rounds) (sent : Sent) (lines : List ℕ) (begun d0 d1 d2 : D)
     → (t : IsTaking gives stands tells terms p asks e k begun d0) → Prepared p t.events e sent lines → k1 ≡ k
-    → (w1 : WroteMore gives Client (all_if k1.client_up sent.to_client) t.calls begun d1) → (w2 : WroteMore gives Host (all_if k1.host_up sent.to_host) w1.behind begun d2)
+    → (w1 : WroteMore gives Client (written_if k1.client_up sent.to_client) t.calls begun d1) → (w2 : WroteMore gives Host (written_if k1.host_up sent.to_host) w1.behind begun d2)
     → HasSent terms p asks w2.behind e t.events
 has-sent gives stands tells terms p asks e k k1 sent lines begun d0 d1 d2 t prepared same w1 w2 = record {
   asks-are = w2.asks-are ∙ w1.asks-are ∙ t.asks-are;
@@ -54,12 +55,12 @@ has-sent gives stands tells terms p asks e k k1 sent lines begun d0 d1 d2 t prep
   links = λ of. w2.links of ∙ w1.links of ∙ t.links of;
   told_before = before-same p t.events t.calls w2.behind (w2.before-are ∙ w1.before-are) t.told_before;
   written = record {
-    client = w2.other-is ∙ w1.side-is ∙ ap (λ (l : List ℕ). l ++ all_if k1.client_up sent.to_client) t.written.client
-        ∙ ap (λ (u : Bool). to_clients p t.events ++ all_if u sent.to_client) (ap (λ (q : Rounds). q.client_up) same ∙ t.client_up)
-        ∙ ap (λ (b : List ℕ). to_clients p t.events ++ all_if (client_at e (client_behind p t.events)) b) prepared.client;
-    host = w2.side-is ∙ ap (λ (l : List ℕ). l ++ all_if k1.host_up sent.to_host) (w1.other-is ∙ t.written.host)
-        ∙ ap (λ (u : Bool). sent_to_host (is_some terms.host) p t.events ++ all_if u sent.to_host) (ap (λ (q : Rounds). q.host_up) same ∙ t.host_up)
-        ∙ ap (λ (b : List ℕ). sent_to_host (is_some terms.host) p t.events ++ all_if (host_at e (host_since (is_some terms.host) p t.events)) b) prepared.host;
+    client = w2.other-is ∙ w1.side-is ∙ ap (λ (l : List ℕ). l ++ written_if k1.client_up sent.to_client) t.written.client
+        ∙ ap (λ (u : Bool). to_clients p t.events ++ written_if u sent.to_client) (ap (λ (q : Rounds). q.client_up) same ∙ t.client_up)
+        ∙ ap (λ (b : List ℕ). to_clients p t.events ++ written_if (client_at e (client_behind p t.events)) b) prepared.client;
+    host = w2.side-is ∙ ap (λ (l : List ℕ). l ++ written_if k1.host_up sent.to_host) (w1.other-is ∙ t.written.host)
+        ∙ ap (λ (u : Bool). sent_to_host (is_some terms.host) p t.events ++ written_if u sent.to_host) (ap (λ (q : Rounds). q.host_up) same ∙ t.host_up)
+        ∙ ap (λ (b : List ℕ). sent_to_host (is_some terms.host) p t.events ++ written_if (host_at e (host_since (is_some terms.host) p t.events)) b) prepared.host;
   };
 }
 
@@ -246,7 +247,7 @@ refused-kept p e events k k' sent lines prepared kept is =
 
 -- all is sent, each side that is refused is closed, and a client that is let go
 pub behind-sent : {D : Type 0} → (gives : D → Call → D → Type 0) (stands stands' : List LinkEvent → Type 0) (before tells : List ℕ → Type 0) (terms : Terms) (p : Prescribed) (asks : List Ask) (e : LinkEvent) (k k1 k2 : Rounds) (sent : Sent) (lines : List ℕ) (begun d0 d1 d2 now : D) (dropped refused : Bool)
-    → (t : IsTaking gives stands before terms p asks e k begun d0) → Prepared p t.events e sent lines → k1 ≡ k → (w1 : WroteMore gives Client (all_if k1.client_up sent.to_client) t.calls begun d1) → (w2 : WroteMore gives Host (all_if k1.host_up sent.to_host) w1.behind begun d2)
+    → (t : IsTaking gives stands before terms p asks e k begun d0) → Prepared p t.events e sent lines → k1 ≡ k → (w1 : WroteMore gives Client (written_if k1.client_up sent.to_client) t.calls begun d1) → (w2 : WroteMore gives Host (written_if k1.host_up sent.to_host) w1.behind begun d2)
     → Called gives (closed-behind refused dropped w2.behind) begun now → k2 ≡ refusing sent.refusals sent.lets_go k1 → dropped ≡ (refuses Client sent.refusals || sent.lets_go) → refused ≡ refuses Host sent.refusals → stands' (e ∷ t.events) → tells (told_of p (e ∷ t.events))
     → IsBehind (ends_next e dropped) gives stands' tells terms p asks k2 begun now
 behind-sent gives stands stands' before tells terms p asks e k k1 k2 sent lines begun d0 d1 d2 now dropped refused t prepared same w1 w2 called new drop refuse now_stands told =
@@ -323,7 +324,7 @@ closed-part terms p tells e events all true w told = record {
 closed-part terms p tells e events all false w told = record { links = whole-part terms p (e ∷ events) all w; told = told }
 
 pub lines-part : {D : Type 0} → (gives : D → Call → D → Type 0) (stands : List LinkEvent → Type 0) (runs_out : List LinkEvent → LinkEvent → List ℕ → List ℕ → Type 0) (before tells : List ℕ → Type 0) (terms : Terms) (p : Prescribed) (asks : List Ask) (e : LinkEvent) (k k1 : Rounds) (sent : Sent) (lines : List ℕ) (begun d0 d1 d2 now : D) (dropped refused : Bool)
-    → (t : IsTaking gives stands before terms p asks e k begun d0) → Prepared p t.events e sent lines → k1 ≡ k → (w1 : WroteMore gives Client (all_if k1.client_up sent.to_client) t.calls begun d1) → (w2 : WroteMore gives Host (all_if k1.host_up sent.to_host) w1.behind begun d2)
+    → (t : IsTaking gives stands before terms p asks e k begun d0) → Prepared p t.events e sent lines → k1 ≡ k → (w1 : WroteMore gives Client (written_if k1.client_up sent.to_client) t.calls begun d1) → (w2 : WroteMore gives Host (written_if k1.host_up sent.to_host) w1.behind begun d2)
     → Called gives (closed-behind refused dropped w2.behind) begun now → dropped ≡ (refuses Client sent.refusals || sent.lets_go) → refused ≡ refuses Host sent.refusals → InPart tells (told_of p t.events) (told_of p (e ∷ t.events))
     → Logged end.WriteFault gives runs_out tells terms p begun now
 lines-part gives stands runs_out before tells terms p asks e k k1 sent lines begun d0 d1 d2 now dropped refused t prepared same w1 w2 called drop refuse told =
@@ -363,7 +364,7 @@ client-part {tells = tells} {terms = terms} {p = p} {e = e} t prepared same is f
 
 pub host-part : {D : Type 0} {gives : D → Call → D → Type 0} {stands : List LinkEvent → Type 0} {runs_out : List LinkEvent → LinkEvent → List ℕ → List ℕ → Type 0} {tells : List ℕ → Type 0} {terms : Terms} {p : Prescribed} {asks : List Ask} {e : LinkEvent} {k k1 : Rounds} {sent : Sent} {lines bytes : List ℕ} {begun d0 d1 d2 : D}
     → (t : IsTaking gives stands tells terms p asks e k begun d0) → Prepared p t.events e sent lines → k1 ≡ k → bytes ≡ sent.to_host
-    → (w1 : WroteMore gives Client (all_if k1.client_up sent.to_client) t.calls begun d1) → FailedBehind gives Host k1.host_up bytes w1.behind begun d2 → Logged (end.LinkFault Host) gives runs_out tells terms p begun d2
+    → (w1 : WroteMore gives Client (written_if k1.client_up sent.to_client) t.calls begun d1) → FailedBehind gives Host k1.host_up bytes w1.behind begun d2 → Logged (end.LinkFault Host) gives runs_out tells terms p begun d2
 host-part {tells = tells} {terms = terms} {p = p} {e = e} {k1 = k1} {sent = sent} t prepared same is w1 f = record {
   calls = f.wrote.behind;
   called = f.wrote.called;
@@ -371,9 +372,9 @@ host-part {tells = tells} {terms = terms} {p = p} {e = e} {k1 = k1} {sent = sent
   written = subst (λ (es : List LinkEvent). WroteInPart tells terms p es f.wrote.behind) (sym (f.wrote.events-are ∙ w1.events-are ∙ t.events-are)) (record {
     links = record {
       client = front-whole (to_clients p (e ∷ t.events)) (went Client f.wrote.behind) (
-          f.wrote.other-is ∙ w1.side-is ∙ ap (λ (l : List ℕ). l ++ all_if k1.client_up sent.to_client) t.written.client
-          ∙ ap (λ (u : Bool). to_clients p t.events ++ all_if u sent.to_client) (ap (λ (q : Rounds). q.client_up) same ∙ t.client_up)
-          ∙ ap (λ (b : List ℕ). to_clients p t.events ++ all_if (client_at e (client_behind p t.events)) b) prepared.client
+          f.wrote.other-is ∙ w1.side-is ∙ ap (λ (l : List ℕ). l ++ written_if k1.client_up sent.to_client) t.written.client
+          ∙ ap (λ (u : Bool). to_clients p t.events ++ written_if u sent.to_client) (ap (λ (q : Rounds). q.client_up) same ∙ t.client_up)
+          ∙ ap (λ (b : List ℕ). to_clients p t.events ++ written_if (client_at e (client_behind p t.events)) b) prepared.client
           );
       host = front-in (sent_to_host (is_some terms.host) p t.events) f.front f.back _ (went Host f.wrote.behind) (f.wrote.side-is ∙ ap (λ (l : List ℕ). l ++ f.front) (w1.other-is ∙ t.written.host))
           (ap (λ (u : Bool). cond u (gained p.to_host t.events e) []) (sym (ap (λ (q : Rounds). q.host_up) same ∙ t.host_up) ∙ f.is_up) ∙ sym prepared.host ∙ sym is ∙ f.parts);

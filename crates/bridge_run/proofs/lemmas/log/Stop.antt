@@ -11,13 +11,13 @@ use Rattle.bridge_run.specs.declared.events.sent.Sent.{Sent}
 use Rattle.bridge_run.specs.declared.course.serve_end.ServeEnd.{ServeEnd}
 use Rattle.bridge_run.specs.declared.course.serve_end.ServeEnd.TheVariants as end
 use Rattle.bridge_run.specs.events.Prescribed.{Prescribed, gained}
-use Rattle.bridge_run.specs.written.Recorded.{has_any}
+use Rattle.bridge_run.specs.written.Recorded.{has_any, written_if}
 use Rattle.bridge_run.specs.written.Ups.{client_at, client_behind, host_at, host_since, to_clients, sent_to_host, told_of}
 use Rattle.bridge_run.specs.log.Asks.{Ask}
 use Rattle.bridge_run.specs.events.RanOut.{Untold, is_recorded, RanOut}
 use Rattle.bridge_run.specs.log.Log.{Terms, events_before, IsFront, JustCame, WroteInPart, HasWritten, HasEnded, Logged}
 use Rattle.bridge_run.specs.inner.Follows.{Prepared}
-use Rattle.bridge_run.specs.inner.Logging.{IsTaking, WroteMore, all_if, FailedBehind}
+use Rattle.bridge_run.specs.inner.Logging.{IsTaking, WroteMore, FailedBehind}
 use Rattle.bridge_run.specs.inner.Recording.{TapeFaults}
 use Rattle.bridge_run.specs.inner.Sends.{IsPart}
 use Rattle.bridge_run.specs.inner.Stopping.{IsStopping, HasStopped, StopFailed, StopLogs}
@@ -144,8 +144,8 @@ stop-client gives runs_out terms p e events k client host bytes begun d0 d1 part
   failed = f.failed;
 }
 
-sent-in : (u v : Bool) (all written bytes client : List ℕ) → written ≡ all ++ all_if v bytes → v ≡ u → bytes ≡ client → written ≡ all ++ cond u client []
-sent-in u v all written bytes client is same alike = is ∙ ap (λ (y : Bool). all ++ all_if y bytes) same ∙ ap (λ (l : List ℕ). all ++ all_if u l) alike
+sent-in : (u v : Bool) (all written bytes client : List ℕ) → written ≡ all ++ written_if v bytes → v ≡ u → bytes ≡ client → written ≡ all ++ cond u client []
+sent-in u v all written bytes client is same alike = is ∙ ap (λ (y : Bool). all ++ written_if y bytes) same ∙ ap (λ (l : List ℕ). all ++ written_if u l) alike
 
 longer-front : (u : Bool) (all written client more rest : List ℕ) → written ≡ all ++ cond u client [] → more ≡ client ++ rest → IsFront written (all ++ cond u more [])
 longer-front true all written client more rest is alike = (rest, ap (λ (l : List ℕ). all ++ l) alike ∙ sym (append_assoc all client rest) ∙ ap (λ (l : List ℕ). l ++ rest) (sym is))
@@ -153,7 +153,7 @@ longer-front false all written client more rest is alike = front-whole (all ++ [
 
 -- all of that, and a front of what went to the host
 pub stop-host : {D : Type 0} → (gives : D → Call → D → Type 0) (runs_out : List LinkEvent → LinkEvent → List ℕ → List ℕ → Type 0) (terms : Terms) (p : Prescribed) (e : LinkEvent) (events : List LinkEvent) (k : Rounds) (client host bytes1 bytes2 : List ℕ) (begun d0 d1 d2 : D)
-    → IsPart runs_out p events e client host → (s : IsStopping gives terms p e events k begun d0) → bytes1 ≡ client → bytes2 ≡ host → (w1 : WroteMore gives Client (all_if k.client_up bytes1) s.calls begun d1) → FailedBehind gives Host k.host_up bytes2 w1.behind begun d2
+    → IsPart runs_out p events e client host → (s : IsStopping gives terms p e events k begun d0) → bytes1 ≡ client → bytes2 ≡ host → (w1 : WroteMore gives Client (written_if k.client_up bytes1) s.calls begun d1) → FailedBehind gives Host k.host_up bytes2 w1.behind begun d2
     → StopLogs (end.LinkFault Host) gives runs_out terms p e events begun d2
 stop-host gives runs_out terms p e events k client host bytes1 bytes2 begun d0 d1 d2 part s is1 is2 w1 f = record {
   part = record {
@@ -164,7 +164,7 @@ stop-host gives runs_out terms p e events k client host bytes1 bytes2 begun d0 d
     just_came = f.wrote.just_came (w1.just_came s.just_came);
     written = record {
       client = longer-front (client_at e (client_behind p events)) (to_clients p events) (went Client f.wrote.behind) client (gained p.to_client events e) part.to_client.0
-          (sent-in (client_at e (client_behind p events)) k.client_up (to_clients p events) (went Client f.wrote.behind) bytes1 client (f.wrote.other-is ∙ w1.side-is ∙ ap (λ (l : List ℕ). l ++ all_if k.client_up bytes1) s.written.client) s.client_up is1) part.to_client.1;
+          (sent-in (client_at e (client_behind p events)) k.client_up (to_clients p events) (went Client f.wrote.behind) bytes1 client (f.wrote.other-is ∙ w1.side-is ∙ ap (λ (l : List ℕ). l ++ written_if k.client_up bytes1) s.written.client) s.client_up is1) part.to_client.1;
       host = front-in (sent_to_host (is_some terms.host) p events) f.front (f.back ++ part.to_host.0) _ (went Host f.wrote.behind) (f.wrote.side-is ∙ ap (λ (l : List ℕ). l ++ f.front) (w1.other-is ∙ s.written.host))
           (ap (λ (u : Bool). cond u (gained p.to_host events e) []) (sym s.host_up ∙ f.is_up) ∙ part.to_host.1 ∙ ap (λ (l : List ℕ). l ++ part.to_host.0) (sym is2 ∙ f.parts) ∙ append_assoc f.front f.back part.to_host.0);
     };
@@ -175,7 +175,7 @@ stop-host gives runs_out terms p e events k client host bytes1 bytes2 begun d0 d
 
 -- all of both
 pub stop-all : {D : Type 0} → (gives : D → Call → D → Type 0) (runs_out : List LinkEvent → LinkEvent → List ℕ → List ℕ → Type 0) (terms : Terms) (p : Prescribed) (e : LinkEvent) (events : List LinkEvent) (k : Rounds) (client host bytes1 bytes2 : List ℕ) (begun d0 d1 d2 : D)
-    → IsPart runs_out p events e client host → (s : IsStopping gives terms p e events k begun d0) → bytes1 ≡ client → bytes2 ≡ host → (w1 : WroteMore gives Client (all_if k.client_up bytes1) s.calls begun d1) → (w2 : WroteMore gives Host (all_if k.host_up bytes2) w1.behind begun d2)
+    → IsPart runs_out p events e client host → (s : IsStopping gives terms p e events k begun d0) → bytes1 ≡ client → bytes2 ≡ host → (w1 : WroteMore gives Client (written_if k.client_up bytes1) s.calls begun d1) → (w2 : WroteMore gives Host (written_if k.host_up bytes2) w1.behind begun d2)
     → HasStopped gives runs_out terms p e events begun d2
 stop-all gives runs_out terms p e events k client host bytes1 bytes2 begun d0 d1 d2 part s is1 is2 w1 w2 = record {
   calls = w2.behind;
@@ -186,9 +186,9 @@ stop-all gives runs_out terms p e events k client host bytes1 bytes2 begun d0 d1
   to_client = client;
   to_host = host;
   ran_out = why runs_out terms.taped p events e client host part.ran_out;
-  client = sent-in (client_at e (client_behind p events)) k.client_up (to_clients p events) (went Client w2.behind) bytes1 client (w2.other-is ∙ w1.side-is ∙ ap (λ (l : List ℕ). l ++ all_if k.client_up bytes1) s.written.client) s.client_up is1;
+  client = sent-in (client_at e (client_behind p events)) k.client_up (to_clients p events) (went Client w2.behind) bytes1 client (w2.other-is ∙ w1.side-is ∙ ap (λ (l : List ℕ). l ++ written_if k.client_up bytes1) s.written.client) s.client_up is1;
   host = sent-in (host_at e (host_since (is_some terms.host) p events)) k.host_up (sent_to_host (is_some terms.host) p events) (went Host w2.behind) bytes2 host
-      (w2.side-is ∙ ap (λ (l : List ℕ). l ++ all_if k.host_up bytes2) (w1.other-is ∙ s.written.host)) s.host_up is2;
+      (w2.side-is ∙ ap (λ (l : List ℕ). l ++ written_if k.host_up bytes2) (w1.other-is ∙ s.written.host)) s.host_up is2;
 }
 
 -- ---- the end

@@ -14,7 +14,8 @@ use Rattle.bridge_run.proofs.lemmas.course.Course.{err-faults}
 use Rattle.bridge_run.specs.inner.Links.{wrote_if, WritesFront}
 use Rattle.bridge_run.specs.inner.Keeping.{refusing}
 use Rattle.bridge_run.proofs.lemmas.written.Put.{due-now, recorded-by, tape-faults, cut-puts, dropped-is, sides-put, put-follows, put-in_entry, put-in_client, put-in_host, put-in_lines, tells-more, tells-front, refusing-none}
-use Rattle.bridge_run.specs.inner.Logging.{WroteMore, all_if, closing}
+use Rattle.bridge_run.specs.written.Recorded.{written_if}
+use Rattle.bridge_run.specs.inner.Logging.{WroteMore, closing}
 use Rattle.bridge_run.proofs.lemmas.log.Sink.{told-event, told-front}
 use Rattle.bridge_run.proofs.lemmas.log.Log.{behind-sent, client-part, host-part, lines-part, put-err}
 use Rattle.bridge_run.proofs.lemmas.log.Stop.{stopping, stop-logs, tape-logs}
@@ -137,7 +138,7 @@ returns-in_err-write_link-2-clause-log g c = λ first terms asks begun begun_out
     let tells = Told g.K.Sink.write_gives begun_out c.args.out.now in
     let p = g.C.Served.sends first in
     let k1 = c.prepare.new.self.rounds in
-    let w1 = subst (λ (b : List ℕ). WroteMore gives Client (all_if k1.client_up b) t.calls begun c.write_link.new.doors) c.as_slice.ensures (c.in_ok-write_link.ensures.log begun t.calls t.called) in
+    let w1 = subst (λ (b : List ℕ). WroteMore gives Client (written_if k1.client_up b) t.calls begun c.write_link.new.doors) c.as_slice.ensures (c.in_ok-write_link.ensures.log begun t.calls t.called) in
     put-err _ c.from_residual-in_err-write_link-2.result gives (g.C.Served.stands first c.prepare.new.self.core) (g.C.Served.runs_out first) tells terms p asks (event_of c.args.event) k1 begun c.write_link-2.new.doors c.from_residual-in_err-write_link-2.ensures.1
     (λ x is. subst (λ (y : ServeEnd). Logged y gives (g.C.Served.runs_out first) tells terms p begun c.write_link-2.new.doors) (sym (is ∙ c.in_err-write_link-2.ensures.fault))
     (host-part t (c.in_default.ensures.prepared first t.events t.stands_for) c.prepare.ensures.rounds c.as_slice-2.ensures w1 (c.in_err-write_link-2.ensures.log begun w1.behind w1.called)))
@@ -150,8 +151,8 @@ returns-in-Err-write_all-clause-log g c = λ first terms asks begun begun_out ta
     let e = event_of c.args.event in
     let k1 = c.prepare.new.self.rounds in
     let prepared = c.in_default.ensures.prepared first t.events t.stands_for in
-    let w1 = subst (λ (b : List ℕ). WroteMore gives Client (all_if k1.client_up b) t.calls begun c.write_link.new.doors) c.as_slice.ensures (c.in_ok-write_link.ensures.log begun t.calls t.called) in
-    let w2 = subst (λ (b : List ℕ). WroteMore gives Host (all_if k1.host_up b) w1.behind begun c.write_link-2.new.doors) c.as_slice-2.ensures (c.in_ok-write_link-2.ensures.log begun w1.behind w1.called) in
+    let w1 = subst (λ (b : List ℕ). WroteMore gives Client (written_if k1.client_up b) t.calls begun c.write_link.new.doors) c.as_slice.ensures (c.in_ok-write_link.ensures.log begun t.calls t.called) in
+    let w2 = subst (λ (b : List ℕ). WroteMore gives Host (written_if k1.host_up b) w1.behind begun c.write_link-2.new.doors) c.as_slice-2.ensures (c.in_ok-write_link-2.ensures.log begun w1.behind w1.called) in
     lines-part gives (g.C.Served.stands first c.args.self.now.core) (g.C.Served.runs_out first) (Told writes begun_out c.args.out.now) (Told writes begun_out c.write_all.new.sink) terms p asks e c.args.self.now.rounds k1 c.prepare.new.self.sent c.prepare.new.self.lines begun c.args.doors.now c.write_link.new.doors c.write_link-2.new.doors c.close_link-2.new.doors c.drops_client-dropped.result c.refuses.result
     t prepared c.prepare.ensures.rounds w1 w2 (c.close_link-2.ensures.log begun (closing c.drops_client-dropped.result Client w2.behind) (c.close_link.ensures.log begun w2.behind w2.called)) c.drops_client-dropped.ensures c.refuses.ensures
     (told-front writes p t.events e c.prepare.new.self.sent c.prepare.new.self.lines c.as_slice-3.result.now begun_out c.args.out.now c.write_all.new.sink prepared c.as_slice-3.ensures t.told c.in-Err-write_all.ensures.writes_front)
@@ -164,8 +165,8 @@ returns-in-Ok-clause-log g c = λ first terms asks begun begun_out taped t.
     let e = event_of c.args.event in
     let k1 = c.prepare.new.self.rounds in
     let prepared = c.in_default.ensures.prepared first t.events t.stands_for in
-    let w1 = subst (λ (b : List ℕ). WroteMore gives Client (all_if k1.client_up b) t.calls begun c.write_link.new.doors) c.as_slice.ensures (c.in_ok-write_link.ensures.log begun t.calls t.called) in
-    let w2 = subst (λ (b : List ℕ). WroteMore gives Host (all_if k1.host_up b) w1.behind begun c.write_link-2.new.doors) c.as_slice-2.ensures (c.in_ok-write_link-2.ensures.log begun w1.behind w1.called) in
+    let w1 = subst (λ (b : List ℕ). WroteMore gives Client (written_if k1.client_up b) t.calls begun c.write_link.new.doors) c.as_slice.ensures (c.in_ok-write_link.ensures.log begun t.calls t.called) in
+    let w2 = subst (λ (b : List ℕ). WroteMore gives Host (written_if k1.host_up b) w1.behind begun c.write_link-2.new.doors) c.as_slice-2.ensures (c.in_ok-write_link-2.ensures.log begun w1.behind w1.called) in
     behind-sent gives (g.C.Served.stands first c.args.self.now.core) (g.C.Served.stands first c.prepare.new.self.core) (Told writes begun_out c.args.out.now) (Told writes begun_out c.write_all.new.sink) terms p asks e c.args.self.now.rounds k1 c.refuse.new.self c.prepare.new.self.sent c.prepare.new.self.lines begun c.args.doors.now c.write_link.new.doors c.write_link-2.new.doors c.close_link-2.new.doors c.drops_client-dropped.result c.refuses.result
     t prepared c.prepare.ensures.rounds w1 w2 (c.close_link-2.ensures.log begun (closing c.drops_client-dropped.result Client w2.behind) (c.close_link.ensures.log begun w2.behind w2.called)) c.refuse.ensures c.drops_client-dropped.ensures c.refuses.ensures (c.in_default.ensures.stands first t.events t.stands_for)
     (told-event writes p t.events e c.prepare.new.self.sent c.prepare.new.self.lines c.as_slice-3.result.now begun_out c.args.out.now c.write_all.new.sink prepared c.as_slice-3.ensures t.told c.in-Ok.ensures.writes)
