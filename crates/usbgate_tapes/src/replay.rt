@@ -3,9 +3,10 @@
 ghost use Rattle.std.specs.Prelude.{◌≡◌, ◌++◌, ◌∷◌, ◌≤◌, ◌||◌, [], ℕ, List, IfOk, OnOk};
 ghost use Rattle.std.specs.List.{list_any};
 ghost use Rattle.gate_history.specs.step.Events.{Event as PastEvent, event_of};
+ghost use Rattle.gate_history.specs.step.Refusals.{is_refusal};
 ghost use Rattle.usbgate_tapes.specs.Text.{opening_text, sent_text};
 ghost use Rattle.usbgate_tapes.specs.Replay.{replay};
-ghost use Rattle.usbgate_tapes.specs.inner.Replay.{is_refusal, HasReplayed, PutsEvent, Replays};
+ghost use Rattle.usbgate_tapes.specs.inner.Replay.{HasReplayed, PutsEvent, Replays};
 
 use crate::tape::events::EventCommand;
 use crate::text::{push_bytes, push_counts, push_notes};

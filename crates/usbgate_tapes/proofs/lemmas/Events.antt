@@ -14,6 +14,7 @@ use Rattle.gate_history.specs.client.Submits.{Pending}
 use Rattle.gate_history.specs.client.Ends.{ends}
 use Rattle.gate_history.specs.state.State.{State, state_of}
 use Rattle.gate_history.specs.step.History.{history}
+use Rattle.gate_history.specs.step.Refusals.{is_refusal}
 use Rattle.gate_history.specs.write.Notes.{is_by_answer, when, came_notes, submit_notes, answer_notes, refusal_notes, notes_of}
 use Rattle.gate_history.specs.write.All.{all_of}
 use Rattle.gate_history.specs.write.Output.{present}
@@ -24,7 +25,7 @@ use Rattle.usbgate_tapes.specs.declared.replay.Replay.{Replay}
 use Rattle.usbgate_tapes.specs.Text.{sent_text}
 use Rattle.usbgate_tapes.specs.tape.Tape.{added}
 use Rattle.usbgate_tapes.specs.Replay.{has_refusal}
-use Rattle.usbgate_tapes.specs.inner.Replay.{is_refusal, HasReplayed, PutsEvent}
+use Rattle.usbgate_tapes.specs.inner.Replay.{HasReplayed, PutsEvent}
 
 -- ---- a side was refused where a note tells it
 

@@ -1,7 +1,5 @@
 -- What a replay keeps of the events that it has seen.
-use Rattle.std.specs.Prelude.{◌≡◌, ℕ, Bool, true, false, List, [], ◌∷◌, ◌++◌}
-use Rattle.gate_history.specs.declared.note.Note.{Note}
-use Rattle.gate_history.specs.declared.note.Note.TheVariants as note
+use Rattle.std.specs.Prelude.{◌≡◌, ℕ, List, [], ◌∷◌, ◌++◌}
 use Rattle.gate_history.specs.step.Events.{Event}
 use Rattle.gate_history.specs.step.History.{history}
 use Rattle.gate_core.specs.step.Stands.{Stands}
@@ -9,10 +7,6 @@ use Rattle.usbgate_tapes.specs.declared.replay.Replay.{Replay}
 use Rattle.usbgate_tapes.specs.Text.{event_text}
 use Rattle.usbgate_tapes.specs.tape.EventCommand.{EventCommand}
 use Rattle.usbgate_tapes.specs.Replay.{has_refusal, replay}
-
-abbrev pub is_refusal : Note → Bool
-is_refusal (note.Refused refusal) = true
-is_refusal _ = false
 
 pub record HasReplayed (first : ℕ) (r : Replay) (events : List Event) : Type 0 where
   pub gate : Stands first r.gate events

@@ -7,6 +7,7 @@ use Rattle.gate_history.specs.declared.note.Note.{Note}
 use Rattle.gate_history.specs.declared.note.Note.TheVariants as note
 use Rattle.gate_history.specs.step.Events.{Event, ClientPiece, ClientEnd as ClientEnds, HostPiece}
 use Rattle.gate_history.specs.step.History.{history}
+use Rattle.gate_history.specs.step.Refusals.{is_refusal}
 use Rattle.gate_history.specs.write.Notes.{notes_of}
 use Rattle.gate_history.proofs.lemmas.step.Events.{event-gives}
 use Rattle.model_device.specs.Meaning.{Meaning}
@@ -26,7 +27,6 @@ use Rattle.usbgate_tapes.specs.Replay.{has_refusal}
 use Rattle.usbgate_tapes.specs.Text.{told_text}
 use Rattle.usbgate_tapes.specs.inner.model.Model.{HasDone, TakesSaid, has_some}
 use Rattle.usbgate_tapes.specs.inner.tape.TapeReader.{TakesLine}
-use Rattle.usbgate_tapes.specs.inner.Replay.{is_refusal}
 use Rattle.usbgate_tapes.proofs.lemmas.Events.{refused-more}
 
 -- ---- a step tells a refusal where one came about
