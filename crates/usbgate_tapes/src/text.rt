@@ -1,6 +1,6 @@
 //! The lines that commands over tapes print.
 
-ghost use Rattle.std.specs.Prelude.{◌≡◌, ◌++◌, ◌∷◌, [], IfOk, OnOk, OnErr, string_bytes};
+ghost use Rattle.std.specs.Prelude.{◌≡◌, ◌++◌, ◌∷◌, [], IfOk, OnOk, string_bytes};
 ghost use Rattle.std.specs.List.{flat_map};
 ghost use Rattle.usb_base.specs.Refusal.{refusal_line};
 ghost use Rattle.direct_run.specs.Lines.{item_line};

@@ -1,6 +1,6 @@
 //! What is kept of the course of serving.
 
-ghost use Rattle.std.specs.Prelude.{◌≡◌, ◌-◌, ◌<◌, ◌≤◌, true};
+ghost use Rattle.std.specs.Prelude.{◌≡◌, ◌-◌, ◌<◌, true};
 ghost use Rattle.bridge_run.specs.written.Recorded.{is_last as is_last_of};
 ghost use Rattle.bridge_run.specs.inner.Keeping.{begun, up_of, with_up, refusing, Settles, Rests};
 

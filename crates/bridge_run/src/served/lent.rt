@@ -1,6 +1,6 @@
 //! A modelled device, lent to a guest, as what is served.
 
-ghost use Rattle.std.specs.Prelude.{◌≡◌, ◌∷◌, ◌++◌, ◌||◌, [], true, if◌then◌else◌, List as ListOf, OnOk, OnErr, IfOk};
+ghost use Rattle.std.specs.Prelude.{◌≡◌, ◌++◌, ◌||◌, [], true, if◌then◌else◌, List as ListOf, OnOk, OnErr, IfOk};
 ghost use Rattle.std.specs.List.{flat_map, list_any};
 ghost use Rattle.redir_host.specs.step.Acts.{Act};
 ghost use Rattle.redir_host.specs.step.Stands.{DoesAct, HostStands, Stops};

@@ -1,6 +1,6 @@
 //! Writing to a side's link, and closing it.
 
-ghost use Rattle.std.specs.Prelude.{◌≡◌, List, IsTrue, IfErr};
+ghost use Rattle.std.specs.Prelude.{◌≡◌, List, IfErr};
 ghost use Rattle.bridge_run.specs.declared.course.serve_end.ServeEnd.TheVariants.{LinkFault};
 ghost use Rattle.gate_outside.specs.Link.{other};
 ghost use Rattle.gate_outside.specs.Calls.{Call, Called};

@@ -1,6 +1,6 @@
 //! What a command over a tape is.
 
-ghost use Rattle.std.specs.Prelude.{◌≡◌, ◌≢◌, ◌++◌, None, IfOk, OnOk, true};
+ghost use Rattle.std.specs.Prelude.{◌≡◌, ◌≢◌, ◌++◌, None, OnOk, true};
 ghost use Rattle.usbgate_tapes.specs.tape.TapeCommand.{TapeCommand as Meant};
 ghost use Rattle.usbgate_tapes.specs.inner.tape.TapeReader.{TakesLine};
 ghost use Rattle.packet_show.specs.Tape.{want};

@@ -1,6 +1,6 @@
 //! Commands over the events that a replay tape's lines say.
 
-ghost use Rattle.std.specs.Prelude.{◌≡◌, ◌++◌, ◌∷◌, [], List, ℕ, None, OnOk, option_map, true, false};
+ghost use Rattle.std.specs.Prelude.{◌≡◌, ◌++◌, ◌∷◌, [], List, None, OnOk, option_map, true, false};
 ghost use Rattle.gate_history.specs.step.Events.{Event as PastEvent, event_of};
 ghost use Rattle.packet_show.specs.Tape.{tape_line};
 ghost use Rattle.packet_show.specs.declared.tape.TapeKind.TheVariants as kind;

@@ -1,6 +1,6 @@
 //! A tape's lines, put to a command one by one.
 
-ghost use Rattle.std.specs.Prelude.{◌≡◌, ◌≢◌, ◌++◌, ◌+◌, ◌<◌, ◌≤◌, ◌↔◌, length, IfOk, OnOk, IsTrue, None, true};
+ghost use Rattle.std.specs.Prelude.{◌≡◌, ◌≢◌, ◌++◌, ◌+◌, ◌<◌, ◌≤◌, ◌↔◌, length, OnOk, IsTrue, None, true};
 ghost use Rattle.usbgate_tapes.specs.tape.Tape.{content as content_of};
 ghost use Rattle.usbgate_tapes.specs.tape.TapeCommand.{Progress, begin, next_line};
 ghost use Rattle.usbgate_tapes.specs.inner.tape.TapeReader.{HasRead, ReadsLine};

@@ -5,7 +5,7 @@ ghost use Rattle.usbgate_tapes.specs.Printout.{tape_printout};
 ghost use Rattle.usbgate_tapes.specs.tape.Tape.{content as content_of};
 ghost use Rattle.usbgate_tapes.specs.Wants.{IsJoined, PieceWants, ReadWants};
 ghost use Rattle.usbgate_tapes.specs.tape.TapeCommand.{Progress, next_line, read_tape};
-ghost use Rattle.usbgate_tapes.specs.inner.tape.TapeReader.{HasRead, ReadsLine, Stage, Took, Stepped, Finished, AllRead, TookLast, Spoils, TookLine, EndWants, KeepsPart};
+ghost use Rattle.usbgate_tapes.specs.inner.tape.TapeReader.{HasRead, ReadsLine, Stage, Took, Stepped, Finished, AllRead, TookLast, TookLine, EndWants, KeepsPart};
 ghost use Rattle.packet_show.specs.Tape.{want};
 
 use crate::status::Status;
