@@ -13,7 +13,8 @@ use Rattle.bridge_run.specs.events.Events.{LinkEvent, ClientComes, ClientQuiet, 
 use Rattle.bridge_run.specs.events.Prescribed.{Prescribed, gained, refuses, drops, first_of}
 use Rattle.bridge_run.specs.written.Recorded.{lines_of, has_any, is_last, is_full, written_if, waiting_if}
 use Rattle.bridge_run.specs.course.Course.{Setting, Course, Next, Making, AtDoor, AtClient, AtHost, AtEnd, Takes}
-use Rattle.bridge_run.specs.course.Calls.{Outcome, Goes, Stops, room, is_due, lines_with, put, settle, ends_next, take_event, come, heard, poll, gathered, make, call, and_then, calls}
+use Rattle.bridge_run.specs.declared.course.serving.TheConstants.{POLL_LIMIT}
+use Rattle.bridge_run.specs.course.Calls.{Outcome, Goes, Stops, is_due, lines_with, put, settle, ends_next, take_event, come, heard, poll, gathered, make, call, and_then, calls}
 use Rattle.bridge_run.specs.served.Gate.{gate_events}
 use Rattle.usbgate_tapes.specs.tape.Tape.{host_ended}
 use Rattle.bridge_run.specs.written.Ups.{client_at, host_at, client_behind, to_clients}
@@ -254,8 +255,8 @@ take-some : (n b : ℕ) (bs : List ℕ) → 0 < n → take n (b ∷ bs) ≡ [] �
 take-some zero b bs some none = absurd (omega arith)
 take-some (suc n) b bs some none = cc
 
-piece-is : (b : ℕ) (bs : List ℕ) → AreBytes (b ∷ bs) → IsPiece (take room (b ∷ bs))
-piece-is b bs h = record { some = take-some room b bs (lit< tt); bytes-are = AreBytes-take room (b ∷ bs) h }
+piece-is : (b : ℕ) (bs : List ℕ) → AreBytes (b ∷ bs) → IsPiece (take POLL_LIMIT (b ∷ bs))
+piece-is b bs h = record { some = take-some POLL_LIMIT b bs (lit< tt); bytes-are = AreBytes-take POLL_LIMIT (b ∷ bs) h }
 
 -- with other turns of those that are there, and other links
 with-links : (p : Prescribed) (first : List ℕ) {up host_up up' host_up' : Bool} (c : Course) (client host : List Turn) (client_link host_link : Bool) → client_link ≡ up' → host_link ≡ host_up' → SendBytes client → SendBytes host → Holds p first up host_up (seen c)
@@ -285,12 +286,12 @@ without-host : (p : Prescribed) (first : List ℕ) (up host_up : Bool) (c : Cour
 without-host p first up host_up c h = with-links p first c c.client c.host c.client_up false h.client_up-is refl h.client h.host h
 
 client-heard : (p : Prescribed) (first : List ℕ) (turns : List Turn) (c : Course) → BeginsFull turns → SendBytes turns → Stands p first c
-    → Comes p first (heard Client AtHost (answer room turns) (given room turns) (record c { client = after room turns }))
+    → Comes p first (heard Client AtHost (answer POLL_LIMIT turns) (given POLL_LIMIT turns) (record c { client = after POLL_LIMIT turns }))
 client-heard p first [] c full bytes h =
     record { holds = without-client p first (client_behind p c.events) (host_behind p c.events) (record c { client = [] }) (with-client p first (client_behind p c.events) (host_behind p c.events) c [] tt h); fits = tt; behind = tt }
 client-heard p first (Piece [] ∷ turns) c full bytes h = absurd full
 client-heard p first (Piece (b ∷ bs) ∷ turns) c full bytes h = record {
-  holds = with-client p first (client_behind p c.events) (host_behind p c.events) c (Piece (drop room (b ∷ bs)) ∷ turns) (AreBytes-drop room (b ∷ bs) bytes.0, bytes.1) h;
+  holds = with-client p first (client_behind p c.events) (host_behind p c.events) c (Piece (drop POLL_LIMIT (b ∷ bs)) ∷ turns) (AreBytes-drop POLL_LIMIT (b ∷ bs) bytes.0, bytes.1) h;
   fits = piece-is b bs bytes.0;
   behind = tt;
 }
@@ -311,12 +312,12 @@ not-ended p (SideEnd Host ∷ events) up = absurd (no up)
     no e = cc
 
 host-heard : (p : Prescribed) (first : List ℕ) (turns : List Turn) (c : Course) → BeginsFull turns → SendBytes turns → host_ended (gate_events c.events) ≡ false → Stands p first c
-    → Comes p first (heard Host AtEnd (answer room turns) (given room turns) (record c { host = after room turns }))
+    → Comes p first (heard Host AtEnd (answer POLL_LIMIT turns) (given POLL_LIMIT turns) (record c { host = after POLL_LIMIT turns }))
 host-heard p first [] c full bytes going h =
     record { holds = without-host p first (client_behind p c.events) (host_behind p c.events) (record c { host = [] }) (with-host p first (client_behind p c.events) (host_behind p c.events) c [] tt h); fits = going; behind = tt }
 host-heard p first (Piece [] ∷ turns) c full bytes going h = absurd full
 host-heard p first (Piece (b ∷ bs) ∷ turns) c full bytes going h = record {
-  holds = with-host p first (client_behind p c.events) (host_behind p c.events) c (Piece (drop room (b ∷ bs)) ∷ turns) (AreBytes-drop room (b ∷ bs) bytes.0, bytes.1) h;
+  holds = with-host p first (client_behind p c.events) (host_behind p c.events) c (Piece (drop POLL_LIMIT (b ∷ bs)) ∷ turns) (AreBytes-drop POLL_LIMIT (b ∷ bs) bytes.0, bytes.1) h;
   fits = (piece-is b bs bytes.0, going);
   behind = tt;
 }

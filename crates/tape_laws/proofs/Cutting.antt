@@ -14,7 +14,8 @@ use Rattle.bridge_run.specs.events.Events.{LinkEvent}
 use Rattle.bridge_run.specs.events.Prescribed.{Prescribed, gained}
 use Rattle.bridge_run.specs.written.Recorded.{lines_of}
 use Rattle.bridge_run.specs.course.Course.{Setting, Course, Next, Making, AtDoor, AtClient, AtHost, AtEnd, Takes}
-use Rattle.bridge_run.specs.course.Calls.{Outcome, Goes, Stops, room, come, turned, heard, poll, gathered, call, course_of}
+use Rattle.bridge_run.specs.declared.course.serving.TheConstants.{POLL_LIMIT}
+use Rattle.bridge_run.specs.course.Calls.{Outcome, Goes, Stops, come, turned, heard, poll, gathered, call, course_of}
 use Rattle.bridge_run.specs.log.Log.{IsFront}
 use Rattle.bridge_run.specs.written.Ups.{client_at, host_at, client_behind, to_clients}
 use Rattle.bridge_run.proofs.lemmas.course.Settle.{take-course}
@@ -171,8 +172,8 @@ heard-same side next Failed bytes c = refl
 pub call-takes : (s : Setting) (next : Next) (c : Course) → (new : List LinkEvent) × ((course_of (call s next c)).events ≡ new ++ c.events)
 call-takes s Making c = ([], refl)
 call-takes s AtDoor c = ([], if-same c.client_up (Goes AtClient c) (come c.clients c) c refl (come-same c.clients c))
-call-takes s AtClient c = ([], if-same c.client_up (poll Client c.client AtHost c) (Goes AtHost c) c (heard-same Client AtHost (answer room (pending c.client)) (given room (pending c.client)) (turned Client c)) refl)
-call-takes s AtHost c = ([], if-same c.host_up (poll Host c.host AtEnd c) (Goes AtEnd c) c (heard-same Host AtEnd (answer room (pending c.host)) (given room (pending c.host)) (turned Host c)) refl)
+call-takes s AtClient c = ([], if-same c.client_up (poll Client c.client AtHost c) (Goes AtHost c) c (heard-same Client AtHost (answer POLL_LIMIT (pending c.client)) (given POLL_LIMIT (pending c.client)) (turned Client c)) refl)
+call-takes s AtHost c = ([], if-same c.host_up (poll Host c.host AtEnd c) (Goes AtEnd c) c (heard-same Host AtEnd (answer POLL_LIMIT (pending c.host)) (given POLL_LIMIT (pending c.host)) (turned Host c)) refl)
 call-takes s AtEnd c = (
   [],
   if-same c.busy (Goes AtDoor (record c { busy = false; waits = s.idle })) (cond (c.waits - 1 == 0) (Stops end.Idle (record (gathered c) { waits = c.waits - 1 })) (Goes AtDoor (record (gathered c) { waits = c.waits - 1 }))) c refl

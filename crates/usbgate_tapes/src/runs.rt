@@ -38,7 +38,7 @@ use usb_base::{Bytes, Side};
 use usbip_urb::ClientFormat;
 
 /// How many bytes of a tape are read at a time.
-const CHUNK: usize = 65_536;
+const READ_LIMIT: usize = 65_536;
 
 /// Puts the events of a tape to a gate, and prints what that sends and which sides it refuses.
 pub fn replay<S: Source, K: Sink>(alloc: Global, first_id: u32, tape: &mut S, out: &mut K) -> Status
@@ -147,7 +147,7 @@ fn over_tape<C: TapeCommand + Drop, S: Source, K: Sink>(
     ensures causes { HasCauses result (S.faults tape.old) (S.faults tape.new) (K.faults out.old) (K.faults out.new) }
     ensures command { result ≢ Status.Usage }
 {
-    let mut buf = match vec![in alloc; 0; CHUNK] {
+    let mut buf = match vec![in alloc; 0; READ_LIMIT] {
         Ok(buf) => buf,
         Err(_) => return Status::OutOfMemory,
     };

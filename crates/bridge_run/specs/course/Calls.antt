@@ -10,7 +10,7 @@ use Rattle.gate_outside.specs.declared.turn.Polled.TheVariants.{Took, NotYet, En
 use Rattle.gate_outside.specs.Turns.{pending, answer, given, after}
 use Rattle.bridge_run.specs.events.Events.{LinkEvent, ClientComes, ClientQuiet, SidePiece, SideEnd}
 use Rattle.bridge_run.specs.written.Recorded.{lines_of, sends_any, is_last, is_full, written_if, waiting_if}
-use Rattle.bridge_run.specs.declared.course.serving.TheConstants.{ROOM}
+use Rattle.bridge_run.specs.declared.course.serving.TheConstants.{POLL_LIMIT}
 use Rattle.bridge_run.specs.declared.course.serve_end.ServeEnd.{ServeEnd}
 use Rattle.bridge_run.specs.declared.course.serve_end.ServeEnd.TheVariants as end
 use Rattle.bridge_run.specs.events.Prescribed.{Prescribed, gained, refuses, drops, first_of}
@@ -20,10 +20,6 @@ use Rattle.bridge_run.specs.course.Course.{Setting, Course, Next, Making, AtDoor
 pub data Outcome : Type 0 where
   Goes : Next → Course → Outcome
   Stops : ServeEnd → Course → Outcome
-
--- how many bytes a poll takes at most
-abbrev pub room : ℕ
-room = ROOM
 
 -- ---- an event
 
@@ -81,8 +77,8 @@ come (turns ∷ clients) c = Goes (Takes ClientComes AtClient) (record c { clien
 
 -- the turns after a poll
 abbrev pub turned : Side → Course → Course
-turned Client c = record c { client = after room (pending c.client) }
-turned Host c = record c { host = after room (pending c.host) }
+turned Client c = record c { client = after POLL_LIMIT (pending c.client) }
+turned Host c = record c { host = after POLL_LIMIT (pending c.host) }
 
 abbrev pub down : Side → Course → Course
 down Client c = record c { client_up = false }
@@ -101,7 +97,7 @@ heard side next Ended bytes c = Goes (Takes (SideEnd side) next) (record (down s
 heard side next Failed bytes c = Stops (end.LinkFault side) c
 
 abbrev pub poll : Side → List Turn → Next → Course → Outcome
-poll side turns next c = heard side next (answer room (pending turns)) (given room (pending turns)) (turned side c)
+poll side turns next c = heard side next (answer POLL_LIMIT (pending turns)) (given POLL_LIMIT (pending turns)) (turned side c)
 
 -- what waits is written to the tape
 abbrev pub gathered : Course → Course

@@ -3,7 +3,7 @@ use Rattle.std.specs.Prelude.{ℕ, ◌==◌, ltb, ◌&&◌, ◌||◌, not, Bool,
 use Rattle.std.specs.List.{flat_map}
 use Rattle.usb_base.specs.declared.refusal.Refusal.{Refusal}
 use Rattle.session_tape.specs.Lines.{piece_line, end_line, refusal_comment}
-use Rattle.bridge_run.specs.declared.written.recording.TheConstants.{PIECE}
+use Rattle.bridge_run.specs.declared.written.recording.TheConstants.{WAITING_LIMIT}
 use Rattle.bridge_run.specs.events.Events.{LinkEvent, SidePiece, SideEnd}
 
 -- a client that comes, or is quiet, has no line
@@ -29,12 +29,9 @@ sends_any to_client to_host refusals lets_go = has_any to_client || (has_any to_
 abbrev pub is_last : Bool → Bool → ℕ → Bool
 is_last client_up host_up left = (not client_up && not host_up) || (left == 0)
 
--- how many bytes wait at most
-abbrev pub piece : ℕ
-piece = PIECE
-
+-- as many bytes wait as are written at the latest
 abbrev pub is_full : List ℕ → Bool
-is_full lines = not (ltb (length lines) piece)
+is_full lines = not (ltb (length lines) WAITING_LIMIT)
 
 -- lines that are due are written, and then none wait
 abbrev pub written_if : Bool → List ℕ → List ℕ

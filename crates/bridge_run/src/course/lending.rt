@@ -13,7 +13,7 @@ ghost use Rattle.bridge_run.specs.course.Serves.{NothingYet, Leaves};
 
 use crate::course::rounds::Rounds;
 use crate::course::serve_end::ServeEnd;
-use crate::course::serving::ROOM;
+use crate::course::serving::POLL_LIMIT;
 use crate::course::session::Session;
 use crate::served::lent::Lent;
 use gate_outside::{Doors, Side, Sink};
@@ -53,7 +53,7 @@ pub fn serve_host<G: Gadget, D: Doors, K: Sink>(
         Ok(core) => core,
         Err(_) => return ServeEnd::Memory,
     };
-    let mut buf = match vec![in alloc; 0; ROOM] {
+    let mut buf = match vec![in alloc; 0; POLL_LIMIT] {
         Ok(buf) => buf,
         Err(_) => return ServeEnd::Memory,
     };

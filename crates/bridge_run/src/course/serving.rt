@@ -27,7 +27,7 @@ use std::alloc::Global;
 use usb_base::Bytes;
 
 /// How many bytes a poll takes at most.
-pub const ROOM: usize = 65_536;
+pub const POLL_LIMIT: usize = 65_536;
 
 /// Dials the host, makes the clients' door, and goes in rounds. A round asks for a client where none is there, and
 /// polls the client and then the host, whose link is up. What comes is an event of a gate that draws its ids from
@@ -67,7 +67,7 @@ pub fn serve<D: Doors, K: Sink, T: Tape>(
         Ok(core) => core,
         Err(_) => return ServeEnd::Memory,
     };
-    let mut buf = match vec![in alloc; 0; ROOM] {
+    let mut buf = match vec![in alloc; 0; POLL_LIMIT] {
         Ok(buf) => buf,
         Err(_) => return ServeEnd::Memory,
     };

@@ -5,7 +5,7 @@ ghost use Rattle.bridge_run.specs.events.Events.{LinkEvent as PastEvent, ClientC
 ghost use Rattle.bridge_run.specs.course.Course.{Course, Next};
 ghost use Rattle.bridge_run.specs.course.Course.{AtDoor, AtClient, Takes};
 ghost use Rattle.bridge_run.specs.course.Calls.{Goes, put, quiet};
-ghost use Rattle.bridge_run.specs.declared.course.serving.TheConstants.{ROOM};
+ghost use Rattle.bridge_run.specs.declared.course.serving.TheConstants.{POLL_LIMIT};
 ghost use Rattle.bridge_run.specs.course.Outside.{outside, gathering, written, faults, Tells, Cut};
 ghost use Rattle.bridge_run.specs.written.Recorded.{sends_any, is_last};
 ghost use Rattle.bridge_run.specs.course.Serves.{MayRunOut, Leaves};
@@ -280,7 +280,7 @@ impl<C: Served + Drop> Session<C> {
     ) -> Result<(), ServeEnd>
         requires agrees { Agrees self.old.rounds (outside (D.link doors.old) (D.door doors.old)) }
         requires left { 0 < self.old.rounds.left }
-        requires room { length buf.old ≡ ROOM }
+        requires room { length buf.old ≡ POLL_LIMIT }
         ensures course { (first : C.First) (begun : Option (List ℕ)) (c : Course) → Follows (C.stands first self.old.core) (C.sends first) self.old.rounds (outside (D.link doors.old) (D.door doors.old)) (gathering begun (K.contents out.old) (T.contents tape.old) self.old.waiting) c
             → Runs result (C.stands first self.new.core) (C.runs_out first) (setting (C.sends first) self.old.rounds) self.new.rounds (outside (D.link doors.new) (D.door doors.new)) (gathering begun (K.contents out.new) (T.contents tape.new) self.new.waiting) (Goes (polls side) c) (behind side) }
         ensures log { (first : C.First) (terms : Terms) (begun : D) (begun_out : K) → terms.taped ≡ T.made tape.old → IsAsking (polls side) D.call_gives (C.stands first self.old.core) (Told K.write_gives begun_out out.old) terms (C.sends first) self.old.rounds begun doors.old
@@ -321,7 +321,7 @@ impl<C: Served + Drop> Session<C> {
     ) -> Result<(), ServeEnd>
         requires agrees { Agrees self.old.rounds (outside (D.link doors.old) (D.door doors.old)) }
         requires live { IsLive self.old.rounds }
-        requires room { length buf.old ≡ ROOM }
+        requires room { length buf.old ≡ POLL_LIMIT }
         ensures course { (first : C.First) (begun : Option (List ℕ)) (c : Course) → Follows (C.stands first self.old.core) (C.sends first) self.old.rounds (outside (D.link doors.old) (D.door doors.old)) (gathering begun (K.contents out.old) (T.contents tape.old) self.old.waiting) c
             → Runs result (C.stands first self.new.core) (C.runs_out first) (setting (C.sends first) self.old.rounds) self.new.rounds (outside (D.link doors.new) (D.door doors.new)) (gathering begun (K.contents out.new) (T.contents tape.new) self.new.waiting) (Goes AtDoor c) AtDoor }
         ensures log { (first : C.First) (terms : Terms) (begun : D) (begun_out : K) → terms.taped ≡ T.made tape.old → IsAsking AtDoor D.call_gives (C.stands first self.old.core) (Told K.write_gives begun_out out.old) terms (C.sends first) self.old.rounds begun doors.old
@@ -351,7 +351,7 @@ impl<C: Served + Drop> Session<C> {
     ) -> ServeEnd
         requires agrees { Agrees self.old.rounds (outside (D.link doors.old) (D.door doors.old)) }
         requires live { IsLive self.old.rounds }
-        requires room { length buf.old ≡ ROOM }
+        requires room { length buf.old ≡ POLL_LIMIT }
         requires fresh { self.old.rounds.waits ≡ self.old.rounds.idle }
         ensures course { (first : C.First) (begun : Option (List ℕ)) (c : Course) → Follows (C.stands first self.old.core) (C.sends first) self.old.rounds (outside (D.link doors.old) (D.door doors.old)) (gathering begun (K.contents out.old) (T.contents tape.old) self.old.waiting) c
             → Leaves result (C.runs_out first) (setting (C.sends first) self.old.rounds) (Goes AtDoor c) (outside (D.link doors.new) (D.door doors.new)) (written begun (K.contents out.new) (T.contents tape.new)) }

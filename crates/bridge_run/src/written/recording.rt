@@ -18,8 +18,8 @@ use session_tape::{Tape, push_end, push_piece, push_refusal, record};
 use std::alloc::Global;
 use usb_base::{Bytes, List, Memory, Refusal};
 
-/// How many bytes of lines are written at the latest.
-const PIECE: usize = 65_536;
+/// How many bytes of lines are written at the latest: fewer wait.
+pub const WAITING_LIMIT: usize = 65_536;
 
 /// Puts the event's line behind those that wait, where the tape is made, and a comment for each refusal that it sends.
 /// Where they are due, or 64 KiB wait, all of them are written to the tape.
@@ -75,7 +75,7 @@ pub fn write_waiting<T: Tape>(due: bool, waiting: &mut Bytes, tape: &mut T) -> R
 fn is_full(waiting: &Bytes) -> bool
     ensures { result ≡ are_full waiting.now }
 {
-    waiting.len() >= PIECE
+    waiting.len() >= WAITING_LIMIT
 }
 
 fn push_event(event: LinkEvent, text: &mut Bytes) -> Result<(), Memory>

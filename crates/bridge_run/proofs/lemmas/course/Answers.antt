@@ -13,7 +13,8 @@ use Rattle.bridge_run.specs.events.Events.{LinkEvent, ClientComes}
 use Rattle.bridge_run.specs.declared.course.rounds.Rounds.{Rounds}
 use Rattle.bridge_run.specs.events.Prescribed.{Prescribed}
 use Rattle.bridge_run.specs.course.Course.{Setting, Course, Next, AtDoor, AtClient, AtHost, AtEnd, Takes}
-use Rattle.bridge_run.specs.course.Calls.{Goes, room, come, down, heard, poll, call, course_of}
+use Rattle.bridge_run.specs.declared.course.serving.TheConstants.{POLL_LIMIT}
+use Rattle.bridge_run.specs.course.Calls.{Goes, come, down, heard, poll, call, course_of}
 use Rattle.bridge_run.specs.course.Calls.{turned as passed}
 use Rattle.bridge_run.specs.course.Outside.{Outside, outside, NoFault, Shows, Tells, IsTold, IsBetween, IsOneOf, HasLines, IsTaped, Cut, Written, Faults}
 use Rattle.bridge_run.specs.inner.Keeping.{up_of, with_up}
@@ -160,10 +161,10 @@ call-pass s Client c up = ap (λ (b : Bool). cond b (poll Client c.client AtHost
 call-pass s Host c up = ap (λ (b : Bool). cond b (poll Host c.host AtEnd c) (Goes AtEnd c)) up
 
 -- a poll that gave what the turns have
-poll-is : (side : Side) (turns : List Turn) (next : Next) (c : Course) (polled : Polled) (buf : List ℕ) → length buf ≡ room → Gives polled buf turns
+poll-is : (side : Side) (turns : List Turn) (next : Next) (c : Course) (polled : Polled) (buf : List ℕ) → length buf ≡ POLL_LIMIT → Gives polled buf turns
     → poll side turns next c ≡ heard side next polled (take (taken polled) buf) (passed side c)
 poll-is side turns next c polled buf len gives =
-    ap (λ (a : Polled). heard side next a (given room (pending turns)) (passed side c)) (ap (λ (n : ℕ). answer n (pending turns)) (sym len) ∙ sym gives.answers)
+    ap (λ (a : Polled). heard side next a (given POLL_LIMIT (pending turns)) (passed side c)) (ap (λ (n : ℕ). answer n (pending turns)) (sym len) ∙ sym gives.answers)
     ∙ ap (λ (bytes : List ℕ). heard side next polled bytes (passed side c)) (ap (λ (n : ℕ). given n (pending turns)) (sym len) ∙ sym gives.bytes)
 
 gives-at : (polled : Polled) (buf : List ℕ) (known : Option (List Turn)) (turns : List Turn) → known ≡ Some turns → IfSome known (Gives polled buf) → Gives polled buf turns
@@ -178,7 +179,7 @@ shows-of Client links door out c t = t.client.turns-is
 shows-of Host links door out c t = t.host.turns-is
 
 -- what the poll of an up side comes to
-pub poll-call : (s : Setting) (side : Side) (links : Side → Link) (door : Door) (out : Written) (c : Course) (polled : Polled) (buf : List ℕ) → Tells (outside links door) out c → is_up side c ≡ true → length buf ≡ room
+pub poll-call : (s : Setting) (side : Side) (links : Side → Link) (door : Door) (out : Written) (c : Course) (polled : Polled) (buf : List ℕ) → Tells (outside links door) out c → is_up side c ≡ true → length buf ≡ POLL_LIMIT
     → IfSome (links side).turns (Gives polled buf) → call s (polls side) c ≡ heard side (behind side) polled (take (taken polled) buf) (passed side c)
 poll-call s side links door out c polled buf t up len gives =
     call-poll s side c up ∙ poll-is side (turns_of side c) (behind side) c polled buf len (gives-at polled buf (links side).turns (turns_of side c) (shows-of side links door out c t) gives)
@@ -186,8 +187,8 @@ poll-call s side links door out c polled buf t up len gives =
 -- ---- a side's link behind a poll
 
 -- the link's turns behind a poll, with all else of it as it was
-turned-shows : (old new : Link) (up down : Bool) (turns : List Turn) (written : List ℕ) (len : ℕ) → len ≡ room → new.up ≡ down → new.turns ≡ option_map (λ ts. after len (pending ts)) old.turns → new.written ≡ old.written
-    → Shows old up turns written → Shows new down (after room (pending turns)) written
+turned-shows : (old new : Link) (up down : Bool) (turns : List Turn) (written : List ℕ) (len : ℕ) → len ≡ POLL_LIMIT → new.up ≡ down → new.turns ≡ option_map (λ ts. after len (pending ts)) old.turns → new.written ≡ old.written
+    → Shows old up turns written → Shows new down (after POLL_LIMIT (pending turns)) written
 turned-shows old new up down turns written len is u t w s = record {
   up-is = u;
   turns-is = t ∙ ap (λ (k : Option (List Turn)). option_map (λ ts. after len (pending ts)) k) s.turns-is ∙ ap (λ (n : ℕ). Some (after n (pending turns))) is;
@@ -209,7 +210,7 @@ abbrev pub held_up : Side → Bool → Course → Course
 held_up Client b c = record c { client_up = b }
 held_up Host b c = record c { host_up = b }
 
-pub passed-tells : (side : Side) (up : Bool) (links links' : Side → Link) (door door' : Door) (out : Written) (c : Course) (len : ℕ) → Tells (outside links door) out c → len ≡ room
+pub passed-tells : (side : Side) (up : Bool) (links links' : Side → Link) (door door' : Door) (out : Written) (c : Course) (len : ℕ) → Tells (outside links door) out c → len ≡ POLL_LIMIT
     → OneMoved side links links' door door' → (links' side).up ≡ up → (links' side).turns ≡ option_map (λ ts. after len (pending ts)) (links side).turns → (links' side).written ≡ (links side).written
     → Tells (outside links' door') out (held_up side up (passed side c))
 passed-tells Client up links links' door door' out c len t is moved u turns written = record {
@@ -228,14 +229,14 @@ passed-tells Host up links links' door door' out c len t is moved u turns writte
 }
 
 -- the poll gave nothing that is an event
-pub passed-follows : (side : Side) (stands : List LinkEvent → Type 0) (p : Prescribed) (k : Rounds) (links links' : Side → Link) (door door' : Door) (out : Written) (c : Course) (len : ℕ) → Follows stands p k (outside links door) out c → len ≡ room
+pub passed-follows : (side : Side) (stands : List LinkEvent → Type 0) (p : Prescribed) (k : Rounds) (links links' : Side → Link) (door door' : Door) (out : Written) (c : Course) (len : ℕ) → Follows stands p k (outside links door) out c → len ≡ POLL_LIMIT
     → OneMoved side links links' door door' → (links' side).up ≡ (links side).up → (links' side).turns ≡ option_map (λ ts. after len (pending ts)) (links side).turns → (links' side).written ≡ (links side).written
     → Follows stands p k (outside links' door') out (passed side c)
 passed-follows Client stands p k links links' door door' out c len f is moved u turns written =
-    retold stands p k (outside links door) (outside links' door') out out c (after room (pending c.client)) c.host c.recorded c.waiting f
+    retold stands p k (outside links door) (outside links' door') out out c (after POLL_LIMIT (pending c.client)) c.host c.recorded c.waiting f
     (passed-tells Client c.client_up links links' door door' out c len f.tells is moved (u ∙ f.tells.client.up-is) turns written)
 passed-follows Host stands p k links links' door door' out c len f is moved u turns written =
-    retold stands p k (outside links door) (outside links' door') out out c c.client (after room (pending c.host)) c.recorded c.waiting f
+    retold stands p k (outside links door) (outside links' door') out out c c.client (after POLL_LIMIT (pending c.host)) c.recorded c.waiting f
     (passed-tells Host c.host_up links links' door door' out c len f.tells is moved (u ∙ f.tells.host.up-is) turns written)
 
 -- bytes have come
@@ -254,7 +255,7 @@ took-follows stands p k k' w out c n f kept =
     })
 
 -- the link has ended
-ended-as : (side : Side) (stands : List LinkEvent → Type 0) (p : Prescribed) (k : Rounds) (links links' : Side → Link) (door door' : Door) (out : Written) (c : Course) (len : ℕ) → Follows stands p k (outside links door) out c → len ≡ room
+ended-as : (side : Side) (stands : List LinkEvent → Type 0) (p : Prescribed) (k : Rounds) (links links' : Side → Link) (door door' : Door) (out : Written) (c : Course) (len : ℕ) → Follows stands p k (outside links door) out c → len ≡ POLL_LIMIT
     → OneMoved side links links' door door' → (links' side).up ≡ false → (links' side).turns ≡ option_map (λ ts. after len (pending ts)) (links side).turns → (links' side).written ≡ (links side).written
     → Follows stands p (record (with_up side k) { busy = true }) (outside links' door') out (record (down side (passed side c)) { busy = true })
 ended-as Client stands p k links links' door door' out c len f is moved u turns written =
@@ -264,7 +265,7 @@ ended-as Host stands p k links links' door door' out c len f is moved u turns wr
     let t = passed-tells Host false links links' door door' out c len f.tells is moved u turns written in
     record { stands_for = f.stands_for; tells = record { client = t.client; host = t.host; clients = t.clients; told = t.told; tape = t.tape }; client_up = f.client_up; host_up = refl; busy = refl; waits = f.waits; left = f.left; refused = f.refused }
 
-pub ended-follows : (side : Side) (stands : List LinkEvent → Type 0) (p : Prescribed) (k k' : Rounds) (links links' : Side → Link) (door door' : Door) (out : Written) (c : Course) (len : ℕ) → Follows stands p k (outside links door) out c → len ≡ room
+pub ended-follows : (side : Side) (stands : List LinkEvent → Type 0) (p : Prescribed) (k k' : Rounds) (links links' : Side → Link) (door door' : Door) (out : Written) (c : Course) (len : ℕ) → Follows stands p k (outside links door) out c → len ≡ POLL_LIMIT
     → OneMoved side links links' door door' → (links' side).up ≡ false → (links' side).turns ≡ option_map (λ ts. after len (pending ts)) (links side).turns → (links' side).written ≡ (links side).written
     → k' ≡ record (with_up side k) { busy = true } → Follows stands p k' (outside links' door') out (record (down side (passed side c)) { busy = true })
 ended-follows side stands p k k' links links' door door' out c len f is moved u turns written kept =
@@ -286,17 +287,17 @@ heard-moves Client next Ended bytes c = record { client = refl; host = refl; cli
 heard-moves Host next Ended bytes c = record { client = refl; host = refl; clients = refl; writes = record { to_client = refl; to_host = refl; told = refl; recorded = refl } }
 heard-moves side next Failed bytes c = record { client = refl; host = refl; clients = refl; writes = record { to_client = refl; to_host = refl; told = refl; recorded = refl } }
 
-failed-turns : (old new : Link) (up : Bool) (turns : List Turn) (written : List ℕ) (behind : List Turn) → Shows old up turns written → PollFails old new → behind ≡ after room (pending turns) → IsOneOf turns new.turns behind
+failed-turns : (old new : Link) (up : Bool) (turns : List Turn) (written : List ℕ) (behind : List Turn) → Shows old up turns written → PollFails old new → behind ≡ after POLL_LIMIT (pending turns) → IsOneOf turns new.turns behind
 failed-turns old new up turns written behind s fails is = go fails.turns
   where
     go : (new.turns ≡ old.turns) ⊎ FailTaken old.turns new.turns → IsOneOf turns new.turns behind
     go (inl same) = inl (same ∙ s.turns-is)
-    go (inr t) = inr (t.4 ∙ ap Some (sym (is ∙ ap (λ (ts : List Turn). after room (pending ts)) (some-is turns t.0 (sym s.turns-is ∙ t.2)) ∙ ap (λ (ts : List Turn). after room ts) t.3)))
+    go (inr t) = inr (t.4 ∙ ap Some (sym (is ∙ ap (λ (ts : List Turn). after POLL_LIMIT (pending ts)) (some-is turns t.0 (sym s.turns-is ∙ t.2)) ∙ ap (λ (ts : List Turn). after POLL_LIMIT ts) t.3)))
 
 pub failed-cut : {ran_out : List LinkEvent → LinkEvent → List ℕ → List ℕ → Type 0} → (side : Side) (s : Setting) (links links' : Side → Link) (door door' : Door) (out : Written) (c : Course) → Tells (outside links door) out c → is_up side c ≡ true → OneMoved side links links' door door'
     → PollFails (links side) (links' side) → Cut ran_out (outside links' door') out c (course_of (call s (polls side) c))
 failed-cut {ran_out = ran_out} Client s links links' door door' out c t up moved fails =
-    let m = heard-moves Client AtHost (answer room (pending c.client)) (given room (pending c.client)) (passed Client c) in
+    let m = heard-moves Client AtHost (answer POLL_LIMIT (pending c.client)) (given POLL_LIMIT (pending c.client)) (passed Client c) in
     subst (λ (d : Course). Cut ran_out (outside links' door') out c d) (ap course_of (sym (call-poll s Client c up))) (record {
       client = failed-turns (links Client) (links' Client) c.client_up c.client c.to_client _ t.client fails m.client;
       host = inl (ap (λ (l : Link). l.turns) moved.other-is ∙ t.host.turns-is);
@@ -307,7 +308,7 @@ failed-cut {ran_out = ran_out} Client s links links' door door' out c t up moved
       tape = same-recorded ran_out _ _ out c _ out.tape t.tape m.writes.recorded;
     })
 failed-cut {ran_out = ran_out} Host s links links' door door' out c t up moved fails =
-    let m = heard-moves Host AtEnd (answer room (pending c.host)) (given room (pending c.host)) (passed Host c) in
+    let m = heard-moves Host AtEnd (answer POLL_LIMIT (pending c.host)) (given POLL_LIMIT (pending c.host)) (passed Host c) in
     subst (λ (d : Course). Cut ran_out (outside links' door') out c d) (ap course_of (sym (call-poll s Host c up))) (record {
       client = inl (ap (λ (l : Link). l.turns) moved.other-is ∙ t.client.turns-is);
       host = failed-turns (links Host) (links' Host) c.host_up c.host c.to_host _ t.host fails m.host;

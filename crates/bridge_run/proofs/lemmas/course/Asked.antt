@@ -10,7 +10,8 @@ use Rattle.bridge_run.specs.declared.course.rounds.Rounds.{Rounds}
 use Rattle.bridge_run.specs.declared.course.serve_end.ServeEnd.{ServeEnd}
 use Rattle.bridge_run.specs.events.Prescribed.{Prescribed}
 use Rattle.bridge_run.specs.course.Course.{Course, Next, Takes}
-use Rattle.bridge_run.specs.course.Calls.{Goes, room, heard}
+use Rattle.bridge_run.specs.declared.course.serving.TheConstants.{POLL_LIMIT}
+use Rattle.bridge_run.specs.course.Calls.{Goes, heard}
 use Rattle.bridge_run.specs.course.Calls.{turned as passed}
 use Rattle.bridge_run.specs.course.Outside.{Outside, outside, Written, Faults}
 use Rattle.bridge_run.specs.inner.Keeping.{up_of}
@@ -21,7 +22,7 @@ use Rattle.bridge_run.proofs.lemmas.course.Rest.{faults-then}
 
 -- a side whose link is up is polled, and serving goes on from what that gave
 pub polled-runs : {T : Type 0} → (result : Result T ServeEnd) (stands stands' : List LinkEvent → Type 0) (runs_out : List LinkEvent → LinkEvent → List ℕ → List ℕ → Type 0) (p : Prescribed) (side : Side) (k k1 k' : Rounds) (links : Side → Link) (door : Door) (w' : Outside) (out out' : Written) (c d : Course) (polled : Polled) (buf : List ℕ) (next : Next)
-    → Follows stands p k (outside links door) out c → up_of side k ≡ true → length buf ≡ room → IfSome (links side).turns (Gives polled buf) → heard side (behind side) polled (take (taken polled) buf) (passed side c) ≡ Goes next d → k1.idle ≡ k.idle
+    → Follows stands p k (outside links door) out c → up_of side k ≡ true → length buf ≡ POLL_LIMIT → IfSome (links side).turns (Gives polled buf) → heard side (behind side) polled (take (taken polled) buf) (passed side c) ≡ Goes next d → k1.idle ≡ k.idle
     → Runs result stands' runs_out (setting p k1) k' w' out' (Goes next d) (behind side) → Runs result stands' runs_out (setting p k) k' w' out' (Goes (polls side) c) (behind side)
 polled-runs result stands stands' runs_out p side k k1 k' links door w' out out' c d polled buf next f up len gives is idle run =
     let s = setting p k in

@@ -12,9 +12,11 @@ use Rattle.bridge_run.specs.declared.course.serve_end.ServeEnd.{ServeEnd}
 use Rattle.bridge_run.specs.declared.course.serve_end.ServeEnd.TheVariants as end
 use Rattle.bridge_run.specs.events.Events.{LinkEvent, SideEnd}
 use Rattle.bridge_run.specs.events.Prescribed.{Prescribed, gained, refuses, drops, first_of}
-use Rattle.bridge_run.specs.written.Recorded.{has_any, sends_any, is_last, piece, is_full, waiting_if}
+use Rattle.bridge_run.specs.declared.written.recording.TheConstants.{WAITING_LIMIT}
+use Rattle.bridge_run.specs.written.Recorded.{has_any, sends_any, is_last, is_full, waiting_if}
 use Rattle.bridge_run.specs.course.Course.{Setting, Course, Next, Making, AtDoor, AtClient, AtHost, AtEnd, Takes}
-use Rattle.bridge_run.specs.course.Calls.{Outcome, Goes, Stops, course_of, room, sends_now, is_due, lines_with, put, settle, ends_next, take_event, come, turned, heard, poll, gathered, rest, call, and_then, calls}
+use Rattle.bridge_run.specs.declared.course.serving.TheConstants.{POLL_LIMIT}
+use Rattle.bridge_run.specs.course.Calls.{Outcome, Goes, Stops, course_of, sends_now, is_due, lines_with, put, settle, ends_next, take_event, come, turned, heard, poll, gathered, rest, call, and_then, calls}
 use Rattle.bridge_run.specs.course.Outside.{Outside, gathering, written, HasLines}
 use Rattle.bridge_run.specs.course.Serves.{Reaches, NoneWaits, EndsSo, MayRunOut, CutShort, Leaves}
 
@@ -96,9 +98,9 @@ call-written : (s : Setting) (next : Next) (c : Course) → IsWritten (call s ne
 call-written s Making c = tt
 call-written s AtDoor c = if-written c.client_up (Goes AtClient c) (come c.clients c) (λ up. tt) (λ down. come-written c.clients c)
 call-written s AtClient c =
-    if-written c.client_up (poll Client c.client AtHost c) (Goes AtHost c) (λ up. heard-written Client AtHost (answer room (pending c.client)) (given room (pending c.client)) (turned Client c)) (λ down. tt)
+    if-written c.client_up (poll Client c.client AtHost c) (Goes AtHost c) (λ up. heard-written Client AtHost (answer POLL_LIMIT (pending c.client)) (given POLL_LIMIT (pending c.client)) (turned Client c)) (λ down. tt)
 call-written s AtHost c =
-    if-written c.host_up (poll Host c.host AtEnd c) (Goes AtEnd c) (λ up. heard-written Host AtEnd (answer room (pending c.host)) (given room (pending c.host)) (turned Host c)) (λ down. tt)
+    if-written c.host_up (poll Host c.host AtEnd c) (Goes AtEnd c) (λ up. heard-written Host AtEnd (answer POLL_LIMIT (pending c.host)) (given POLL_LIMIT (pending c.host)) (turned Host c)) (λ down. tt)
 call-written s AtEnd c = rest-written s c
 call-written s (Takes e next) c = take-written s e next c
 
@@ -135,48 +137,48 @@ quiet-none s c is =
 
 -- ---- little waits
 
-none-few : 0 < piece
+none-few : 0 < WAITING_LIMIT
 none-few = lit< tt
 
 not-full : (b : Bool) → not b ≡ false → b ≡ true
 not-full true is = refl
 not-full false is = cc
 
-few-if : (now full : Bool) (lines : List ℕ) → is_full lines ≡ full → length (waiting_if (now || full) lines) < piece
+few-if : (now full : Bool) (lines : List ℕ) → is_full lines ≡ full → length (waiting_if (now || full) lines) < WAITING_LIMIT
 few-if true full lines is = none-few
 few-if false true lines is = none-few
-few-if false false lines is = ltb-true (length lines) piece (not-full (ltb (length lines) piece) is)
+few-if false false lines is = ltb-true (length lines) WAITING_LIMIT (not-full (ltb (length lines) WAITING_LIMIT) is)
 
-put-few : (p : Prescribed) (e : LinkEvent) (c : Course) → length (put p e c).waiting < piece
+put-few : (p : Prescribed) (e : LinkEvent) (c : Course) → length (put p e c).waiting < WAITING_LIMIT
 put-few p e c = few-if (sends_now p e c) (is_full (lines_with p e c)) (lines_with p e c) refl
 
 abbrev IsFew : Outcome → Type 0
-IsFew o = length (course_of o).waiting < piece
+IsFew o = length (course_of o).waiting < WAITING_LIMIT
 
 if-few : (b : Bool) (x y : Outcome) → IsFew x → IsFew y → IsFew (cond b x y)
 if-few b x y f g = cond_both b x y IsFew (λ is. f) (λ is. g)
 
-come-few : (clients : List (List Turn)) (c : Course) → length c.waiting < piece → IsFew (come clients c)
+come-few : (clients : List (List Turn)) (c : Course) → length c.waiting < WAITING_LIMIT → IsFew (come clients c)
 come-few [] c h = h
 come-few (turns ∷ clients) c h = h
 
-heard-few : (side : Side) (next : Next) (polled : Polled) (bytes : List ℕ) (c : Course) → length c.waiting < piece → IsFew (heard side next polled bytes c)
+heard-few : (side : Side) (next : Next) (polled : Polled) (bytes : List ℕ) (c : Course) → length c.waiting < WAITING_LIMIT → IsFew (heard side next polled bytes c)
 heard-few side next (Took n) bytes c h = h
 heard-few side next NotYet bytes c h = h
 heard-few Client next Ended bytes c h = h
 heard-few Host next Ended bytes c h = h
 heard-few side next Failed bytes c h = h
 
-settle-few : (s : Setting) (next : Next) (c : Course) → length c.waiting < piece → IsFew (settle s next c)
+settle-few : (s : Setting) (next : Next) (c : Course) → length c.waiting < WAITING_LIMIT → IsFew (settle s next c)
 settle-few s next c h =
     if-few (not c.client_up && not c.host_up) (Stops (end.Ended (first_of (s.served.refusals c.events))) c) (cond (c.left == 0) (Stops end.Spent c) (Goes next c)) h (if-few (c.left == 0) (Stops end.Spent c) (Goes next c) h h)
 
-call-few : (s : Setting) (next : Next) (c : Course) → length c.waiting < piece → IsFew (call s next c)
+call-few : (s : Setting) (next : Next) (c : Course) → length c.waiting < WAITING_LIMIT → IsFew (call s next c)
 call-few s Making c h = h
 call-few s AtDoor c h = if-few c.client_up (Goes AtClient c) (come c.clients c) h (come-few c.clients c h)
 call-few s AtClient c h =
-    if-few c.client_up (poll Client c.client AtHost c) (Goes AtHost c) (heard-few Client AtHost (answer room (pending c.client)) (given room (pending c.client)) (turned Client c) h) h
-call-few s AtHost c h = if-few c.host_up (poll Host c.host AtEnd c) (Goes AtEnd c) (heard-few Host AtEnd (answer room (pending c.host)) (given room (pending c.host)) (turned Host c) h) h
+    if-few c.client_up (poll Client c.client AtHost c) (Goes AtHost c) (heard-few Client AtHost (answer POLL_LIMIT (pending c.client)) (given POLL_LIMIT (pending c.client)) (turned Client c) h) h
+call-few s AtHost c h = if-few c.host_up (poll Host c.host AtEnd c) (Goes AtEnd c) (heard-few Host AtEnd (answer POLL_LIMIT (pending c.host)) (given POLL_LIMIT (pending c.host)) (turned Host c) h) h
 call-few s AtEnd c h =
     if-few c.busy (Goes AtDoor (record c { busy = false; waits = s.idle })) (cond (c.waits - 1 == 0) (Stops end.Idle (record (gathered c) { waits = c.waits - 1 })) (Goes AtDoor (record (gathered c) { waits = c.waits - 1 }))) h
     (if-few (c.waits - 1 == 0) (Stops end.Idle (record (gathered c) { waits = c.waits - 1 })) (Goes AtDoor (record (gathered c) { waits = c.waits - 1 })) none-few none-few)
@@ -191,8 +193,8 @@ calls-few : (s : Setting) (n : ℕ) (o : Outcome) → IsFew o → IsFew (calls s
 calls-few s zero o h = h
 calls-few s (suc n) o h = then-few s (calls s n o) (calls-few s n o h)
 
-pub reached-few : (s : Setting) (next : Next) (c : Course) (to : Outcome) → c.waiting ≡ [] → Reaches s (Goes next c) to → length (course_of to).waiting < piece
-reached-few s next c to none r = subst IsFew r.is (calls-few s r.count (Goes next c) (subst (λ (l : List ℕ). length l < piece) (sym none) none-few))
+pub reached-few : (s : Setting) (next : Next) (c : Course) (to : Outcome) → c.waiting ≡ [] → Reaches s (Goes next c) to → length (course_of to).waiting < WAITING_LIMIT
+reached-few s next c to none r = subst IsFew r.is (calls-few s r.count (Goes next c) (subst (λ (l : List ℕ). length l < WAITING_LIMIT) (sym none) none-few))
 
 -- ---- what is left at an end
 

@@ -15,14 +15,14 @@ use Rattle.bridge_run.specs.declared.course.rounds.Rounds.{Rounds}
 use Rattle.bridge_run.specs.log.Asks.{OfSide}
 use Rattle.bridge_run.specs.log.Log.{Told}
 use Rattle.bridge_run.proofs.lemmas.log.Rounds.{gone-asking, took-taking, rest-resting, end-taking, poll-failed, came-logs, quiet-logs, down-idle, down-waits}
-use Rattle.bridge_run.specs.declared.course.serving.TheConstants.{ROOM}
+use Rattle.bridge_run.specs.declared.course.serving.TheConstants.{POLL_LIMIT}
 use Rattle.bridge_run.proofs.course.session.Session.ask.Goals as goal
 
 pub returns-in-Took-clause-course : goal.returns-in-Took-clause-course
 returns-in-Took-clause-course g c = λ first begun k f.
     let side = c.args.side in
     let n = c.in-Took.n in
-    let len : length c.poll.new.buf ≡ ROOM = omega (arith, c.poll.auto.buf, c.requires.room) in
+    let len : length c.poll.new.buf ≡ POLL_LIMIT = omega (arith, c.poll.auto.buf, c.requires.room) in
     let passed_on = passed-follows side (g.C.Served.stands first c.args.self.now.core) (g.C.Served.sends first) c.args.self.now.rounds (g.D.Doors.link c.args.doors.now) (g.D.Doors.link c.poll.new.self) (g.D.Doors.door c.args.doors.now) (g.D.Doors.door c.poll.new.self) (gathering begun (g.K.Sink.contents c.args.out.now) (g.T.Tape.contents c.args.tape.now) c.args.self.now.waiting) k (length c.poll.new.buf) f len (record { other-is = c.in-Took.ensures.other; door-is = c.in-Took.ensures.door })
     (ap (λ (l : Link). l.up) c.in-Took.ensures.link.1) (ap (λ (l : Link). l.turns) c.in-Took.ensures.link.1) (ap (λ (l : Link). l.written) c.in-Took.ensures.link.1) in
     let d = record (passed side k) { busy = true; left = (passed side k).left - n } in
@@ -33,7 +33,7 @@ returns-in-Took-clause-course g c = λ first begun k f.
 pub returns-in-NotYet-clause-course : goal.returns-in-NotYet-clause-course
 returns-in-NotYet-clause-course g c = λ first begun k f.
     let side = c.args.side in
-    let len : length c.poll.new.buf ≡ ROOM = omega (arith, c.poll.auto.buf, c.requires.room) in
+    let len : length c.poll.new.buf ≡ POLL_LIMIT = omega (arith, c.poll.auto.buf, c.requires.room) in
     polled-runs c.be_quiet.result (g.C.Served.stands first c.args.self.now.core) (g.C.Served.stands first c.be_quiet.new.self.core) (g.C.Served.runs_out first) (g.C.Served.sends first) side c.args.self.now.rounds c.args.self.now.rounds c.be_quiet.new.self.rounds (g.D.Doors.link c.args.doors.now) (g.D.Doors.door c.args.doors.now)
     (outside (g.D.Doors.link c.be_quiet.new.doors) (g.D.Doors.door c.be_quiet.new.doors)) (gathering begun (g.K.Sink.contents c.args.out.now) (g.T.Tape.contents c.args.tape.now) c.args.self.now.waiting) (gathering begun (g.K.Sink.contents c.be_quiet.new.out) (g.T.Tape.contents c.be_quiet.new.tape) c.be_quiet.new.self.waiting) k (passed side k) NotYet c.poll.new.buf (quiet side (behind side)) f (sym c.is_up.ensures ∙ c.if-not-is_up.false) len c.in-NotYet.ensures.link.0 refl refl
     (c.be_quiet.ensures.course first begun (behind side) (passed side k) (passed-follows side (g.C.Served.stands first c.args.self.now.core) (g.C.Served.sends first) c.args.self.now.rounds (g.D.Doors.link c.args.doors.now) (g.D.Doors.link c.poll.new.self) (g.D.Doors.door c.args.doors.now) (g.D.Doors.door c.poll.new.self) (gathering begun (g.K.Sink.contents c.args.out.now) (g.T.Tape.contents c.args.tape.now) c.args.self.now.waiting) k (length c.poll.new.buf) f len (record { other-is = c.in-NotYet.ensures.other; door-is = c.in-NotYet.ensures.door })
@@ -42,7 +42,7 @@ returns-in-NotYet-clause-course g c = λ first begun k f.
 pub returns-in-Ended-clause-course : goal.returns-in-Ended-clause-course
 returns-in-Ended-clause-course g c = λ first begun k f.
     let side = c.args.side in
-    let len : length c.poll.new.buf ≡ ROOM = omega (arith, c.poll.auto.buf, c.requires.room) in
+    let len : length c.poll.new.buf ≡ POLL_LIMIT = omega (arith, c.poll.auto.buf, c.requires.room) in
     let d = record (down side (passed side k)) { busy = true } in
     polled-runs c.happen-in-Ended.result (g.C.Served.stands first c.args.self.now.core) (g.C.Served.stands first c.happen-in-Ended.new.self.core) (g.C.Served.runs_out first) (g.C.Served.sends first) side c.args.self.now.rounds c.end.new.self c.happen-in-Ended.new.self.rounds (g.D.Doors.link c.args.doors.now) (g.D.Doors.door c.args.doors.now)
     (outside (g.D.Doors.link c.happen-in-Ended.new.doors) (g.D.Doors.door c.happen-in-Ended.new.doors)) (gathering begun (g.K.Sink.contents c.args.out.now) (g.T.Tape.contents c.args.tape.now) c.args.self.now.waiting) (gathering begun (g.K.Sink.contents c.happen-in-Ended.new.out) (g.T.Tape.contents c.happen-in-Ended.new.tape) c.happen-in-Ended.new.self.waiting) k d Ended c.poll.new.buf (Takes (SideEnd side) (behind side)) f (sym c.is_up.ensures ∙ c.if-not-is_up.false) len c.in-Ended.ensures.link.0 refl (down-idle side c.args.self.now.rounds c.end.new.self c.end.ensures)

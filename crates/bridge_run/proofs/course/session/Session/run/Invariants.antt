@@ -7,14 +7,14 @@ use Rattle.bridge_run.specs.inner.Follows.{Follows, setting, Comes}
 use Rattle.bridge_run.specs.log.Log.{Terms, Told}
 use Rattle.bridge_run.specs.inner.Logging.{IsAsking}
 use Rattle.bridge_run.proofs.lemmas.course.Idle.{HasWaited}
-use Rattle.bridge_run.specs.declared.course.serving.TheConstants.{ROOM}
+use Rattle.bridge_run.specs.declared.course.serving.TheConstants.{POLL_LIMIT}
 use Rattle.bridge_run.proofs.course.session.Session.run.Given as goal
 
 abbrev pub invariant-rounds : goal.invariant-rounds
 invariant-rounds g l = record {
   agrees : Agrees l.self.rounds (outside (g.D.Doors.link l.doors) (g.D.Doors.door l.doors));
   live : IsLive l.self.rounds;
-  room : length l.buf ≡ ROOM;
+  room : length l.buf ≡ POLL_LIMIT;
   idle : l.self.rounds.idle ≡ l.initial.self.rounds.idle;
   waited : HasWaited l.initial.self.rounds.idle l.self.rounds (outside (g.D.Doors.link l.initial.doors) (g.D.Doors.door l.initial.doors)) (outside (g.D.Doors.link l.doors) (g.D.Doors.door l.doors));
   faults : NoFault (outside (g.D.Doors.link l.initial.doors) (g.D.Doors.door l.initial.doors)) (outside (g.D.Doors.link l.doors) (g.D.Doors.door l.doors)) (faults (g.K.Sink.faults l.initial.out) (g.T.Tape.counts l.initial.tape)) (faults (g.K.Sink.faults l.out) (g.T.Tape.counts l.tape));
