@@ -151,7 +151,7 @@ put-gathers p first e c false is g fit fits =
     let lines = lines_of e refused in
     let for_client = gained p.to_client c.events e in
     let for_host = gained p.to_host c.events e in
-    let none = neither (has_any for_client) (has_any for_host) (has_any refused || p.lets_go (e ∷ c.events)) (is_last c.client_up c.host_up c.left) (is_full (lines_with p e c)) is in
+    let none = neither (has_any for_client) (has_any for_host) (has_any refused || p.lets_go (e ∷ c.events)) (is_last c) (is_full (lines_with p e c)) is in
     record {
       taped = g.taped;
       later = e ∷ g.later;

@@ -25,7 +25,7 @@ pub data Outcome : Type 0 where
 
 -- its lines don't wait where it sends anything, and where no more may come
 abbrev pub sends_now : Prescribed → LinkEvent → Course → Bool
-sends_now p e c = sends_any (gained p.to_client c.events e) (gained p.to_host c.events e) (gained p.refusals c.events e) (p.lets_go (e ∷ c.events)) || is_last c.client_up c.host_up c.left
+sends_now p e c = sends_any (gained p.to_client c.events e) (gained p.to_host c.events e) (gained p.refusals c.events e) (p.lets_go (e ∷ c.events)) || is_last c
 
 -- the lines that wait, and behind them its own
 abbrev pub lines_with : Prescribed → LinkEvent → Course → List ℕ

@@ -1,6 +1,6 @@
 -- What is kept, and how it changes.
 use Rattle.std.specs.Option.{option_or}
-use Rattle.std.specs.Prelude.{◌≡◌, ◌⊎◌, ◌<◌, ◌≤◌, ◌+◌, ◌*◌, ◌-◌, ℕ, ◌&&◌, ◌||◌, not, Bool, true, false, List, None, Result, Ok, Err}
+use Rattle.std.specs.Prelude.{◌≡◌, ◌⊎◌, ◌<◌, ◌≤◌, ◌+◌, ◌*◌, ◌-◌, ◌==◌, ℕ, ◌&&◌, ◌||◌, not, Bool, true, false, List, None, Result, Ok, Err}
 use Rattle.usb_base.specs.declared.side.Side.{Side}
 use Rattle.usb_base.specs.declared.side.Side.TheVariants.{Client, Host}
 use Rattle.usb_base.specs.declared.refusal.Refusal.{Refusal}
@@ -10,11 +10,11 @@ use Rattle.bridge_run.specs.declared.course.rounds.Rounds.{Rounds}
 use Rattle.bridge_run.specs.events.Prescribed.{refuses, first_of}
 use Rattle.bridge_run.specs.course.Outside.{Outside}
 
--- nothing has come, and no client is there
-abbrev pub begun : Bool → ℕ → ℕ → Rounds
-begun host_up idle budget = record {
+-- nothing has come, and no link is up
+abbrev pub begun : ℕ → ℕ → Rounds
+begun idle budget = record {
   client_up = false;
-  host_up = host_up;
+  host_up = false;
   busy = false;
   waits = idle;
   idle = idle;
@@ -41,6 +41,10 @@ refusing refusals go k = record k {
 -- no side is there any more
 abbrev pub is_over : Rounds → Bool
 is_over k = not k.client_up && not k.host_up
+
+-- or all is taken that may be
+abbrev pub is_last : Rounds → Bool
+is_last k = is_over k || (k.left == 0)
 
 abbrev pub Settles : Result (Unit {0}) ServeEnd → Rounds → Type 0
 Settles (Ok _) k = (is_over k ≡ false) × (0 < k.left)

@@ -5,6 +5,7 @@ use Rattle.usb_base.specs.declared.refusal.Refusal.{Refusal}
 use Rattle.session_tape.specs.Lines.{piece_line, end_line, refusal_comment}
 use Rattle.bridge_run.specs.declared.written.recording.TheConstants.{WAITING_LIMIT}
 use Rattle.bridge_run.specs.events.Events.{LinkEvent, SidePiece, SideEnd}
+use Rattle.bridge_run.specs.course.Course.{Course}
 
 -- a client that comes, or is quiet, has no line
 abbrev pub event_line : LinkEvent → List ℕ
@@ -26,8 +27,8 @@ abbrev pub sends_any : List ℕ → List ℕ → List Refusal → Bool → Bool
 sends_any to_client to_host refusals lets_go = has_any to_client || (has_any to_host || (has_any refusals || lets_go))
 
 -- no link is up, or all is taken that may be
-abbrev pub is_last : Bool → Bool → ℕ → Bool
-is_last client_up host_up left = (not client_up && not host_up) || (left == 0)
+abbrev pub is_last : Course → Bool
+is_last c = (not c.client_up && not c.host_up) || (c.left == 0)
 
 -- as many bytes wait as are written at the latest
 abbrev pub is_full : List ℕ → Bool

@@ -60,6 +60,6 @@ pub fn serve_host<G: Gadget, D: Doors, K: Sink>(
     if let Err(_) = doors.listen(listen) {
         return ServeEnd::LinkFault(Side::Client);
     }
-    let mut session = Session::new(alloc, core, Rounds::new(false, idle, budget));
+    let mut session = Session::new(alloc, core, Rounds::new(idle, budget));
     session.run(&mut buf, doors, out, &mut NoTape)
 }

@@ -1,8 +1,7 @@
 //! What is kept of the course of serving.
 
 ghost use Rattle.std.specs.Prelude.{◌≡◌, ◌-◌, ◌<◌, true};
-ghost use Rattle.bridge_run.specs.written.Recorded.{is_last as is_last_of};
-ghost use Rattle.bridge_run.specs.inner.Keeping.{begun, up_of, with_up, refusing, Settles, Rests};
+ghost use Rattle.bridge_run.specs.inner.Keeping.{begun, up_of, with_up, refusing, is_last as is_last_of, Settles, Rests};
 
 use crate::course::serve_end::ServeEnd;
 use crate::events::sent::Sent;
@@ -25,14 +24,13 @@ pub struct Rounds {
 }
 
 impl Rounds {
-    /// No client is there, and nothing has come. `idle` rounds in a row may bring nothing, and `budget` bytes may be
-    /// taken.
-    pub fn new(host_up: bool, idle: u64, budget: u64) -> Self
-        ensures { result ≡ begun host_up idle budget }
+    /// No link is up, and nothing has come. `idle` rounds in a row may bring nothing, and `budget` bytes may be taken.
+    pub fn new(idle: u64, budget: u64) -> Self
+        ensures { result ≡ begun idle budget }
     {
         Rounds {
             client_up: false,
-            host_up,
+            host_up: false,
             busy: false,
             waits: idle,
             idle,
@@ -53,7 +51,7 @@ impl Rounds {
 
     /// Whether no link is up, or all is taken that may be.
     pub fn is_last(&self) -> bool
-        ensures { result ≡ is_last_of self.now.client_up self.now.host_up self.now.left }
+        ensures { result ≡ is_last_of self.now }
     {
         (!self.client_up && !self.host_up) || self.left == 0
     }

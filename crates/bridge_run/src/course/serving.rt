@@ -78,7 +78,11 @@ pub fn serve<D: Doors, K: Sink, T: Tape>(
         gate: core,
         after_loss,
     };
-    let mut session = Session::new(alloc, gateway, Rounds::new(true, idle, budget));
+    let rounds = Rounds {
+        host_up: true,
+        ..Rounds::new(idle, budget)
+    };
+    let mut session = Session::new(alloc, gateway, rounds);
     session.run(&mut buf, doors, out, tape)
 }
 

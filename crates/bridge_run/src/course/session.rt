@@ -7,9 +7,9 @@ ghost use Rattle.bridge_run.specs.course.Course.{AtDoor, AtClient, Takes};
 ghost use Rattle.bridge_run.specs.course.Calls.{Goes, put, quiet};
 ghost use Rattle.bridge_run.specs.declared.course.serving.TheConstants.{POLL_LIMIT};
 ghost use Rattle.bridge_run.specs.course.Outside.{outside, gathering, written, faults, Tells, Cut};
-ghost use Rattle.bridge_run.specs.written.Recorded.{sends_any, is_last};
+ghost use Rattle.bridge_run.specs.written.Recorded.{sends_any};
 ghost use Rattle.bridge_run.specs.course.Serves.{MayRunOut, Leaves};
-ghost use Rattle.bridge_run.specs.inner.Keeping.{Agrees, Wears, IsLive, rounds_of, up_of};
+ghost use Rattle.bridge_run.specs.inner.Keeping.{Agrees, Wears, IsLive, rounds_of, up_of, is_last};
 ghost use Rattle.bridge_run.specs.inner.Follows.{Prepared, Follows, HasFaults, IsCutEnd, Puts, setting, Runs, polls, behind};
 ghost use Rattle.bridge_run.specs.course.Outside.{HasCause, HasReason};
 ghost use Rattle.bridge_run.specs.log.Asks.{Ask};
@@ -81,7 +81,7 @@ impl<C: Served + Drop> Session<C> {
 
     /// Whether the event's lines don't wait: it sends anything, or no more may come.
     fn is_due(&self) -> bool
-        ensures { result ≡ (sends_any self.now.sent.to_client self.now.sent.to_host self.now.sent.refusals self.now.sent.lets_go || is_last self.now.rounds.client_up self.now.rounds.host_up self.now.rounds.left) }
+        ensures { result ≡ (sends_any self.now.sent.to_client self.now.sent.to_host self.now.sent.refusals self.now.sent.lets_go || is_last self.now.rounds) }
     {
         self.sent.is_any() || self.rounds.is_last()
     }

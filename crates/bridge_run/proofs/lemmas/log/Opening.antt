@@ -125,7 +125,7 @@ same-waits idle waits is = omega arith
 
 -- nothing has come
 begun-asking : {D : Type 0} → (gives : D → Call → D → Type 0) (stands : List LinkEvent → Type 0) (tells : List ℕ → Type 0) (terms : Terms) (p : Prescribed) (up : Bool) (k : Rounds) (begun now : D) (calls : List Call) → Called gives calls begun now → Settled terms p calls → asks_of calls ≡ [] → events_of calls ≡ [] → events_before calls ≡ []
-    → ((of : Side) → up_by of calls ≡ is_up of terms p []) → IsWritten terms p [] calls → stands [] → tells [] → p.refusals [] ≡ [] → up ≡ is_some terms.host → 0 < terms.idle → 0 < terms.budget → k ≡ fresh up terms.idle terms.budget → IsAsking AtDoor gives stands tells terms p k begun now
+    → ((of : Side) → up_by of calls ≡ is_up of terms p []) → IsWritten terms p [] calls → stands [] → tells [] → p.refusals [] ≡ [] → up ≡ is_some terms.host → 0 < terms.idle → 0 < terms.budget → k ≡ record (fresh terms.idle terms.budget) { host_up = up } → IsAsking AtDoor gives stands tells terms p k begun now
 begun-asking gives stands tells terms p up k begun now calls called settled asks none before links w st told refusals host idle budget kept = record {
   asks = [];
   on = record {
@@ -152,7 +152,7 @@ begun-asking gives stands tells terms p up k begun now calls called settled asks
 }
 
 pub opened-at : {D : Type 0} → (gives : D → Call → D → Type 0) (stands : List LinkEvent → Type 0) (tells : List ℕ → Type 0) (host door : List ℕ) (taped : Bool) (idle budget : ℕ) (p : Prescribed) (k : Rounds) (begun now : D) → HasOpened gives (with_host host door taped idle budget) p begun now → stands [] → tells []
-    → p.refusals [] ≡ [] → 0 < idle → 0 < budget → k ≡ fresh true idle budget → IsAsking AtDoor gives stands tells (with_host host door taped idle budget) p k begun now
+    → p.refusals [] ≡ [] → 0 < idle → 0 < budget → k ≡ record (fresh idle budget) { host_up = true } → IsAsking AtDoor gives stands tells (with_host host door taped idle budget) p k begun now
 opened-at gives stands tells host door taped idle budget p k begun now o st told refusals some much kept =
     begun-asking gives stands tells (with_host host door taped idle budget) p true k begun now o.calls o.called o.settled o.asked o.none o.none_before o.links o.written st told refusals refl some much kept
 
@@ -168,6 +168,6 @@ door-failed gives runs_out tells p door idle budget failed begun now g none = re
 }
 
 pub door-at : {D : Type 0} → (gives : D → Call → D → Type 0) (stands : List LinkEvent → Type 0) (tells : List ℕ → Type 0) (p : Prescribed) (k : Rounds) (idle budget : ℕ) (door : List ℕ) (answer : Result (Unit {0}) Fault) (begun now : D) → gives begun (Listen door answer) now → stands [] → tells []
-    → p.refusals [] ≡ [] → 0 < idle → 0 < budget → k ≡ fresh false idle budget → IsAsking AtDoor gives stands tells (no_host door idle budget) p k begun now
+    → p.refusals [] ≡ [] → 0 < idle → 0 < budget → k ≡ fresh idle budget → IsAsking AtDoor gives stands tells (no_host door idle budget) p k begun now
 door-at gives stands tells p k idle budget door answer begun now g st told refusals some much kept =
     begun-asking gives stands tells (no_host door idle budget) p false k begun now (Listen door answer ∷ []) (begun, (refl, g)) (tt, (refl, refl)) refl refl refl (λ of. door-links of door answer idle budget p) (record { client = refl; host = refl }) st told refusals refl some much kept

@@ -124,7 +124,7 @@ sent-due false last full is = absurd (false≢true is)
 
 pub sent-none : (p : Prescribed) (e : LinkEvent) (c : Course) → sends_any (gained p.to_client c.events e) (gained p.to_host c.events e) (gained p.refusals c.events e) (p.lets_go (e ∷ c.events)) ≡ true → (put p e c).waiting ≡ []
 sent-none p e c is =
-    due-none p e c (sent-due (sends_any (gained p.to_client c.events e) (gained p.to_host c.events e) (gained p.refusals c.events e) (p.lets_go (e ∷ c.events))) (is_last c.client_up c.host_up c.left) (is_full (lines_with p e c)) is)
+    due-none p e c (sent-due (sends_any (gained p.to_client c.events e) (gained p.to_host c.events e) (gained p.refusals c.events e) (p.lets_go (e ∷ c.events))) (is_last c) (is_full (lines_with p e c)) is)
 
 quiet-if : (last : Bool) (s : Setting) (c : Course) → (course_of (cond last (Stops end.Idle (record (gathered c) { waits = c.waits - 1 })) (Goes AtDoor (record (gathered c) { waits = c.waits - 1 })))).waiting ≡ []
 quiet-if true s c = refl

@@ -1,6 +1,6 @@
 -- What one event makes of the links and of what they tell.
 use Rattle.std.specs.Option.{option_or}
-use Rattle.std.proofs.Common.{◌≡◌, ℕ, ◌&&◌, ◌||◌, not, Bool, true, false, cond, List, [], ◌∷◌, ◌++◌, Option, Some, None, IfSome, Result, Ok, Err, refl, sym, ap, ◌∙◌, subst, inl, inr, append-nil, append_assoc}
+use Rattle.std.proofs.Common.{◌≡◌, ℕ, ◌==◌, ◌&&◌, ◌||◌, not, Bool, true, false, cond, List, [], ◌∷◌, ◌++◌, Option, Some, None, IfSome, Result, Ok, Err, refl, sym, ap, ◌∙◌, subst, inl, inr, append-nil, append_assoc}
 use Rattle.std.proofs.lemmas.Bool.{false≢true}
 use Rattle.std.specs.Io.KnownBytes.{append_known, Appends}
 use Rattle.std.specs.List.{flat_map}
@@ -26,7 +26,7 @@ use Rattle.bridge_run.specs.course.Calls.{put, sends_now}
 use Rattle.bridge_run.specs.course.Outside.{Outside, Shows, Tells, IsTold, IsBetween, IsOneOf, HasLines, IsTaped, Cut, Written, HasCause, faults}
 use Rattle.bridge_run.specs.course.Serves.{MayRunOut}
 use Rattle.bridge_run.specs.inner.Links.{wrote_if, WritesFront, closed_if}
-use Rattle.bridge_run.specs.inner.Keeping.{refusing}
+use Rattle.bridge_run.specs.inner.Keeping.{refusing, is_last as last_kept}
 use Rattle.bridge_run.specs.inner.Follows.{Prepared, Follows, Puts}
 
 -- ---- a link
@@ -143,18 +143,22 @@ pub record IsRecorded (p : Prescribed) (c : Course) (e : LinkEvent) (sent : Sent
   pub tape-is : out'.tape ≡ append_known out.tape (written_if (due || is_full (out.waiting ++ lines_of e sent.refusals)) (out.waiting ++ lines_of e sent.refusals))
   pub waits : IfSome out'.tape (λ held. out'.waiting ≡ waiting_if (due || is_full (out.waiting ++ lines_of e sent.refusals)) (out.waiting ++ lines_of e sent.refusals))
 
+last-of : (k : Rounds) (c : Course) → k.client_up ≡ c.client_up → k.host_up ≡ c.host_up → k.left ≡ c.left → last_kept k ≡ is_last c
+last-of k c client host left =
+    ap (λ (b : Bool). (not b && not k.host_up) || (k.left == 0)) client
+    ∙ ap (λ (b : Bool). (not c.client_up && not b) || (k.left == 0)) host
+    ∙ ap (λ (n : ℕ). (not c.client_up && not c.host_up) || (n == 0)) left
+
 -- whether they are due is known of what is kept
 due-of : (p : Prescribed) (c : Course) (e : LinkEvent) (sent : Sent) (lines : List ℕ) (k : Rounds) (due : Bool) → Prepared p c.events e sent lines → k.client_up ≡ c.client_up → k.host_up ≡ c.host_up → k.left ≡ c.left
-    → due ≡ (sends_any sent.to_client sent.to_host sent.refusals sent.lets_go || is_last k.client_up k.host_up k.left) → due ≡ sends_now p e c
+    → due ≡ (sends_any sent.to_client sent.to_host sent.refusals sent.lets_go || last_kept k) → due ≡ sends_now p e c
 due-of p c e sent lines k due prepared client host left is =
     is
-    ∙ ap (λ (l : List ℕ). sends_any l sent.to_host sent.refusals sent.lets_go || is_last k.client_up k.host_up k.left) prepared.client
-    ∙ ap (λ (l : List ℕ). sends_any (gained p.to_client c.events e) l sent.refusals sent.lets_go || is_last k.client_up k.host_up k.left) prepared.host
-    ∙ ap (λ (rs : List Refusal). sends_any (gained p.to_client c.events e) (gained p.to_host c.events e) rs sent.lets_go || is_last k.client_up k.host_up k.left) prepared.refusals
-    ∙ ap (λ (b : Bool). sends_any (gained p.to_client c.events e) (gained p.to_host c.events e) (gained p.refusals c.events e) b || is_last k.client_up k.host_up k.left) prepared.lets_go
-    ∙ ap (λ (b : Bool). sends_any (gained p.to_client c.events e) (gained p.to_host c.events e) (gained p.refusals c.events e) (p.lets_go (e ∷ c.events)) || is_last b k.host_up k.left) client
-    ∙ ap (λ (b : Bool). sends_any (gained p.to_client c.events e) (gained p.to_host c.events e) (gained p.refusals c.events e) (p.lets_go (e ∷ c.events)) || is_last c.client_up b k.left) host
-    ∙ ap (λ (n : ℕ). sends_any (gained p.to_client c.events e) (gained p.to_host c.events e) (gained p.refusals c.events e) (p.lets_go (e ∷ c.events)) || is_last c.client_up c.host_up n) left
+    ∙ ap (λ (l : List ℕ). sends_any l sent.to_host sent.refusals sent.lets_go || last_kept k) prepared.client
+    ∙ ap (λ (l : List ℕ). sends_any (gained p.to_client c.events e) l sent.refusals sent.lets_go || last_kept k) prepared.host
+    ∙ ap (λ (rs : List Refusal). sends_any (gained p.to_client c.events e) (gained p.to_host c.events e) rs sent.lets_go || last_kept k) prepared.refusals
+    ∙ ap (λ (b : Bool). sends_any (gained p.to_client c.events e) (gained p.to_host c.events e) (gained p.refusals c.events e) b || last_kept k) prepared.lets_go
+    ∙ ap (λ (b : Bool). sends_any (gained p.to_client c.events e) (gained p.to_host c.events e) (gained p.refusals c.events e) (p.lets_go (e ∷ c.events)) || b) (last-of k c client host left)
 
 pub recorded-by : (p : Prescribed) (c : Course) (e : LinkEvent) (sent : Sent) (due : Bool) (out out' : Written) (waiting : List ℕ) → waiting ≡ out.waiting → due ≡ sends_now p e c
     → out'.tape ≡ append_known out.tape (written_if (due || is_full (waiting ++ lines_of e sent.refusals)) (waiting ++ lines_of e sent.refusals))
@@ -167,7 +171,7 @@ recorded-by p c e sent due out out' waiting same due-is tape waits = record {
 
 -- and so where what is kept follows the course
 pub due-now : {stands : List LinkEvent → Type 0} {p : Prescribed} {k : Rounds} {w : Outside} {out : Written} {c : Course} → (e : LinkEvent) (sent : Sent) (lines : List ℕ) (k1 : Rounds) (due : Bool) → Follows stands p k w out c → k1 ≡ k → Prepared p c.events e sent lines
-    → due ≡ (sends_any sent.to_client sent.to_host sent.refusals sent.lets_go || is_last k1.client_up k1.host_up k1.left) → due ≡ sends_now p e c
+    → due ≡ (sends_any sent.to_client sent.to_host sent.refusals sent.lets_go || last_kept k1) → due ≡ sends_now p e c
 due-now {p = p} {c = c} e sent lines k1 due f same prepared is =
     due-of p c e sent lines k1 due prepared (ap (λ (q : Rounds). q.client_up) same ∙ f.client_up) (ap (λ (q : Rounds). q.host_up) same ∙ f.host_up) (ap (λ (q : Rounds). q.left) same ∙ f.left) is
 

@@ -38,7 +38,7 @@ due-bytes p c e client host f g some =
     let x = gained p.to_client c.events e in
     let y = gained p.to_host c.events e in
     let rs = gained p.refusals c.events e in
-    ap (λ (b : Bool). (b || is_last c.client_up c.host_up c.left) || is_full (lines_with p e c))
+    ap (λ (b : Bool). (b || is_last c) || is_full (lines_with p e c))
     (any-of (has_any client) (has_any host) (has_any x) (has_any y) (has_any rs || p.lets_go (e ∷ c.events)) some (has-more client f.0 x f.1) (has-more host g.0 y g.1))
 
 -- so that they are all that the call records

@@ -49,8 +49,8 @@ returns-clause-leaves g c = λ k b t.
     let tells = c.in_default.ensures.course p k out (c.as_slice.ensures ∙ c.in-Ok.ensures.sent ∙ ap (λ (l : List ℕ). l ++ out_host first []) c.new-hello.ensures) b.client_down t in
     leaves-then c.run.result (gate_runs_out first) s (Goes Making k) AtDoor (make p k) ends (written (g.K.Sink.contents c.args.out.now) (g.K.Sink.contents c.run.new.out) (g.T.Tape.contents c.run.new.tape))
     (reaches-call s (Goes Making k) Making k (Goes AtDoor (make p k)) (reaches-none s (Goes Making k)) refl)
-    (subst (λ (q : Rounds). Follows stands p q w (gathering (g.K.Sink.contents c.args.out.now) (g.K.Sink.contents c.args.out.now) (g.T.Tape.contents c.args.tape.now) c.new-session.result.waiting) (make p k) → Leaves c.run.result (gate_runs_out first) (setting p q) (Goes AtDoor (make p k)) ends (written (g.K.Sink.contents c.args.out.now) (g.K.Sink.contents c.run.new.out) (g.T.Tape.contents c.run.new.tape))) (c.new-session.ensures.rounds ∙ c.new.ensures) (c.run.ensures.course (c.args.after_loss, first) (g.K.Sink.contents c.args.out.now) (make p k))
-    (subst (λ (l : List ℕ). Follows stands p (begun true c.args.idle c.args.budget) w (gathering (g.K.Sink.contents c.args.out.now) (g.K.Sink.contents c.args.out.now) (g.T.Tape.contents c.args.tape.now) l) (make p k)) (sym c.new-session.ensures.waiting)
+    (subst (λ (q : Rounds). Follows stands p q w (gathering (g.K.Sink.contents c.args.out.now) (g.K.Sink.contents c.args.out.now) (g.T.Tape.contents c.args.tape.now) c.new-session.result.waiting) (make p k) → Leaves c.run.result (gate_runs_out first) (setting p q) (Goes AtDoor (make p k)) ends (written (g.K.Sink.contents c.args.out.now) (g.K.Sink.contents c.run.new.out) (g.T.Tape.contents c.run.new.tape))) (c.new-session.ensures.rounds ∙ ap (λ (q : Rounds). record q { host_up = true }) c.new.ensures) (c.run.ensures.course (c.args.after_loss, first) (g.K.Sink.contents c.args.out.now) (make p k))
+    (subst (λ (l : List ℕ). Follows stands p (record (begun c.args.idle c.args.budget) { host_up = true }) w (gathering (g.K.Sink.contents c.args.out.now) (g.K.Sink.contents c.args.out.now) (g.T.Tape.contents c.args.tape.now) l) (make p k)) (sym c.new-session.ensures.waiting)
     (begun-follows stands p c.args.idle c.args.budget w out k b (subst (λ (x : Gateway). (x.after_loss ≡ c.args.after_loss) × Stands first x.gate (gate_events [])) (sym c.new-session.ensures.core) (refl, c.in-Ok.ensures.made)) refl tells)))
 
 pub returns-clause-cause : goal.returns-clause-cause
@@ -66,7 +66,7 @@ returns-clause-reason g c =
     let w = outside (g.D.Doors.link c.open.new.doors) (g.D.Doors.door c.open.new.doors) in
     let ends = outside (g.D.Doors.link c.run.new.doors) (g.D.Doors.door c.run.new.doors) in
     reason-from c.run.result c.args.idle before w ends c.in_default.ensures.idles
-    (subst (λ (q : Rounds). HasReason c.run.result q.idle w ends) (c.new-session.ensures.rounds ∙ c.new.ensures) c.run.ensures.reason)
+    (subst (λ (q : Rounds). HasReason c.run.result q.idle w ends) (c.new-session.ensures.rounds ∙ ap (λ (q : Rounds). record q { host_up = true }) c.new.ensures) c.run.ensures.reason)
 
 pub returns-in-Err-clause-log : goal.returns-in-Err-clause-log
 returns-in-Err-clause-log g c = nothing-before g.D.Doors.call_gives (gate_runs_out c.args.first_id) (Told g.K.Sink.write_gives c.args.out.now c.args.out.now) (with_host c.args.host.now c.args.listen.now (g.T.Tape.made c.args.tape.now) c.args.idle c.args.budget) (gate_sends c.args.after_loss c.args.first_id) c.args.doors.now
@@ -93,4 +93,4 @@ returns-clause-log g c =
     (opened-at g.D.Doors.call_gives stands tells c.args.host.now c.args.listen.now (g.T.Tape.made c.args.tape.now) c.args.idle c.args.budget p c.new-session.result.rounds c.args.doors.now c.open.new.doors
     (c.in_default.ensures.log (g.T.Tape.made c.args.tape.now) c.args.idle c.args.budget p (c.as_slice.ensures ∙ c.in-Ok.ensures.sent ∙ ap (λ (l : List ℕ). l ++ out_host first []) c.new-hello.ensures))
     (subst (λ (x : Gateway). (x.after_loss ≡ c.args.after_loss) × Stands first x.gate (gate_events [])) (sym c.new-session.ensures.core) (refl, c.in-Ok.ensures.made))
-    (told-none g.K.Sink.write_gives c.args.out.now) refl c.requires.idle c.requires.budget (c.new-session.ensures.rounds ∙ c.new.ensures))
+    (told-none g.K.Sink.write_gives c.args.out.now) refl c.requires.idle c.requires.budget (c.new-session.ensures.rounds ∙ ap (λ (q : Rounds). record q { host_up = true }) c.new.ensures))
