@@ -61,14 +61,11 @@ wins s (Some ByLoss) = true
 wins s (Some (ByAnswer outcome)) = is_wire s.verdict && is_cancelled outcome.status
 wins s _ = false
 
-abbrev pub answer : (number : ℕ) → (unlinker : Option ℕ) → (won : Bool) → Answer
-answer number None won = Completed number
-answer number (Some by) won = if won then Unlinked by else Completed number
-
 -- an unlink that takes back a request which waits for a stream's packets is its answer
 abbrev pub answer_by : Submission → Option ℕ → Option End → Answer
 answer_by s by (Some (ByUnlink other)) = Unlinked other
-answer_by s by end = answer s.request.number by (wins s end)
+answer_by s None end = Completed s.request.number
+answer_by s (Some by) end = if wins s end then Unlinked by else Completed s.request.number
 
 -- the one answer of a submit that has ended
 abbrev pub answer_of : List Mark → Submission → Answer

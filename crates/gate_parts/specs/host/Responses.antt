@@ -87,6 +87,6 @@ has_won (Unlinked by) = true
 has_won _ = false
 
 -- the answers of one request: its unlink has won, or it is answered itself
-pub record IsCounted (packets : List ClientPacket) (won : Bool) : Type 0 where
-  pub answered : length (filter is_ret_submit packets) ≡ (if won then 0 else 1)
-  pub unlinked : length (filter is_won_unlink packets) ≡ (if won then 1 else 0)
+pub record IsCounted (packets : List ClientPacket) (ending : Ending) : Type 0 where
+  pub answered : length (filter is_ret_submit packets) ≡ (if has_won ending then 0 else 1)
+  pub unlinked : length (filter is_won_unlink packets) ≡ (if has_won ending then 1 else 0)

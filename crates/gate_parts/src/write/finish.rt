@@ -118,7 +118,7 @@ pub fn write_completed(
     ensures ok { (s : Submission) → row_of s live.now.unlinker ≡ live.now
         → OnOk result (out.new ≡ with_answers out.old (flat_map spelling (answers_by s (told_outcome s.request s.verdict (response_view response)) live.now.unlinker)) (Answered live.now.seqnum ∷ [])) }
     ensures counted { (s : Submission) → row_of s live.now.unlinker ≡ live.now
-        → IfOk result (λ ending. IsCounted (map Urb (answers_by s (told_outcome s.request s.verdict (response_view response)) live.now.unlinker)) (has_won ending)) }
+        → IfOk result (IsCounted (map Urb (answers_by s (told_outcome s.request s.verdict (response_view response)) live.now.unlinker))) }
     ensures err { OnErr result (out.new ≡ record out.old { notes = out.new.notes }) }
     ensures err_notes { OnErr result (Begins out.old.notes out.new.notes) }
 {

@@ -21,6 +21,7 @@ use Rattle.redir_wire.specs.declared.packet.RedirControl.TheVariants as plain
 use Rattle.redir_wire.specs.Header.{head_size}
 use Rattle.redir_data.specs.declared.packet.RedirPacket.{RedirPacket}
 use Rattle.redir_data.specs.declared.packet.RedirPacket.TheVariants.{Plain}
+use Rattle.unlink_race.specs.declared.ending.Ending.{Ending}
 use Rattle.unlink_race.specs.declared.live.Live.{Live}
 use Rattle.unlink_race.specs.Searches.{has_id as has_row_id}
 use Rattle.unlink_race.specs.Firsts.{without_first}
@@ -47,7 +48,7 @@ use Rattle.gate_history.specs.write.Notes.{answer_notes}
 use Rattle.gate_history.specs.write.All.{is_ret_submit, is_won_unlink}
 use Rattle.redir_data.specs.Sent.{sent_packet_bytes}
 use Rattle.gate_parts.specs.state.Rows.{row_of, row, unmarked, left_row}
-use Rattle.gate_parts.specs.host.Responses.{row_mismatch, completes, IsAnswer, IsCounted}
+use Rattle.gate_parts.specs.host.Responses.{row_mismatch, completes, IsAnswer, has_won, IsCounted}
 use Rattle.gate_parts.specs.write.Outputs.{with_answers}
 use Rattle.gate_parts.proofs.lemmas.write.Outputs.{with-none}
 use Rattle.gate_core.specs.inner.Holds.{IsRow, Holds, Does}
@@ -228,15 +229,15 @@ module _ (st : State) (id : ℕ) (response : Response) (sound : IsSound st) wher
   waits = find-append (has_id id) (submits st) st.abandoned ∙ ap (λ (o : Option Submission). option_or o (find (has_id id) st.abandoned)) (find-map (has_id id) (λ (p : Pending). p.submit) st.live)
 
   -- of a live one, by its row
-  pub does-live : (old : Kept) (lives : Requests) (l : Live) (won : Bool) (answered unlinked : ℕ) (out out_new : Outputs) → Holds old st → old.dropped ≤ 2 ^ 64 - 1 →
+  pub does-live : (old : Kept) (lives : Requests) (l : Live) (ending : Ending) (answered unlinked : ℕ) (out out_new : Outputs) → Holds old st → old.dropped ≤ 2 ^ 64 - 1 →
       find (has_row_id id) old.lives.live ≡ Some l →
       lives ≡ record old.lives { live = without_first (has_row_id id) old.lives.live } →
       ((s : Submission) → row_of s l.unlinker ≡ l → out_new ≡ with_answers out (flat_map spelling (answers_by s (told_outcome s.request s.verdict response) l.unlinker)) (note.Answered l.seqnum ∷ [])) →
-      ((s : Submission) → row_of s l.unlinker ≡ l → IsCounted (map Urb (answers_by s (told_outcome s.request s.verdict response) l.unlinker)) won) →
-      answered ≡ capped (old.answered + cond won 0 1) →
-      unlinked ≡ capped (old.unlinked + cond won 1 0) →
+      ((s : Submission) → row_of s l.unlinker ≡ l → IsCounted (map Urb (answers_by s (told_outcome s.request s.verdict response) l.unlinker)) ending) →
+      answered ≡ capped (old.answered + cond (has_won ending) 0 1) →
+      unlinked ≡ capped (old.unlinked + cond (has_won ending) 1 0) →
       Does st (mark_as st (completes id response (find (has_id id) (submits st ++ st.abandoned))) None) old (record old { lives = lives; answered = answered; unlinked = unlinked }) out out_new
-  does-live old lives l won answered unlinked out out_new h few found rest gives counted answered_is unlinked_is =
+  does-live old lives l ending answered unlinked out out_new h few found rest gives counted answered_is unlinked_is =
       let p = map-some row (find (pending_has_id id) st.live) l (sym (find-rows id st.live) ∙ ap (find (has_row_id id)) (sym h.live) ∙ found) in
       let s = p.from.submit in
       let by : l.unlinker ≡ p.from.unlinker = ap (λ (k : Live). k.unlinker) (sym p.is) in

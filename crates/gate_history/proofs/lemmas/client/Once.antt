@@ -25,7 +25,7 @@ use Rattle.gate_history.specs.write.Answers.{ret_unlink, with_outcome}
 use Rattle.gate_history.specs.write.Output.{present, answered, is_target, is_taken, replies, to_client}
 use Rattle.gate_history.specs.write.Notes.{is_by_client}
 use Rattle.gate_history.specs.write.All.{all_of}
-use Rattle.gate_history.specs.client.Turns.{Turn, Begin, Finish, begins, turns, Alternate, Answer, answers_in, answered_ends, answer, answer_by, answer_of}
+use Rattle.gate_history.specs.client.Turns.{Turn, Begin, Finish, begins, turns, Alternate, Answer, Completed, Unlinked, answers_in, answered_ends, answer_by, answer_of}
 use Rattle.gate_history.proofs.lemmas.Lists.{Each, every, Each-weaker, Each-append, Each-filter, filter-same, filter-twice, filter-map, filter-passes, map-same, map-map, both}
 use Rattle.gate_history.proofs.lemmas.step.Steps.{IsWell, submits-is, live-is, Present, present-each, present-is, asked}
 use Rattle.gate_history.proofs.lemmas.step.Runs.{well}
@@ -185,7 +185,7 @@ one-answer s None (Some ByLoss) = refl
 one-answer s (Some by) (Some ByLoss) = refl
 one-answer s None (Some (ByAnswer o)) = refl
 one-answer s (Some by) (Some (ByAnswer o)) =
-    elim (is_wire s.verdict && is_cancelled o.status) as (λ b. said (map Urb (cond b (ret_unlink by ECONNRESET ∷ []) (with_outcome s.request o ∷ ret_unlink by (pos 0) ∷ []))) ≡ answer s.request.number (Some by) b ∷ [])
+    elim (is_wire s.verdict && is_cancelled o.status) as (λ b. said (map Urb (cond b (ret_unlink by ECONNRESET ∷ []) (with_outcome s.request o ∷ ret_unlink by (pos 0) ∷ []))) ≡ cond b (Unlinked by) (Completed s.request.number) ∷ [])
     [ true ↦ refl | false ↦ refl ]
 one-answer s by (Some (ByUnlink other)) = refl
 one-answer s None (Some (ByPackets (Transferred o))) = refl

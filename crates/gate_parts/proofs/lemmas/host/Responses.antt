@@ -35,7 +35,7 @@ use Rattle.gate_history.specs.write.Answers.{with_outcome}
 use Rattle.gate_history.specs.client.Ends.{answers_by}
 use Rattle.gate_history.specs.write.Asked.{IsMoved}
 use Rattle.gate_parts.specs.state.Rows.{IsRowOf, kind_of, row_of, row_request, IsRead, IsFine}
-use Rattle.gate_parts.specs.host.Responses.{row_answer, row_ep, row_gets, row_mismatch, IsAnswer, has_won, IsCounted}
+use Rattle.gate_parts.specs.host.Responses.{row_answer, row_ep, row_gets, row_mismatch, IsAnswer, IsCounted}
 use Rattle.gate_history.specs.step.Fits.{ResponseFits}
 use Rattle.gate_parts.proofs.lemmas.write.Answers.{by_ending, row-answers}
 use Rattle.gate_parts.proofs.lemmas.state.Rows.{by-verdict, wire-row}
@@ -196,12 +196,12 @@ seen-moved l v (Status status value) e read answer = of (eqb status 0 && gets v)
 
 -- ---- what is counted
 
-ending-counted : (r : Request) (o : Outcome) (e : Ending) → IsCounted (map Urb (by_ending (with_outcome r o) e)) (has_won e)
+ending-counted : (r : Request) (o : Outcome) (e : Ending) → IsCounted (map Urb (by_ending (with_outcome r o) e)) e
 ending-counted r o Completed = record { answered = refl; unlinked = refl }
 ending-counted r o (Unlinked by) = record { answered = refl; unlinked = refl }
 ending-counted r o (CompletedThenLate by) = record { answered = refl; unlinked = refl }
 
-pub answers-counted : (s : Submission) (l : Live) (o : Outcome) → IsRowOf s l → IsCounted (map Urb (answers_by s o l.unlinker)) (has_won (ending_of l.unlinker l.kind o.status))
+pub answers-counted : (s : Submission) (l : Live) (o : Outcome) → IsRowOf s l → IsCounted (map Urb (answers_by s o l.unlinker)) (ending_of l.unlinker l.kind o.status)
 answers-counted s l o row =
-    subst (λ (ps : List UrbPacket). IsCounted (map Urb ps) (has_won (ending_of l.unlinker l.kind o.status))) (row-answers s l o (ending_of l.unlinker l.kind o.status) row refl)
+    subst (λ (ps : List UrbPacket). IsCounted (map Urb ps) (ending_of l.unlinker l.kind o.status)) (row-answers s l o (ending_of l.unlinker l.kind o.status) row refl)
     (ending-counted (row_request l) o (ending_of l.unlinker l.kind o.status))

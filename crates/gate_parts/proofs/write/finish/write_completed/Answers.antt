@@ -1,4 +1,4 @@
-use Rattle.std.proofs.Common.{◌≡◌, ◌++◌, ◌∙◌, Bool, map, refl, sym, ap, subst}
+use Rattle.std.proofs.Common.{◌≡◌, ◌++◌, ◌∙◌, map, refl, sym, ap, subst}
 use Rattle.std.specs.List.{flat_map}
 use Rattle.std.proofs.lemmas.Result.{on_ok_weaker, IfOk-weaker}
 use Rattle.unlink_race.specs.declared.ending.Ending.{Ending}
@@ -8,7 +8,7 @@ use Rattle.usbip_urb.specs.declared.client.ClientPacket.TheVariants.{Urb}
 use Rattle.unlink_race.specs.declared.live.Live.{Live}
 use Rattle.gate_history.specs.client.Ends.{answers_by}
 use Rattle.gate_history.specs.write.Asked.{IsMoved}
-use Rattle.gate_parts.specs.host.Responses.{response_view, row_gets, IsCounted, has_won}
+use Rattle.gate_parts.specs.host.Responses.{response_view, row_gets, IsCounted}
 use Rattle.unlink_race.specs.Endings.{ending_of}
 use Rattle.gate_history.specs.declared.request.Request.{Request}
 use Rattle.gate_history.specs.declared.verdict.Verdict.{Verdict}
@@ -44,7 +44,7 @@ pub returns-clause-counted : goal.returns-clause-counted
 returns-clause-counted c s e =
     let l = c.args.live.now in
     let is = seen-is l (response_view c.args.response) c.in_ok-outcome.outcome c.gets.result c.gets.ensures c.in_ok-outcome.ensures.ok s e in
-    IfOk-weaker c.write_answers.result (λ (e : Ending). e ≡ ending_of l.unlinker l.kind c.in_ok-outcome.outcome.status) (λ (e : Ending). IsCounted (map Urb (answers_by s (told_outcome s.request s.verdict (response_view c.args.response)) l.unlinker)) (has_won e))
-    (λ ending ends. subst (λ (b : Bool). IsCounted (map Urb (answers_by s (told_outcome s.request s.verdict (response_view c.args.response)) l.unlinker)) b) (sym (ap has_won ends))
-    (subst (λ (o : Outcome). IsCounted (map Urb (answers_by s o l.unlinker)) (has_won (ending_of l.unlinker l.kind c.in_ok-outcome.outcome.status))) is (answers-counted s l c.in_ok-outcome.outcome (row-is s l.unlinker l e))))
+    IfOk-weaker c.write_answers.result (λ (e : Ending). e ≡ ending_of l.unlinker l.kind c.in_ok-outcome.outcome.status) (IsCounted (map Urb (answers_by s (told_outcome s.request s.verdict (response_view c.args.response)) l.unlinker)))
+    (λ ending ends. subst (IsCounted (map Urb (answers_by s (told_outcome s.request s.verdict (response_view c.args.response)) l.unlinker))) (sym ends)
+    (subst (λ (o : Outcome). IsCounted (map Urb (answers_by s o l.unlinker)) (ending_of l.unlinker l.kind c.in_ok-outcome.outcome.status)) is (answers-counted s l c.in_ok-outcome.outcome (row-is s l.unlinker l e))))
     c.write_answers.ensures.ending

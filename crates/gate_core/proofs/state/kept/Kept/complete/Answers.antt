@@ -1,12 +1,9 @@
-use Rattle.std.proofs.Common.{◌≡◌, ◌∙◌, ◌+◌, ℕ, Bool, true, false, not, cond, map, refl, sym, ap, subst, arith}
-use Rattle.usbip_urb.specs.declared.client.ClientPacket.TheVariants.{Urb}
-use Rattle.gate_history.specs.host.Responses.{told_outcome}
-use Rattle.gate_history.specs.client.Ends.{answers_by}
+use Rattle.std.proofs.Common.{◌≡◌, ◌∙◌, ◌+◌, ℕ, Bool, true, false, not, cond, refl, sym, ap, arith}
 use mir.Val.{bool_byte}
 use Rattle.std.specs.Option.{option_copied}
 use Rattle.unlink_race.specs.Searches.{has_id}
 use Rattle.gate_core.specs.inner.Holds.{IsRow}
-use Rattle.gate_parts.specs.host.Responses.{response_view, IsCounted}
+use Rattle.gate_parts.specs.host.Responses.{response_view, has_won}
 use Rattle.usb_base.specs.Number.{capped}
 use Rattle.gate_core.proofs.lemmas.Held.{live-taken, left-taken, without-one, each-at}
 use Rattle.gate_core.proofs.lemmas.host.Answer.{does-live, live-gives, does-late}
@@ -46,11 +43,11 @@ won-one false = refl
 pub returns-clause-ok : goal.returns-clause-ok
 returns-clause-ok c st id is h sound =
     let taken = live-taken (has_id id) c.args.self.now.lives c.args.at is c.in-Some.live.now (sym c.at.ensures ∙ ap option_copied c.in-Some.is) in
-    does-live st id (response_view c.args.response) sound c.args.self.now c.finish_at-2.new.self c.in-Some.live.now c.has_won-won.result c.saturating_add-self.result c.saturating_add-self-2.result c.args.out.now c.write_completed.new.out
+    does-live st id (response_view c.args.response) sound c.args.self.now c.finish_at-2.new.self c.in-Some.live.now c.in_ok-ending.ending c.saturating_add-self.result c.saturating_add-self-2.result c.args.out.now c.write_completed.new.out
     h c.requires.kept.dropped_fits taken.0 (c.finish_at-2.ensures.rest ∙ taken.1)
-    c.in_ok-ending.ensures.ok (λ s row. subst (IsCounted (map Urb (answers_by s (told_outcome s.request s.verdict (response_view c.args.response)) c.in-Some.live.now.unlinker))) (sym c.has_won-won.ensures) (c.in_ok-ending.ensures.counted s row))
-    (c.saturating_add-self.ensures ∙ ap (λ (n : ℕ). capped (c.args.self.now.answered + n)) (c.from.ensures ∙ lost-one c.has_won-won.result))
-    (c.saturating_add-self-2.ensures ∙ ap (λ (n : ℕ). capped (c.args.self.now.unlinked + n)) (c.from-2.ensures ∙ won-one c.has_won-won.result))
+    c.in_ok-ending.ensures.ok c.in_ok-ending.ensures.counted
+    (c.saturating_add-self.ensures ∙ ap (λ (n : ℕ). capped (c.args.self.now.answered + n)) (c.from.ensures ∙ ap (λ (won : Bool). bool_byte (not won)) c.has_won-won.ensures ∙ lost-one (has_won c.in_ok-ending.ending)))
+    (c.saturating_add-self-2.ensures ∙ ap (λ (n : ℕ). capped (c.args.self.now.unlinked + n)) (c.from-2.ensures ∙ ap bool_byte c.has_won-won.ensures ∙ won-one (has_won c.in_ok-ending.ending)))
 
 pub returns-in_default-clause-kept : goal.returns-in_default-clause-kept
 returns-in_default-clause-kept c =
