@@ -8,6 +8,7 @@ mod item;
 mod laws;
 mod note;
 mod request;
+mod sent;
 mod verdict;
 
 pub use event::Event;
@@ -19,4 +20,5 @@ pub use laws::{
 };
 pub use note::{Counts, Note, Notes, push_refusals};
 pub use request::{AnsweredSubmit, Request, short_flag};
+pub use sent::{PACKETS_PER_URB, STREAM_URBS, stream_urbs};
 pub use verdict::{MAX_NARROW, Pipe, Situation, Verdict, narrow_limit};

@@ -14,6 +14,7 @@ use Rattle.redir_data.specs.declared.packet.RedirPacket.TheVariants.{Plain, Carr
 use Rattle.control_route.specs.declared.route.Route.{Route}
 use Rattle.control_route.specs.declared.route.Route.TheVariants as route
 use Rattle.gate_history.specs.declared.request.Request.{Request}
+use Rattle.gate_history.specs.declared.sent.TheConstants.{PACKETS_PER_URB, STREAM_URBS}
 use Rattle.gate_history.specs.declared.verdict.Pipe.{Pipe}
 use Rattle.gate_history.specs.declared.verdict.Pipe.TheVariants.{Control, Bulk, InterruptOut}
 use Rattle.gate_history.specs.declared.verdict.Verdict.{Verdict}
@@ -48,9 +49,8 @@ HasRoute _ = Unit {0}
 
 -- ---- streams
 
--- 8 isochronous packets in each of 4 transfers of the host's
 abbrev pub start_packet : ℕ → EpRow → RedirPacket
-start_packet ep row = Plain (if is_iso row.kind then plain.StartIso ep 8 4 else plain.StartInterrupt ep)
+start_packet ep row = Plain (if is_iso row.kind then plain.StartIso ep PACKETS_PER_URB STREAM_URBS else plain.StartInterrupt ep)
 
 -- a stream that is up isn't started again
 abbrev pub starts : Option Up → ℕ → EpRow → List RedirPacket

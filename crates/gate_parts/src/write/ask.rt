@@ -18,7 +18,7 @@ ghost use Rattle.gate_history.specs.write.Output.{acknowledgements};
 
 use crate::state::streams::is_iso;
 use control_route::Route;
-use gate_history::Pipe;
+use gate_history::{PACKETS_PER_URB, Pipe, STREAM_URBS};
 use redir_data::RedirData;
 use redir_wire::{Caps, Hello, RedirControl, write_control};
 use std::alloc::Global;
@@ -146,8 +146,8 @@ pub fn write_start(
     if row.kind == EpKind::Iso {
         let start = RedirControl::StartIso {
             endpoint,
-            pkts_per_urb: 8,
-            no_urbs: 4,
+            pkts_per_urb: PACKETS_PER_URB,
+            no_urbs: STREAM_URBS,
         };
         write_control(&start, id, caps, out)
     } else {

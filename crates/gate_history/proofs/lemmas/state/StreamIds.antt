@@ -21,6 +21,7 @@ use Rattle.gate_history.specs.state.Ids.{draw, draws, last_of, times}
 use Rattle.gate_history.specs.declared.verdict.Pipe.{Pipe}
 use Rattle.gate_history.specs.declared.verdict.Pipe.TheVariants.{Control, Bulk, InterruptOut}
 use Rattle.gate_history.specs.declared.request.Request.{Request}
+use Rattle.gate_history.specs.declared.sent.TheConstants.{PACKETS_PER_URB, STREAM_URBS}
 use Rattle.gate_history.specs.write.Packets.{wire_packet, start_packet, starts, stop_packet, stop_of, stops, iso_packets, route_packets}
 use Rattle.gate_history.proofs.lemmas.Lists.{Each}
 
@@ -88,7 +89,7 @@ iso-silent r = isos-silent r.transfer.ep r.transfer.body r.descs
 -- ---- those that do
 
 pub start-stream_ids : (id ep : ℕ) (row : EpRow) (c : StreamIds) → stream_ids_by id (start_packet ep row) c ≡ started ep id c
-start-stream_ids id ep row c = elim (is_iso row.kind) as (λ b. stream_ids_by id (Plain (cond b (plain.StartIso ep 8 4) (plain.StartInterrupt ep))) c ≡ started ep id c) [ true ↦ refl | false ↦ refl ]
+start-stream_ids id ep row c = elim (is_iso row.kind) as (λ b. stream_ids_by id (Plain (cond b (plain.StartIso ep PACKETS_PER_URB STREAM_URBS) (plain.StartInterrupt ep))) c ≡ started ep id c) [ true ↦ refl | false ↦ refl ]
 
 pub stop-stream_ids : (id : ℕ) (up : Up) (c : StreamIds) → stream_ids_by id (stop_packet up) c ≡ stopped up.ep id c
 stop-stream_ids id up c = elim (is_iso up.row.kind) as (λ b. stream_ids_by id (Plain (cond b (plain.StopIso up.ep) (plain.StopInterrupt up.ep))) c ≡ stopped up.ep id c) [ true ↦ refl | false ↦ refl ]

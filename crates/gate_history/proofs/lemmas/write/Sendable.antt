@@ -20,6 +20,7 @@ use Rattle.redir_data.proofs.Sent.{control_sent, data_sent}
 use Rattle.control_route.specs.declared.route.Route.{Route}
 use Rattle.control_route.specs.declared.route.Route.TheVariants as route
 use Rattle.gate_history.specs.state.Flight.{wide_ids, wide_bulk}
+use Rattle.gate_history.specs.declared.sent.TheConstants.{PACKETS_PER_URB, STREAM_URBS}
 use Rattle.gate_history.specs.write.Packets.{no_setup, wire_packet, route_packets, start_packet, starts, stop_packet, stop_of, stops, iso_packets, packets_of}
 use Rattle.gate_history.specs.declared.request.Request.{Request}
 use Rattle.gate_history.specs.state.Ups.{Up, stream_at, is_ended}
@@ -56,8 +57,8 @@ sends-stops caps test (o ∷ ups) = Each-append (Sendable caps) (stop_of test o)
 sends-start : (caps : Caps) (ep : ℕ) (row : EpRow) → Sendable caps (start_packet ep row)
 sends-start caps ep row = by (is_iso row.kind)
   where
-    by : (b : Bool) → Sendable caps (Plain (cond b (plain.StartIso ep 8 4) (plain.StartInterrupt ep)))
-    by true id fits = control_sent ToHost caps id (plain.StartIso ep 8 4) refl tt (record { agreed = refl; id_fits = fits; writable = tt }) refl
+    by : (b : Bool) → Sendable caps (Plain (cond b (plain.StartIso ep PACKETS_PER_URB STREAM_URBS) (plain.StartInterrupt ep)))
+    by true id fits = control_sent ToHost caps id (plain.StartIso ep PACKETS_PER_URB STREAM_URBS) refl tt (record { agreed = refl; id_fits = fits; writable = tt }) refl
     by false id fits = control_sent ToHost caps id (plain.StartInterrupt ep) refl tt (record { agreed = refl; id_fits = fits; writable = tt }) refl
 
 sends-starts : (caps : Caps) (o : Option Up) (ep : ℕ) (row : EpRow) → Each (Sendable caps) (starts o ep row)
