@@ -1,5 +1,5 @@
 -- Which requests the client's packets make, and that a verdict lets only such on the wire as a packet can carry.
-use Rattle.std.specs.Prelude.{◌≡◌, ℕ, ◌≤◌, ◌<◌, ◌^◌, not, Bool, true, false, IsTrue, length, Option, Some, None}
+use Rattle.std.specs.Prelude.{◌≡◌, ℕ, ◌≤◌, not, Bool, false, IsTrue, length, Option, Some, None}
 use Rattle.usb_base.specs.declared.setup.Setup.{Setup}
 use Rattle.usb_base.specs.declared.transfer.Transfer.{Transfer}
 use Rattle.usb_base.specs.Endpoint.{is_in_endpoint}
@@ -14,6 +14,7 @@ use Rattle.usb_base.specs.Setup.{is_in_setup}
 use Rattle.gate_history.specs.client.Requests.{address}
 use Rattle.gate_history.specs.declared.verdict.Pipe.{Pipe}
 use Rattle.gate_history.specs.declared.verdict.Pipe.TheVariants.{Control, Bulk, InterruptOut}
+use Rattle.gate_history.specs.declared.verdict.TheConstants.{MAX_NARROW}
 use Rattle.gate_history.specs.declared.verdict.Verdict.{Verdict}
 use Rattle.gate_history.specs.declared.verdict.Verdict.TheVariants.{Wire, IsoOut}
 
@@ -37,15 +38,13 @@ pub record IsRequest (r : Request) : Type 0 where
 abbrev pub HasItsSetup : Pipe → Option Setup → ℕ → Type 0
 HasItsSetup Control None wanted = ⊥
 HasItsSetup Control (Some s) wanted = wanted ≡ s.length
-HasItsSetup Bulk setup wanted = Unit {0}
-HasItsSetup InterruptOut setup wanted = Unit {0}
+HasItsSetup _ setup wanted = Unit {0}
 
 -- the packet of another has 16 bits for its length, but for a bulk packet where those are wide
 abbrev pub LengthFits : Bool → Pipe → ℕ → Type 0
-LengthFits wide Control wanted = Unit {0}
-LengthFits true Bulk wanted = Unit {0}
-LengthFits false Bulk wanted = wanted < 2 ^ 16
-LengthFits wide InterruptOut wanted = wanted < 2 ^ 16
+LengthFits wide InterruptOut wanted = wanted ≤ MAX_NARROW
+LengthFits false Bulk wanted = wanted ≤ MAX_NARROW
+LengthFits wide _ wanted = Unit {0}
 
 pub record IsSent (wide : Bool) (pipe : Pipe) (t : Transfer) : Type 0 where
   pub setup : HasItsSetup pipe t.setup t.wanted

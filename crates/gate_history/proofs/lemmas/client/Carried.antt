@@ -78,12 +78,12 @@ data-way is_in ep wanted n way e = e ∙ ap (λ (b : Bool). body_size (not b) wa
 
 bulk : (wide : Bool) (r : Request) → r.transfer.wanted ≤ 16777216 → length r.transfer.body ≡ data_count ToHost r.transfer.ep r.transfer.wanted → (not wide && nat_lt MAX_NARROW r.transfer.wanted) ≡ false → IsCarried wide (Wire Bulk) r
 bulk true r few there fits = record { setup = tt; length_fits = tt; few_bytes = few; data_there = there }
-bulk false r few there fits = record { setup = tt; length_fits = (let h = ltb-false _ _ fits in omega arith); few_bytes = few; data_there = there }
+bulk false r few there fits = record { setup = tt; length_fits = ltb-false _ _ fits; few_bytes = few; data_there = there }
 
 interrupt : (wide : Bool) (row : EpRow) (is_in : Bool) (r : Request) → r.transfer.wanted ≤ 16777216 → length r.transfer.body ≡ data_count ToHost r.transfer.ep r.transfer.wanted →
     (not is_in && nat_lt MAX_NARROW r.transfer.wanted) ≡ false → IsCarried wide (if is_in then Stream row else Wire InterruptOut) r
 interrupt wide row true r few there fits = tt
-interrupt wide row false r few there fits = record { setup = tt; length_fits = (let h = ltb-false _ _ fits in omega arith); few_bytes = few; data_there = there }
+interrupt wide row false r few there fits = record { setup = tt; length_fits = ltb-false _ _ fits; few_bytes = few; data_there = there }
 
 -- an isochronous transfer lies over its buffer
 isochronous : (wide : Bool) (row : EpRow) (is_in : Bool) (r : Request) → r.is_in ≡ is_in → is_in_endpoint r.transfer.ep ≡ is_in → length r.transfer.body ≡ body_size (not is_in) r.transfer.wanted →
@@ -171,7 +171,7 @@ CanWriteIt id caps (Carrying d) = CanWrite id ToHost caps d
 
 narrow : (wide : Bool) (n : ℕ) → LengthFits wide Bulk n → BulkLengthFits wide n
 narrow true n h = h
-narrow false n h = h
+narrow false n h = omega arith
 
 few-there : (ep wanted n : ℕ) → wanted ≤ 16777216 → n ≡ data_count ToHost ep wanted → n ≤ 16777216
 few-there ep wanted n few there = elim (cases_Bool (is_in_endpoint ep)) [

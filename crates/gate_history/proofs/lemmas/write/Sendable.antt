@@ -26,6 +26,7 @@ use Rattle.gate_history.specs.declared.request.Request.{Request}
 use Rattle.gate_history.specs.state.Ups.{Up, stream_at, is_ended}
 use Rattle.gate_history.specs.declared.verdict.Pipe.{Pipe}
 use Rattle.gate_history.specs.declared.verdict.Pipe.TheVariants.{Control, Bulk, InterruptOut}
+use Rattle.gate_history.specs.declared.verdict.TheConstants.{MAX_NARROW}
 use Rattle.gate_history.specs.declared.verdict.Verdict.{Verdict}
 use Rattle.gate_history.specs.declared.verdict.Verdict.TheVariants.{Now, Wire, Routed, IsoOut, Stream}
 use Rattle.gate_history.specs.client.Carried.{HasItsSetup, IsSent, IsLaid, IsCarried}
@@ -103,7 +104,7 @@ sends-wire caps Bulk t sent fit id fits =
     data_sent ToHost caps id (data_packet.Bulk t.ep 0 t.wanted 0 t.body) ((lit< tt, tt), ((let few : t.wanted ≤ 16777216 = sent.few_bytes in omega arith), tt))
     (can_be_written id caps Bulk t _ fits sent refl)
 sends-wire caps InterruptOut t sent fit id fits =
-    data_sent ToHost caps id (data_packet.Interrupt t.ep 0 t.wanted t.body) ((sent.length_fits, tt), tt) (can_be_written id caps InterruptOut t _ fits sent refl)
+    data_sent ToHost caps id (data_packet.Interrupt t.ep 0 t.wanted t.body) (((let few : t.wanted ≤ MAX_NARROW = sent.length_fits in omega arith), tt), tt) (can_be_written id caps InterruptOut t _ fits sent refl)
 
 -- ---- isochronous packets to the device
 
