@@ -1,5 +1,5 @@
 -- The replies to list and import requests: the one device, as it was told, or none.
-use Rattle.std.specs.Prelude.{ℕ, ◌==◌, Bool, if◌then◌else◌, List, [], ◌∷◌, ◌++◌, length, take, map, codes, bytes_eq, Option, Some, None}
+use Rattle.std.specs.Prelude.{ℕ, ◌==◌, not, Bool, List, [], ◌∷◌, ◌++◌, length, take, take_while, map, codes, bytes_eq, Option, Some, None}
 use Rattle.std.specs.Option.{option_map_or, option_to_list}
 use Rattle.usb_base.specs.Speed.{speed_of, usbip_speed}
 use Rattle.usb_base.specs.Text.{padded}
@@ -47,12 +47,8 @@ list_reply f = RepDevlist 0 (map (λ c. record { device = device_row f c; interf
 -- ---- an import request
 
 -- a text ends at its first zero
-abbrev pub text_of : List ℕ → List ℕ
-text_of [] = []
-text_of (b ∷ bs) = if b == 0 then [] else b ∷ text_of bs
-
 abbrev pub is_exported : List ℕ → Bool
-is_exported busid = bytes_eq (text_of busid) BUS_ID
+is_exported busid = bytes_eq (take_while (λ b. not (b == 0)) busid) BUS_ID
 
 -- any status other than 0 says that there is no such device to import
 abbrev pub failed_import : OpPacket
