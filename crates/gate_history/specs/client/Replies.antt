@@ -11,6 +11,7 @@ use Rattle.usbip_op.specs.declared.packet.IfaceRow.{IfaceRow}
 use Rattle.redir_wire.specs.declared.packet.Connect.{Connect}
 use Rattle.redir_wire.specs.declared.packet.InterfaceInfo.{InterfaceInfo}
 use Rattle.gate_history.specs.declared.facts.Facts.{Facts}
+use Rattle.gate_history.specs.declared.sent.TheConstants.{ST_OK, ST_NA}
 
 -- rows of class, subclass and protocol
 abbrev pub rows : List ℕ → List ℕ → List ℕ → List IfaceRow
@@ -42,7 +43,7 @@ device_row f c = record {
 -- ---- a list request
 
 abbrev pub list_reply : Facts → OpPacket
-list_reply f = RepDevlist 0 (map (λ c. record { device = device_row f c; interfaces = interface_rows f.interfaces }) (option_to_list f.connect))
+list_reply f = RepDevlist ST_OK (map (λ c. record { device = device_row f c; interfaces = interface_rows f.interfaces }) (option_to_list f.connect))
 
 -- ---- an import request
 
@@ -52,7 +53,7 @@ is_exported busid = bytes_eq (take_while (λ b. not (b == 0)) busid) BUS_ID
 
 -- any status other than 0 says that there is no such device to import
 abbrev pub failed_import : OpPacket
-failed_import = RepImport 1 None
+failed_import = RepImport ST_NA None
 
 abbrev pub import_reply : Facts → Connect → OpPacket
-import_reply f c = RepImport 0 (Some (device_row f c))
+import_reply f c = RepImport ST_OK (Some (device_row f c))

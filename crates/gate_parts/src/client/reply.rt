@@ -5,7 +5,7 @@ ghost use Rattle.redir_wire.specs.declared.packet.TheConstants.{MAX_INTERFACES};
 ghost use Rattle.usbip_op.specs.Ranges.{IsWritable};
 ghost use Rattle.gate_history.specs.client.Replies.{rows as rows_of, interface_rows, device_row, list_reply, import_reply, failed_import, is_exported};
 
-use gate_history::Facts;
+use gate_history::{Facts, ST_NA, ST_OK};
 use redir_wire::{Connect, InterfaceInfo, MAX_INTERFACES};
 use std::alloc::Global;
 use usb_base::{Memory, Speed, padded};
@@ -24,7 +24,10 @@ pub fn list_reply(alloc: Global, facts: &Facts) -> Result<OpPacket, Memory>
         let device = device_row(facts, connect, interfaces.len() as u8);
         devices.push(Listed { device, interfaces })?;
     }
-    Ok(OpPacket::RepDevlist { status: 0, devices })
+    Ok(OpPacket::RepDevlist {
+        status: ST_OK,
+        devices,
+    })
 }
 
 /// The device, to a client that imports it.
@@ -34,7 +37,7 @@ pub fn import_reply(facts: &Facts, connect: &Connect) -> OpPacket
 {
     let device = device_row(facts, connect, interface_count(&facts.interfaces));
     OpPacket::RepImport {
-        status: 0,
+        status: ST_OK,
         device: Some(device),
     }
 }
@@ -45,7 +48,7 @@ pub fn failed_import() -> OpPacket
     ensures writable { IsWritable result }
 {
     OpPacket::RepImport {
-        status: 1,
+        status: ST_NA,
         device: None,
     }
 }
