@@ -1,6 +1,6 @@
 //! What is made of a submit.
 
-ghost use Rattle.std.specs.Prelude.{◌≡◌, ◌⊎◌, ◌<◌};
+ghost use Rattle.std.specs.Prelude.{◌≡◌};
 ghost use Rattle.gate_history.specs.client.Verdict.{pipe_kind};
 
 use control_route::Route;

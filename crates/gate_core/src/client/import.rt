@@ -1,14 +1,14 @@
 //! What becomes of the client's list and import requests.
 
-ghost use Rattle.std.specs.Prelude.{◌≡◌, ℕ, List, IfSome, [], None, false, OnOk, OnErr};
+ghost use Rattle.std.specs.Prelude.{◌≡◌, ℕ, IfSome, [], None, false, OnOk, OnErr};
 ghost use Rattle.usbip_op.specs.declared.packet.OpPacket.TheVariants.{ReqDevlist, ReqImport};
 ghost use Rattle.usbip_op.specs.Ranges.{IsWritable};
 ghost use Rattle.usbip_urb.specs.declared.client.ClientPacket.TheVariants.{Op};
 ghost use Rattle.usb_base.specs.Number.{capped};
 ghost use Rattle.gate_history.specs.step.Marks.{Replies, Imports};
 ghost use Rattle.gate_history.specs.state.State.{State};
-ghost use Rattle.gate_history.specs.client.Replies.{list_reply as list_of, import_reply as import_of};
-ghost use Rattle.gate_history.specs.step.Meaning.{mark_as, asked_meaning, importable as importable_in, imported_as};
+ghost use Rattle.gate_history.specs.client.Replies.{import_reply as import_of};
+ghost use Rattle.gate_history.specs.step.Meaning.{mark_as, asked_meaning, importable as importable_in};
 ghost use Rattle.gate_core.specs.inner.Holds.{IsKept, Holds, Does, StopsShort};
 
 use crate::state::kept::Kept;

@@ -1,6 +1,6 @@
 //! Isochronous transfers to the device: their packets go to the host by a stream, and are answered at once.
 
-ghost use Rattle.std.specs.Prelude.{◌≡◌, ◌≤◌, ◌++◌, ℕ, None, false, [], length, OnOk, OnErr, IfOk};
+ghost use Rattle.std.specs.Prelude.{◌≡◌, ◌≤◌, ◌++◌, None, [], length, OnOk, OnErr, IfOk};
 ghost use Rattle.usb_base.specs.declared.limits.TheConstants.{MAX_TRANSFER};
 ghost use Rattle.gate_history.specs.state.Ids.{last_of};
 ghost use Rattle.gate_history.specs.declared.verdict.Verdict.TheVariants.{IsoOut};

@@ -1,6 +1,6 @@
 //! How submits end with their client.
 
-ghost use Rattle.std.specs.Prelude.{◌≡◌, ◌<◌, ◌++◌, not, ℕ, List, [], None, true, false, OnOk, OnErr, length, filter};
+ghost use Rattle.std.specs.Prelude.{◌≡◌, ◌<◌, ◌++◌, not, [], None, true, false, OnOk, OnErr, length, filter};
 ghost use Rattle.std.specs.List.{flat_map};
 ghost use Rattle.usb_base.specs.declared.side.Side.TheVariants.{Client};
 ghost use Rattle.unlink_race.specs.Searches.{goes_by_id};

@@ -1,6 +1,6 @@
 //! What becomes of a client's submits.
 
-ghost use Rattle.std.specs.Prelude.{◌≡◌, ◌≤◌, ◌++◌, length, ℕ, List, [], None, Some, true, false, OnOk, OnErr, IfOk};
+ghost use Rattle.std.specs.Prelude.{◌≡◌, ◌≤◌, ◌++◌, length, ℕ, [], None, Some, false, OnOk, OnErr, IfOk};
 ghost use Rattle.usbip_urb.specs.declared.client.ClientPacket.TheVariants.{Urb};
 ghost use Rattle.gate_history.specs.step.Marks.{Opens};
 ghost use Rattle.gate_history.specs.declared.verdict.Verdict.TheVariants.{Now, Wire};
@@ -10,14 +10,12 @@ ghost use Rattle.gate_history.specs.state.Ids.{draw, greatest, last_of};
 ghost use Rattle.gate_history.specs.state.Flight.{wide_ids, wide_bulk};
 ghost use Rattle.gate_history.specs.write.Packets.{route_packets};
 ghost use Rattle.redir_wire.specs.Header.{IdFits};
-ghost use Rattle.std.specs.List.{list_any};
 ghost use Rattle.usbip_urb.specs.declared.packet.UrbPacket.TheVariants.{Submit as SubmitPacket};
 ghost use Rattle.usbip_urb.specs.Ranges.{IsSubmit};
-ghost use Rattle.unlink_race.specs.Searches.{has_number};
 ghost use Rattle.usb_base.specs.Number.{capped};
 ghost use Rattle.unlink_race.specs.declared.live.LiveKind.TheVariants.{Routed};
 ghost use Rattle.gate_history.specs.state.State.{State, next_ids};
-ghost use Rattle.gate_history.specs.step.Meaning.{mark_as, submission, drawn_for, accepts, verdict_of, asked_meaning};
+ghost use Rattle.gate_history.specs.step.Meaning.{mark_as, submission, drawn_for, verdict_of, asked_meaning};
 ghost use Rattle.gate_history.specs.state.Sound.{IsSound};
 ghost use Rattle.gate_history.specs.write.Asked.{HasItsPackets};
 ghost use Rattle.gate_core.specs.inner.SentIds.{flying_in, ids_after, bytes_of};

@@ -1,6 +1,6 @@
 //! The requests that wait for packets of a stream.
 
-ghost use Rattle.std.specs.Prelude.{◌≡◌, ◌++◌, ◌∷◌, [], ℕ, List, None, OnOk, OnErr};
+ghost use Rattle.std.specs.Prelude.{◌≡◌, ◌∷◌, None, OnOk, OnErr};
 ghost use Rattle.gate_history.specs.state.Ups.{stream_at};
 ghost use Rattle.gate_history.specs.declared.note.Note.TheVariants.{Submitted};
 ghost use Rattle.gate_history.specs.declared.verdict.Verdict.TheVariants.{Stream};

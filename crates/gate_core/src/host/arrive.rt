@@ -1,6 +1,6 @@
 //! The packets of receiving streams: they are held, and fill the requests that wait for them.
 
-ghost use Rattle.std.specs.Prelude.{◌≡◌, ◌++◌, ◌∷◌, [], ℕ, List, OnOk, OnErr, if◌then◌else◌, not, ◌&&◌};
+ghost use Rattle.std.specs.Prelude.{◌≡◌, ◌∷◌, OnOk, OnErr};
 ghost use Rattle.gate_history.specs.declared.note.Note.TheVariants.{Arrived};
 ghost use Rattle.gate_history.specs.state.Ups.{stream_of};
 ghost use Rattle.gate_history.specs.step.Meaning.{mark_as, arrives};

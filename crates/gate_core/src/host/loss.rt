@@ -1,6 +1,6 @@
 //! How submits end with the loss of the device.
 
-ghost use Rattle.std.specs.Prelude.{◌≡◌, ◌<◌, ◌++◌, ◌&&◌, not, ℕ, List, None, true, OnOk, OnErr, IfOk, length, filter};
+ghost use Rattle.std.specs.Prelude.{◌≡◌, ◌<◌, ◌++◌, ◌&&◌, not, None, true, OnOk, OnErr, IfOk, length, filter};
 ghost use Rattle.std.specs.List.{flat_map};
 ghost use Rattle.usb_base.specs.declared.side.Side.TheVariants.{Host};
 ghost use Rattle.redir_wire.specs.Header.{IdFits};

@@ -2,7 +2,6 @@
 
 ghost use Rattle.std.specs.Prelude.{◌≡◌, ◌<◌, ◌++◌, length, filter, OnOk, OnErr};
 ghost use Rattle.std.specs.List.{flat_map};
-ghost use Rattle.usb_base.specs.Status.{is_success};
 ghost use Rattle.unlink_race.specs.Searches.{ended_by};
 ghost use Rattle.gate_parts.specs.state.Rows.{ended_bytes};
 ghost use Rattle.gate_core.specs.inner.StreamEnd.{HasDropped, is_told, status_bytes, HasStreamEnd};

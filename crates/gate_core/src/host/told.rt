@@ -1,6 +1,6 @@
 //! What becomes of the host's packets.
 
-ghost use Rattle.std.specs.Prelude.{◌≡◌, ◌⊎◌, ◌++◌, ◌<◌, ℕ, List, Some, None, ◌∷◌, false, if◌then◌else◌, length, option_map, slice_get, IfSome, OnOk, OnErr};
+ghost use Rattle.std.specs.Prelude.{◌≡◌, ◌++◌, ◌<◌, ℕ, Some, None, false, if◌then◌else◌, length, option_map, slice_get, IfSome, OnOk, OnErr};
 ghost use Rattle.std.specs.List.{find, position};
 ghost use Rattle.usb_base.specs.declared.side.Side.TheVariants.{Host};
 ghost use Rattle.redir_wire.specs.Capability.{announced, caps_of, agreed};
@@ -13,7 +13,6 @@ ghost use Rattle.usb_base.specs.Number.{capped};
 ghost use Rattle.gate_history.specs.step.Marks.{StreamTold};
 ghost use Rattle.gate_history.specs.state.Facts.{tell};
 ghost use Rattle.usb_base.specs.Status.{status_of};
-ghost use Rattle.gate_history.specs.state.StreamIds.{lifted};
 ghost use Rattle.gate_history.specs.state.Flight.{wide_ids};
 ghost use Rattle.gate_history.specs.client.Ends.{has_id as submit_has_id};
 ghost use Rattle.gate_history.specs.state.State.{State, submits};
@@ -21,12 +20,11 @@ ghost use Rattle.gate_history.specs.host.Responses.{response_of};
 ghost use Rattle.gate_history.specs.step.Meaning.{mark_as, fact_of, by_response, told_meaning};
 ghost use Rattle.gate_history.specs.state.Sound.{IsSound};
 ghost use Rattle.gate_history.specs.step.Wants.{GivesSome};
-ghost use Rattle.gate_parts.specs.host.Responses.{response_view, stream_in, row_mismatch, IsAnswer, completes};
+ghost use Rattle.gate_parts.specs.host.Responses.{response_view, row_mismatch, IsAnswer, completes};
 ghost use Rattle.gate_core.specs.inner.Holds.{IsKept, Holds, Does, StopsShort};
 ghost use Rattle.gate_history.specs.step.Fits.{ResponseFits, ToldFits};
 
 use crate::state::kept::Kept;
-use gate_history::Note;
 use gate_parts::{
     Outputs, Response, data_of, has_won, head_size, lifted, mismatch, status_of, stream_in,
     stream_packet, write_completed,

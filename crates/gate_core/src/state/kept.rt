@@ -1,6 +1,6 @@
 //! What is kept of the items that have come.
 
-ghost use Rattle.std.specs.Prelude.{◌≡◌, ◌≤◌, IfOk};
+ghost use Rattle.std.specs.Prelude.{◌≤◌, IfOk};
 ghost use Rattle.gate_core.specs.inner.Holds.{IsFirst, IsKept};
 
 use gate_history::Facts;

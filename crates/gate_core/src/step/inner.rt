@@ -1,6 +1,6 @@
 //! What the gate keeps, and how an event changes it.
 
-ghost use Rattle.std.specs.Prelude.{◌≡◌, ◌≤◌, ℕ, List, [], IfOk};
+ghost use Rattle.std.specs.Prelude.{◌≡◌, ◌≤◌, [], IfOk};
 ghost use Rattle.gate_history.specs.step.Events.{ClientPiece, ClientEnd, HostPiece, HostEnd};
 ghost use Rattle.gate_core.specs.step.Stands.{HasPast, Stands};
 ghost use Rattle.gate_core.specs.inner.Steps.{TakesEvent, kept_of};

@@ -12,7 +12,7 @@ ghost use Rattle.gate_history.specs.write.Answers.{with_given};
 ghost use Rattle.gate_history.specs.write.Asked.{HasItsPackets};
 ghost use Rattle.gate_parts.specs.state.Rows.{row_request};
 ghost use Rattle.gate_parts.specs.host.Fill.{row_cut, cut_bytes, HasTaken};
-ghost use Rattle.gate_parts.specs.host.FillAnswer.{front_bytes, interrupt_given, iso_given};
+ghost use Rattle.gate_parts.specs.host.FillAnswer.{front_bytes};
 
 use crate::write::answer::ret_submit;
 use crate::write::finish::asked_by;

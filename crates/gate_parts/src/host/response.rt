@@ -1,7 +1,7 @@
 //! The packets of the host that answer a request by its id: whether each is that of its request, and what came of the
 //! transfer.
 
-ghost use Rattle.std.specs.Prelude.{◌≡◌, ◌<◌, ◌+◌, true, option_map, IfSome, IfOk, OnErr, Some, None, false};
+ghost use Rattle.std.specs.Prelude.{◌≡◌, ◌<◌, ◌+◌, true, option_map, IfSome, IfOk, OnErr};
 ghost use Rattle.usb_base.specs.declared.side.Side.TheVariants.{Host};
 ghost use Rattle.gate_history.specs.declared.request.Request.{Request};
 ghost use Rattle.gate_history.specs.declared.verdict.Verdict.{Verdict};

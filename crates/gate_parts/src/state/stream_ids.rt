@@ -1,6 +1,6 @@
 //! The ids of the packets that start and stop the streams of endpoints.
 
-ghost use Rattle.std.specs.Prelude.{◌≡◌, Some, None};
+ghost use Rattle.std.specs.Prelude.{◌≡◌};
 ghost use Rattle.std.specs.List.{list_any};
 ghost use Rattle.gate_history.specs.state.Ids.{holds};
 ghost use Rattle.gate_history.specs.state.StreamIds.{no_stream_ids, started, stopped, ids_of_streams, lifted};

@@ -3,7 +3,7 @@
 ghost use Rattle.stream_buffers.specs.Fillings.{is_failed};
 ghost use Rattle.usb_base.specs.declared.limits.TheConstants.{MAX_TRANSFER, MAX_PACKETS};
 ghost use Rattle.usbip_urb.specs.Buffers.{laid};
-ghost use Rattle.std.specs.Prelude.{◌≡◌, false, IsTrue, ◌++◌, ◌≤◌, ◌<◌, filter, length, not, OnOk, OnErr, IfOk};
+ghost use Rattle.std.specs.Prelude.{◌≡◌, false, IsTrue, ◌++◌, ◌≤◌, ◌<◌, filter, length, OnOk, OnErr, IfOk};
 ghost use Rattle.usbip_urb.specs.Spelling.{spelling};
 ghost use Rattle.usbip_urb.specs.declared.packet.UrbPacket.TheVariants.{RetSubmit as RetSubmitPacket};
 ghost use Rattle.gate_history.specs.write.Answers.{answer_head, told_status, ret_submit, ret_unlink, echoed, without_packets, sent_whole, all_sent, with_outcome};

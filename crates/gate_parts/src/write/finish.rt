@@ -1,6 +1,6 @@
 //! The answers of a request that has ended, by its row among the requests in flight.
 
-ghost use Rattle.std.specs.Prelude.{◌≡◌, ◌++◌, [], None, pos, OnOk, OnErr, ◌⊎◌, ◌∷◌, map, IfOk, true};
+ghost use Rattle.std.specs.Prelude.{◌≡◌, ◌++◌, [], pos, OnOk, OnErr, ◌⊎◌, ◌∷◌, map, IfOk, true};
 ghost use Rattle.std.specs.List.{flat_map};
 ghost use Rattle.usbip_urb.specs.Spelling.{spelling};
 ghost use Rattle.gate_history.specs.step.Marks.{Submission};
