@@ -8,7 +8,7 @@ ghost use Rattle.direct_run.specs.Clients.{IsMove};
 ghost use Rattle.direct_run.specs.Kept.{SystemKept};
 ghost use Rattle.direct_run.specs.Known.{IsKnown};
 ghost use Rattle.direct_run.specs.Moves.{World, Move, first_world};
-ghost use Rattle.direct_run.specs.Stands.{Stands};
+ghost use Rattle.direct_run.specs.Stands.{SystemStands};
 ghost use Rattle.direct_run.specs.Steps.{Step as PastStep};
 ghost use Rattle.direct_run.specs.World.{course};
 ghost use Rattle.direct_proof.specs.Related.{Related};
@@ -45,8 +45,8 @@ pub fn simulation<G: Gadget>()
 /// trace of the device attached directly, with the requests of the submits that were accepted, and what clients were sent,
 /// list and import replies aside, is just its answers.
 pub fn systems_are_direct<G: Gadget>()
-    ensures direct { (first : G) (kept : SystemKept G) (steps : List PastStep) → Stands G.meaning first kept steps
+    ensures direct { (first : G) (kept : SystemKept G) (steps : List PastStep) → SystemStands G.meaning first kept steps
         → IsDirect G.meaning first (requests_of (course G.meaning first steps)) kept.trace (answers_of (course G.meaning first steps)) }
-    ensures simulates { (first : G) (kept : SystemKept G) (steps : List PastStep) → Stands G.meaning first kept steps
+    ensures simulates { (first : G) (kept : SystemKept G) (steps : List PastStep) → SystemStands G.meaning first kept steps
         → Simulates G.meaning first steps }
 {}

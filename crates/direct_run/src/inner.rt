@@ -8,7 +8,7 @@ ghost use Rattle.redir_host.specs.step.Acts.{Act, Piece, Perform, Offer, Unplug}
 ghost use Rattle.redir_host.specs.step.Stands.{HostStands};
 ghost use Rattle.direct_run.specs.Steps.{Step as PastStep, step_of};
 ghost use Rattle.direct_run.specs.World.{first_id, sent_to_host, sent_to_gate, nothing_yet};
-ghost use Rattle.direct_run.specs.Stands.{Stands, Takes};
+ghost use Rattle.direct_run.specs.Stands.{SystemStands, Takes};
 ghost use Rattle.direct_run.specs.inner.Views.{kept_of};
 ghost use Rattle.gate_history.specs.write.Refusals.{refusal_in};
 ghost use Rattle.direct_run.specs.Noted.{item_of, named};
@@ -49,7 +49,7 @@ impl<G: Gadget> Inner<G> {
     #[tactic(auto, using(crate::proofs::Knowing::known_first))]
     pub fn make(alloc: Global, gadget: G, told: &mut Told) -> Result<Inner<G>, Memory>
         requires { told.old ≡ untold }
-        ensures made { IfOk result (λ inner. Stands G.meaning gadget (kept_of inner) []) }
+        ensures made { IfOk result (λ inner. SystemStands G.meaning gadget (kept_of inner) []) }
         ensures told { OnOk result (told.new ≡ record told.old { to_host = sent_to_host nothing_yet; from_host = sent_to_gate G.meaning gadget nothing_yet }) }
     {
         let mut inner = Inner::silent(alloc, gadget, told)?;
@@ -91,7 +91,7 @@ impl<G: Gadget> Inner<G> {
 
     /// Does a step. Once memory has run out it does nothing.
     pub fn step(&mut self, step: Step) -> Result<Told, Memory>
-        ensures takes { IfOk result (λ told. (first : G) (past : ListOf PastStep) → Stands G.meaning first (kept_of self.old) past
+        ensures takes { IfOk result (λ told. (first : G) (past : ListOf PastStep) → SystemStands G.meaning first (kept_of self.old) past
             → Takes G.meaning first (kept_of self.new) past (step_of step.entry) told) }
         ensures failed { is_some self.old.want ≡ true → IsErr result × (self.new ≡ self.old) }
     {

@@ -6,7 +6,7 @@ ghost use Rattle.gate_history.specs.write.All.{counts_of};
 ghost use Rattle.direct_run.specs.Steps.{Step as PastStep, step_of};
 ghost use Rattle.direct_run.specs.World.{first_id, course};
 ghost use Rattle.direct_run.specs.Trace.{told_first, trace as trace_of};
-ghost use Rattle.direct_run.specs.Stands.{Stands, Takes, HasFailed};
+ghost use Rattle.direct_run.specs.Stands.{SystemStands, Takes, HasFailed};
 
 use crate::inner::Inner;
 use crate::item::Items;
@@ -37,7 +37,7 @@ impl<G: Gadget> Model for System<G> {
 impl<G: Gadget> System<G> {
     /// The system of a device that was just plugged in. What is told are the hellos of both.
     pub fn make(alloc: Global, gadget: G) -> Result<(System<G>, Told), Memory>
-        ensures made { IfOk result (λ made. Stands G.meaning gadget made.0 []) }
+        ensures made { IfOk result (λ made. SystemStands G.meaning gadget made.0 []) }
         ensures told { IfOk result (λ made. made.1 ≡ told_first G.meaning gadget) }
     {
         let mut told = Told::new(alloc);
@@ -47,7 +47,7 @@ impl<G: Gadget> System<G> {
 
     /// Does a step.
     pub fn step(&mut self, step: Step) -> Result<Told, Memory>
-        ensures takes { IfOk result (λ told. (first : G) (past : List PastStep) → Stands G.meaning first self.old past
+        ensures takes { IfOk result (λ told. (first : G) (past : List PastStep) → SystemStands G.meaning first self.old past
             → Takes G.meaning first self.new past (step_of step.entry) told) }
         ensures fails { OnErr result (HasFailed self.new) }
         ensures failed { HasFailed self.old → IsErr result × (self.new ≡ self.old) }
@@ -86,14 +86,14 @@ impl<G: Gadget> System<G> {
 
     /// All items so far.
     pub fn trace(&self) -> &Items
-        ensures { (first : G) (steps : List PastStep) → Stands G.meaning first self.now steps → result.now ≡ trace_of G.meaning first steps }
+        ensures { (first : G) (steps : List PastStep) → SystemStands G.meaning first self.now steps → result.now ≡ trace_of G.meaning first steps }
     {
         &self.inner.trace
     }
 
     /// What the gateway has counted.
     pub fn counts(&self) -> Counts
-        ensures { (first : G) (steps : List PastStep) → Stands G.meaning first self.now steps
+        ensures { (first : G) (steps : List PastStep) → SystemStands G.meaning first self.now steps
             → result ≡ counts_of first_id (history first_id (course G.meaning first steps).events) }
     {
         self.inner.gate.counts()

@@ -1,7 +1,7 @@
 //! The command `model`: the steps of a tape are done with a gateway and a modelled device.
 
 ghost use Rattle.std.specs.Prelude.{◌≡◌, ◌++◌, ◌||◌, [], List, IfOk, OnOk, OnErr, IsSome};
-ghost use Rattle.direct_run.specs.Stands.{Stands};
+ghost use Rattle.direct_run.specs.Stands.{SystemStands};
 ghost use Rattle.direct_run.specs.Steps.{Step as PastStep};
 ghost use Rattle.direct_run.specs.Trace.{told_first};
 ghost use Rattle.usbgate_tapes.specs.model.Model.{model, step_said};
@@ -66,7 +66,7 @@ fn push_first(alloc: Global, told: Told, text: &mut Bytes) -> Result<(), Memory>
 
 /// Does the step that a line says, if there is one.
 pub fn do_line<G: Gadget>(system: &mut System<G>, line: &TapeLine) -> Result<Option<Told>, Memory>
-    ensures takes { IfOk result (λ told. (first : G) (past : List PastStep) → Stands G.meaning first system.old past → TakesSaid G.meaning first system.new past (step_said line.now) told) }
+    ensures takes { IfOk result (λ told. (first : G) (past : List PastStep) → SystemStands G.meaning first system.old past → TakesSaid G.meaning first system.new past (step_said line.now) told) }
     ensures told { IfOk result (λ told. IsSome told → IsSome (step_said line.now)) }
     ensures err { OnErr result (IsSome (step_said line.now)) }
 {

@@ -1,7 +1,7 @@
 //! The command `load`: what a modelled loop makes of the tape that a number stands for.
 
 ghost use Rattle.std.specs.Prelude.{◌≡◌, ◌≢◌, ◌≤◌, [], ℕ, IfOk, OnOk};
-ghost use Rattle.direct_run.specs.Stands.{Stands};
+ghost use Rattle.direct_run.specs.Stands.{SystemStands};
 ghost use Rattle.made_tape.specs.declared.made.TheConstants.{MOST_ROUNDS};
 ghost use Rattle.made_tape.specs.Rounds.{made_lines};
 ghost use Rattle.usbgate_tapes.specs.model.Made.{loaded};
@@ -53,7 +53,7 @@ fn counted(alloc: Global, count: u16) -> Result<Bytes, Memory>
 
 /// The system of a device with which the steps of the tape were done.
 fn done<G: Gadget>(alloc: Global, gadget: G, count: u16) -> Result<System<G>, Memory>
-    ensures { IfOk result (λ system. Stands G.meaning gadget system (steps_after (made_lines count) [])) }
+    ensures { IfOk result (λ system. SystemStands G.meaning gadget system (steps_after (made_lines count) [])) }
 {
     let (mut system, _) = System::make(alloc, gadget)?;
     let mut tape = MadeTape::new(count);

@@ -9,7 +9,7 @@ use Rattle.model_device.specs.Loopback.{loopback}
 use Rattle.model_device.specs.Meaning.{Meaning}
 use Rattle.direct_run.specs.declared.told.Told.{Told}
 use Rattle.direct_run.specs.Kept.{SystemKept}
-use Rattle.direct_run.specs.Stands.{Stands}
+use Rattle.direct_run.specs.Stands.{SystemStands}
 use Rattle.direct_run.specs.Steps.{Step}
 use Rattle.direct_run.specs.World.{first_id, course}
 use Rattle.made_tape.specs.Again.{TapeAgain}
@@ -23,25 +23,25 @@ use Rattle.usbgate_tapes.proofs.lemmas.model.Loaded.{last-made}
 
 -- the system stands for steps, behind which the lines that are left say the others
 abbrev pub Doing : {S : Type 0} → Meaning S → S → SystemKept S → List TapeLine → List TapeLine → Type 0
-Doing m s k left lines = (past : List Step) × Stands m s k past × (steps_after left past ≡ steps_after lines [])
+Doing m s k left lines = (past : List Step) × SystemStands m s k past × (steps_after left past ≡ steps_after lines [])
 
-taken : {S : Type 0} (m : Meaning S) (s : S) (new : SystemKept S) (past : List Step) (x : Option Step) (told : Option Told) → TakesSaid m s new past x told → Stands m s new (with_step x past)
+taken : {S : Type 0} (m : Meaning S) (s : S) (new : SystemKept S) (past : List Step) (x : Option Step) (told : Option Told) → TakesSaid m s new past x told → SystemStands m s new (with_step x past)
 taken m s new past None None stands = stands
 taken m s new past None (Some told) never = absurd never
 taken m s new past (Some x) None never = absurd never
 taken m s new past (Some x) (Some told) takes = takes.stands
 
 pub one-more : {S : Type 0} (m : Meaning S) (s : S) (old new : SystemKept S) (left rest lines : List TapeLine) (said : TapeLine) (told : Option Told) → left ≡ said ∷ rest
-    → ((first : S) (past : List Step) → Stands m first old past → TakesSaid m first new past (step_said said) told) → Doing m s old left lines → Doing m s new rest lines
+    → ((first : S) (past : List Step) → SystemStands m first old past → TakesSaid m first new past (step_said said) told) → Doing m s old left lines → Doing m s new rest lines
 one-more m s old new left rest lines said told next takes d =
     (with_step (step_said said) d.0, taken m s new d.0 (step_said said) told (takes s d.0 d.1), ap (λ (ls : List TapeLine). steps_after ls d.0) (sym next) ∙ d.2)
 
-pub all-done : {S : Type 0} (m : Meaning S) (s : S) (k : SystemKept S) (left lines : List TapeLine) → left ≡ [] → Doing m s k left lines → Stands m s k (steps_after lines [])
-all-done m s k left lines none d = subst (Stands m s k) (ap (λ (ls : List TapeLine). steps_after ls d.0) (sym none) ∙ d.2) d.1
+pub all-done : {S : Type 0} (m : Meaning S) (s : S) (k : SystemKept S) (left lines : List TapeLine) → left ≡ [] → Doing m s k left lines → SystemStands m s k (steps_after lines [])
+all-done m s k left lines none d = subst (SystemStands m s k) (ap (λ (ls : List TapeLine). steps_after ls d.0) (sym none) ∙ d.2) d.1
 
 pub counts-loaded : (count : ℕ) (gadget : State (List ℕ)) (k : SystemKept (State (List ℕ))) (counts : Counts) (old text : List ℕ) → gadget ≡ first_state loopback → TapeAgain (made_lines count)
-    → Stands (meaning_of loopback) gadget k (steps_after (made_lines count) [])
-    → ((first : State (List ℕ)) (steps : List Step) → Stands (meaning_of loopback) first k steps → counts ≡ counts_of first_id (history first_id (course (meaning_of loopback) first steps).events))
+    → SystemStands (meaning_of loopback) gadget k (steps_after (made_lines count) [])
+    → ((first : State (List ℕ)) (steps : List Step) → SystemStands (meaning_of loopback) first k steps → counts ≡ counts_of first_id (history first_id (course (meaning_of loopback) first steps).events))
     → old ≡ [] → text ≡ old ++ counts_line counts → text ≡ loaded count
 counts-loaded count gadget k counts old text plugged again stands counted none is =
     is ∙ ap (λ (l : List ℕ). l ++ counts_line counts) none ∙ ap counts_line (counted gadget (steps_after (made_lines count) []) stands)

@@ -17,7 +17,7 @@ use Rattle.packet_show.specs.Tape.{tape_line}
 use Rattle.direct_run.specs.declared.told.Told.{Told}
 use Rattle.direct_run.specs.Kept.{SystemKept}
 use Rattle.gate_history.specs.write.Refusals.{refusal_in}
-use Rattle.direct_run.specs.Stands.{Stands}
+use Rattle.direct_run.specs.Stands.{SystemStands}
 use Rattle.direct_run.specs.Steps.{Step, Client, ClientEnd, ToHost, ToGate, Perform, Offer, Unplug}
 use Rattle.direct_run.specs.Trace.{given_of, told_by}
 use Rattle.direct_run.specs.World.{Course, first_id, course, after_step, wire_to_gate}
@@ -66,7 +66,7 @@ step-refuses m s c Unplug = or-false (has_refusal (history first_id c.events))
 
 -- a line whose step was done puts what that adds behind the text
 pub line-told : {S : Type 0} (m : Meaning S) (s : S) (old new : ModelRun S) (steps : List Step) (content : List ℕ) (said : TapeLine) (done : SystemKept S) (outcome : Option Told) (told : Told) (text_old text_new : List ℕ) →
-    tape_line Model content ≡ Some said → (Stands m s old.system steps → TakesSaid m s done steps (step_said said) outcome) → outcome ≡ Some told → new.system ≡ done → text_new ≡ text_old ++ told_text told → new.refused ≡ (old.refused || has_some told.refusals) →
+    tape_line Model content ≡ Some said → (SystemStands m s old.system steps → TakesSaid m s done steps (step_said said) outcome) → outcome ≡ Some told → new.system ≡ done → text_new ≡ text_old ++ told_text told → new.refused ≡ (old.refused || has_some told.refusals) →
     HasDone m s old steps → TakesLine (HasDone m s) ((model m s).line steps content) new text_old text_new
 line-told {S = S} m s old new steps content said done outcome told text_old text_new is takes outcome-is system-is text-is refused h =
     subst (λ (x : Option TapeLine). TakesLine (HasDone m s) (option_map (λ (y : TapeLine). on_step m s steps (step_said y)) x) new text_old text_new) (sym is) (go (step_said said) taken)

@@ -6,7 +6,7 @@ use Rattle.model_device.specs.Device.{State, first_state, meaning_of}
 use Rattle.model_device.specs.Loopback.{loopback}
 use Rattle.model_device.specs.Meaning.{Meaning}
 use Rattle.direct_run.specs.Kept.{SystemKept}
-use Rattle.direct_run.specs.Stands.{Stands}
+use Rattle.direct_run.specs.Stands.{SystemStands}
 use Rattle.direct_run.specs.Steps.{Step}
 use Rattle.direct_proof.specs.Simulates.{Simulates}
 use Rattle.made_tape.specs.Again.{TapeAgain}
@@ -25,7 +25,7 @@ use Rattle.usbgate_tapes.proofs.lemmas.model.Loaded.{kept-made}
 
 -- the law of systems
 abbrev pub SystemsAreDirect : {S : Type 0} → Meaning S → Type 0
-SystemsAreDirect {S = S} m = (first : S) (kept : SystemKept S) (steps : List Step) → Stands m first kept steps → Simulates m first steps
+SystemsAreDirect {S = S} m = (first : S) (kept : SystemKept S) (steps : List Step) → SystemStands m first kept steps → Simulates m first steps
 
 pub are-simulated : {S T : Type 0} (m : Meaning S) (s : S) (read_gives : T → List ℕ → Result ℕ Failed → T → Type 0) (remaining : T → Option (List ℕ)) (status : Status) (old new : T) → SystemsAreDirect m → ReadsTo read_gives remaining status (HasDone m s) (model m s) old new → AreSimulated read_gives remaining status m s old new
 are-simulated m s read_gives remaining status old new law reads = record {
@@ -44,7 +44,7 @@ unsimulated read_gives remaining _ old new = record { by_log = tt; where_told = 
 
 -- a made tape
 pub made-simulates : (count : ℕ) (gadget : State (List ℕ)) (k : SystemKept (State (List ℕ))) → gadget ≡ first_state loopback → TapeAgain (made_lines count) → SystemsAreDirect (meaning_of loopback)
-    → Stands (meaning_of loopback) gadget k (steps_after (made_lines count) []) → MadeSimulates count
+    → SystemStands (meaning_of loopback) gadget k (steps_after (made_lines count) []) → MadeSimulates count
 made-simulates count gadget k plugged again law stands =
     subst (Simulates (meaning_of loopback) (first_state loopback)) (sym (kept-made (meaning_of loopback) (first_state loopback) (made_lines count) again))
     (subst (λ (g : State (List ℕ)). Simulates (meaning_of loopback) g (steps_after (made_lines count) [])) plugged (law gadget k (steps_after (made_lines count) []) stands))
