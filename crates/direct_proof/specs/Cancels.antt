@@ -8,16 +8,15 @@ use Rattle.redir_data.specs.declared.packet.RedirPacket.TheVariants.{Carrying, P
 use Rattle.model_device.specs.Transfer.{is_control}
 use Rattle.redir_host.specs.guest.Asking.{asking_of}
 use Rattle.redir_host.specs.declared.state.request.Asking.{Asking}
-use Rattle.redir_host.specs.declared.state.request.Asking.TheVariants.{Asks, Nothing, Refuses}
+use Rattle.redir_host.specs.declared.state.request.Asking.TheVariants.{Asks, Refuses}
 use Rattle.gate_history.specs.client.Verdict.{changes}
 use Rattle.direct_device.specs.Direct.{normal_of}
 use Rattle.direct_proof.specs.Requests.{Entry}
 
 -- what the gateway asks of a host behind its hello: nothing that it refuses
 abbrev pub CanAsk : Asking → Type 0
-CanAsk Nothing = Unit {0}
 CanAsk (Refuses f ep) = ⊥
-CanAsk (Asks f t) = Unit {0}
+CanAsk _ = Unit {0}
 
 abbrev pub IsAsking : RedirPacket → Type 0
 IsAsking (Plain (plain.Hello x)) = ⊥
@@ -30,9 +29,8 @@ IsAsked id e = (e.id == id) ≡ true → e.asked ≡ true
 
 -- what stands ahead of a packet: the entries before it, and how many of those that come it has behind it
 abbrev pub is_request : Asking → Bool
-is_request Nothing = false
-is_request (Refuses f ep) = false
 is_request (Asks f t) = true
+is_request _ = false
 
 abbrev pub begins : RedirPacket → Bool
 begins (Plain (plain.SetConfiguration configuration)) = true
@@ -44,8 +42,7 @@ begins (Carrying d) = is_request (asking_of d)
 
 abbrev pub is_cancel : RedirPacket → Bool
 is_cancel (Plain plain.Cancel) = true
-is_cancel (Plain _) = false
-is_cancel (Carrying d) = false
+is_cancel _ = false
 
 abbrev pub moved : Bool → List Entry → List Entry → List Entry
 moved false ahead cs = ahead

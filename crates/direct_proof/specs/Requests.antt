@@ -25,13 +25,9 @@ use Rattle.direct_device.specs.Direct.{Live, Load, Ran, Waiting, normal_of, seen
 -- the packet by which it is asked for; of a reset the one that its answer answers
 abbrev pub route_form : Route → Form
 route_form (route.SetConfig configuration) = form.SetConfiguration configuration
-route_form route.GetConfig = form.GetConfiguration
 route_form (route.SetAlt interface alt) = form.SetAlt interface alt
 route_form (route.GetAlt interface) = form.GetAlt interface
-route_form route.Reset = form.GetConfiguration
-route_form route.Local = form.GetConfiguration
-route_form route.Plain = form.GetConfiguration
-route_form route.Bad = form.GetConfiguration
+route_form _ = form.GetConfiguration
 
 abbrev pub pipe_form : Pipe → Transfer → Form
 pipe_form Control t = form.Control (unwrap_or t.setup no_setup)

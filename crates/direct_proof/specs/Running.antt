@@ -4,7 +4,7 @@ use Rattle.std.specs.List.{list_any}
 use Rattle.usb_base.specs.declared.endpoint.EpTable.{EpTable}
 use Rattle.redir_wire.specs.declared.packet.RedirControl.TheVariants as plain
 use Rattle.redir_data.specs.declared.packet.RedirPacket.{RedirPacket}
-use Rattle.redir_data.specs.declared.packet.RedirPacket.TheVariants.{Carrying, Plain}
+use Rattle.redir_data.specs.declared.packet.RedirPacket.TheVariants.{Plain}
 use Rattle.redir_host.specs.guest.Packets.{can_start}
 use Rattle.redir_host.specs.declared.state.running.StreamKind.{StreamKind}
 use Rattle.redir_host.specs.declared.state.running.StreamKind.TheVariants.{Interrupt, Iso}
@@ -16,8 +16,7 @@ runs_after ep (Plain (plain.StartIso e urbs count)) runs = if e == ep then true 
 runs_after ep (Plain (plain.StartInterrupt e)) runs = if e == ep then true else runs
 runs_after ep (Plain (plain.StopIso e)) runs = if e == ep then false else runs
 runs_after ep (Plain (plain.StopInterrupt e)) runs = if e == ep then false else runs
-runs_after ep (Plain _) runs = runs
-runs_after ep (Carrying d) runs = runs
+runs_after ep _ runs = runs
 
 -- as long as the stream runs, now or by a start on the wire, a change or the fence's stop is behind
 abbrev pub Quits : Option ℕ → ℕ → Bool → List (ℕ × RedirPacket) → Type 0
@@ -30,8 +29,7 @@ stream_endpoint (Plain (plain.StartIso e urbs count)) = Some e
 stream_endpoint (Plain (plain.StartInterrupt e)) = Some e
 stream_endpoint (Plain (plain.StopIso e)) = Some e
 stream_endpoint (Plain (plain.StopInterrupt e)) = Some e
-stream_endpoint (Plain _) = None
-stream_endpoint (Carrying d) = None
+stream_endpoint _ = None
 
 abbrev pub passes : (ℕ → Bool) → Option ℕ → Bool
 passes test None = false
@@ -46,8 +44,7 @@ Trails fence down (p ∷ ps) = (passes down (stream_endpoint p.1) ≡ true → l
 abbrev pub started_kind : RedirPacket → Option (StreamKind × ℕ)
 started_kind (Plain (plain.StartIso e urbs count)) = Some (Iso, e)
 started_kind (Plain (plain.StartInterrupt e)) = Some (Interrupt, e)
-started_kind (Plain _) = None
-started_kind (Carrying d) = None
+started_kind _ = None
 
 abbrev pub CanStart : EpTable → Bool → Option (StreamKind × ℕ) → Type 0
 CanStart table changing None = Unit {0}

@@ -3,7 +3,7 @@ use Rattle.std.specs.Prelude.{◌≡◌, ℕ, ◌==◌, ◌||◌, Bool, true, fa
 use Rattle.std.specs.List.{list_any}
 use Rattle.redir_wire.specs.declared.packet.RedirControl.TheVariants as plain
 use Rattle.redir_data.specs.declared.packet.RedirPacket.{RedirPacket}
-use Rattle.redir_data.specs.declared.packet.RedirPacket.TheVariants.{Carrying, Plain}
+use Rattle.redir_data.specs.declared.packet.RedirPacket.TheVariants.{Plain}
 use Rattle.gate_history.specs.client.Verdict.{changes}
 use Rattle.direct_proof.specs.Tagged.{Answered, Packed, Plugged, Stated, Tagged, ToldFaces, ToldTable}
 
@@ -18,8 +18,7 @@ asks fence (id, Plain (plain.SetAlt interface alt)) = true
 asks fence (id, Plain plain.Reset) = true
 asks fence (id, Plain (plain.StopIso ep)) = is_fence fence id
 asks fence (id, Plain (plain.StopInterrupt ep)) = is_fence fence id
-asks fence (id, Plain _) = false
-asks fence (id, Carrying d) = false
+asks fence _ = false
 
 -- the end of what is stale, on the wire to the gateway: a change's answer, the fence's status, or the device's coming
 abbrev pub ends : Option ℕ → Tagged → Bool
