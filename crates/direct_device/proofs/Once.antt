@@ -1,5 +1,5 @@
 -- Performed at most once: what holds along a legal trace of the device attached directly.
-use Rattle.std.proofs.Common.{◌≡◌, ℕ, ◌+◌, ◌≤◌, ◌==◌, Bool, true, false, cond, not, List, [], ◌∷◌, Option, Some, None, refl, sym, ap, ◌∙◌, arith}
+use Rattle.std.proofs.Common.{◌≡◌, ℕ, ◌+◌, ◌≤◌, ◌==◌, Bool, true, false, cond, not, List, [], ◌∷◌, Option, Some, None, refl, sym, ap, ◌∙◌, arith, true≢false}
 use Rattle.std.proofs.lemmas.Bool.{eqb-true}
 use Rattle.usb_base.specs.declared.status.UsbStatus.{UsbStatus}
 use Rattle.model_device.specs.Meaning.{Meaning}
@@ -13,7 +13,7 @@ use Rattle.direct_device.specs.Direct.{Live, Waiting, Ran, Direct, number, is_nu
 use Rattle.direct_device.specs.Acting.{Deed, Import, Submit, Perform}
 use Rattle.direct_device.proofs.Counts.{count}
 use Rattle.direct_device.specs.Performed.{times_performed, NeverCancels}
-use Rattle.direct_device.proofs.Taken.{weight, not-both, away, count-apart}
+use Rattle.direct_device.proofs.Taken.{weight, away, count-apart}
 
 -- ---- the performs of each number since it was last submitted, after one item more
 
@@ -84,12 +84,12 @@ by-id-number n xs = count-apart (by_id n) (without_id n) (live_number n) (λ l. 
     parts false b = omega arith
 
 pub waits-no_id : (v : Verdict) → is_waiting v ≡ true → goes_by_id v ≡ false
-waits-no_id (Wire pipe) h = absurd (not-both (sym h))
-waits-no_id (Routed route) h = absurd (not-both (sym h))
+waits-no_id (Wire pipe) h = absurd (true≢false (sym h))
+waits-no_id (Routed route) h = absurd (true≢false (sym h))
 waits-no_id _ h = refl
 
 pub id-no_wait : (v : Verdict) → goes_by_id v ≡ true → is_waiting v ≡ false
-id-no_wait (Stream row) h = absurd (not-both (sym h))
+id-no_wait (Stream row) h = absurd (true≢false (sym h))
 id-no_wait _ h = refl
 
 pub wait-by_id : (n : ℕ) (l : Live) → is_waiting l.load.verdict ≡ true → by_id n l ≡ false

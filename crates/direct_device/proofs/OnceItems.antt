@@ -1,8 +1,8 @@
 -- Each item of a legal trace keeps what holds.
-use Rattle.std.proofs.Common.{◌≡◌, ℕ, Bool, true, false, cond, not, List, [], ◌∷◌, ◌++◌, map, Option, Some, None, is_some, refl, sym, ap, subst, ◌∙◌, arith}
+use Rattle.std.proofs.Common.{◌≡◌, ℕ, Bool, true, false, cond, not, List, [], ◌∷◌, ◌++◌, map, Option, Some, None, is_some, refl, sym, ap, subst, ◌∙◌, arith, true≢false}
 use Rattle.std.specs.Prelude.{filter, slice_get, drop, IsSomeAnd, IsSome}
 use Rattle.std.specs.List.{find}
-use Rattle.std.proofs.lemmas.Bool.{eqb-true}
+use Rattle.std.proofs.lemmas.Bool.{eqb-true, both_ways}
 use Rattle.usb_base.specs.Status.{is_success}
 use Rattle.usb_base.specs.declared.transfer.Outcome.{Outcome}
 use Rattle.usb_base.specs.declared.transfer.StreamPacket.{StreamPacket}
@@ -21,7 +21,7 @@ use Rattle.direct_device.specs.Acting.{Deed, Import, Submit, Unlink, Perform, Ca
 use Rattle.direct_device.specs.Legal.{CanAnswerBy, IsAllowed}
 use Rattle.direct_device.specs.Performed.{NeverCancels}
 use Rattle.direct_device.proofs.Counts.{count-map}
-use Rattle.direct_device.proofs.Taken.{not-both, clash, find-passes, count-taken}
+use Rattle.direct_device.proofs.Taken.{find-passes, count-taken}
 use Rattle.direct_device.proofs.Once.{counted, live_number, queued_number, Once, Inv, Holds}
 use Rattle.direct_device.proofs.OnceSubmit.{submit-once, submit-most, none-queued, gone-now}
 use Rattle.direct_device.proofs.OnceSteps.{unlink-once, performed-once, performed-most, seen-status, cancelled-once, answered-once, filled-once}
@@ -32,7 +32,7 @@ keep-submit : {S : Type 0} (m : Meaning S) (d : Direct S) (c : ℕ → ℕ) (r :
 keep-submit m d c r inv ok = record {
   once = λ h k. submit-once d.live d.queue d.ran c r (made_of m d r) (inv.once h k) ok.1;
   most = submit-most d.queue c r (made_of m d r) inv.most (λ goes. none-queued d.live d.queue d.ran c r.number (inv.once ok.0 (there goes)) ok.1);
-  out = λ h. absurd (clash d.imported ok.0 h);
+  out = λ h. absurd (both_ways d.imported h ok.0);
   lost = λ h i. filter (λ y. not (is_ended (made_of m d r) y)) (inv.lost h i) ++ joins_live (record { request = r; verdict = made_of m d r }) (now h i);
 }
   where
@@ -43,7 +43,7 @@ keep-submit m d c r inv ok = record {
     there goes = go d.gone refl
       where
         go : (b : Bool) → d.gone ≡ b → b ≡ false
-        go true e = absurd (clash (goes_by_id (made_of m d r)) goes (ap goes_by_id (now e)))
+        go true e = absurd (both_ways (goes_by_id (made_of m d r)) (ap goes_by_id (now e)) goes)
         go false e = refl
 
 keep-perform : {S : Type 0} (m : Meaning S) (d : Direct S) (c : ℕ → ℕ) (ep n : ℕ) → Holds m d c → IsAllowed m d (Perform ep n) → Holds m (act m d (Perform ep n)) (counted c (Perform ep n))
@@ -51,7 +51,7 @@ keep-perform {S = S} m d c ep n inv ok = go (find (is_at ep) d.queue) refl ok.1
   where
     by : (q : Waiting) → find (is_at ep) d.queue ≡ Some q → is_number n q.load ≡ true → (o : Option (S × Outcome)) → m.perform d.gadget (normal_of q.load) ≡ o → is_some o ≡ true →
         Holds m (performed_by m d q (without_first (is_at ep) d.queue) o) (counted c (Perform ep n))
-    by q first same None is some = absurd (not-both (sym some))
+    by q first same None is some = absurd (true≢false (sym some))
     by q first same (Some out) is some = record {
       once = λ i k. subst (λ (b : Bool). Once (NeverCancels m) d.live (filter (λ y. not (flushed y)) rest) (cond b (d.ran ++ new) d.ran) (counted c (Perform ep n))) (sym i)
           (performed-once d.live d.queue d.ran c ep n q flushed (seen_of q.load (m.configuration out.0) out.1) (inv.once i k) first same
@@ -97,7 +97,7 @@ keep-answer m d c n inv ok = go (find (live_number n) d.live) refl ok.1
     filled l found waits (Some cut) = record {
       once = λ i k. subst (λ (j : ℕ). Once (NeverCancels m) (without_number j d.live) d.queue d.ran c) (number-is l found) (filled-once d.live d.queue d.ran c n l (inv.once i k) found waits);
       most = inv.most;
-      out = λ i. absurd (clash d.imported ok.0 i);
+      out = λ i. absurd (both_ways d.imported i ok.0);
       lost = λ k. ap (without_number (number l.load)) (inv.lost k);
     }
 
@@ -110,7 +110,7 @@ keep-answer m d c n inv ok = go (find (live_number n) d.live) refl ok.1
           subst (λ (j : ℕ). Once (NeverCancels m) (without_number j d.live) d.queue rs c) (number-is l found)
           (answered-once d.live d.queue c n l r rs o found (subst (λ (j : ℕ). is_number j r.load ≡ true) (sym (number-is l found)) can));
       most = inv.most;
-      out = λ i. absurd (clash d.imported ok.0 i);
+      out = λ i. absurd (both_ways d.imported i ok.0);
       lost = λ k. ap (without_number (number l.load)) (inv.lost k);
     }
 
@@ -140,7 +140,7 @@ keep-import m d c inv ok =
       once = λ h k. subst (λ (q : List Waiting). Once (NeverCancels m) d.live q d.ran c) (sym ok.2) (subst (λ (r : List Ran). Once (NeverCancels m) d.live [] r c) (sym empty.0)
           (subst (λ (l : List Live). Once (NeverCancels m) l [] [] c) (sym empty.1) (record { zero = tt; came = λ never. tt; idle = tt; balance = λ n. refl; one = λ n. omega arith })));
       most = inv.most;
-      out = λ h. absurd (not-both h);
+      out = λ h. absurd (true≢false h);
       lost = inv.lost;
     }
 
@@ -154,7 +154,7 @@ keep-left {S = S} m d c inv = go d.imported refl
     left = record d { live = []; queue = map ask_all d.queue; ran = []; streams = no_streams; way = no_way; imported = false }
 
     go : (b : Bool) → d.imported ≡ b → Holds m (cond b left d) c
-    go true e = record { once = λ i k. absurd (not-both (sym i)); most = λ n. omega (arith, inv.most n, count-map (queued_number n) ask_all d.queue); out = λ i. (refl, refl); lost = λ k. refl }
+    go true e = record { once = λ i k. absurd (true≢false (sym i)); most = λ n. omega (arith, inv.most n, count-map (queued_number n) ask_all d.queue); out = λ i. (refl, refl); lost = λ k. refl }
     go false e = inv
 
 pub keep-item : {S : Type 0} (m : Meaning S) (d : Direct S) (c : ℕ → ℕ) (x : Deed) → Holds m d c → IsAllowed m d x → Holds m (act m d x) (counted c x)
@@ -163,7 +163,7 @@ keep-item m d c (Submit r) inv ok = keep-submit m d c r inv ok
 keep-item m d c (Unlink by target) inv ok = record {
   once = λ h k. unlink-once d.live d.queue d.ran c by target (inv.once h k);
   most = λ n. omega (arith, inv.most n, count-map (queued_number n) (marked target) d.queue);
-  out = λ h. absurd (clash d.imported ok h);
+  out = λ h. absurd (both_ways d.imported h ok);
   lost = λ h. ap (λ (l : List Live). map (asked_back by target) (filter (λ y. not (is_taken target y)) l)) (inv.lost h);
 }
 keep-item m d c (Perform ep n) inv ok = keep-perform m d c ep n inv ok
@@ -171,5 +171,5 @@ keep-item m d c (Cancel n) inv ok = keep-cancel m d c n inv ok
 keep-item m d c (Answer n) inv ok = keep-answer m d c n inv ok
 keep-item m d c (Offer ep) inv ok = keep-offer m d c ep (m.offer d.gadget ep) inv
 keep-item m d c (Arrive ep) inv ok = keep-arrive m d c ep (stream_of d.streams ep) (d.way ep) inv
-keep-item m d c Gone inv ok = record { once = λ i k. absurd (not-both k); most = inv.most; out = λ i. absurd (clash d.imported ok.0 i); lost = λ k. refl }
+keep-item m d c Gone inv ok = record { once = λ i k. absurd (true≢false k); most = inv.most; out = λ i. absurd (both_ways d.imported i ok.0); lost = λ k. refl }
 keep-item m d c ClientGone inv ok = keep-left m d c inv

@@ -1,5 +1,5 @@
 -- What holds along a whole legal trace, and what it says where something is performed, answered or lost.
-use Rattle.std.proofs.Common.{◌≡◌, ℕ, ◌≤◌, Bool, true, false, List, [], ◌∷◌, ◌++◌, Option, Some, None, refl, sym, ap, subst, ◌∙◌, arith}
+use Rattle.std.proofs.Common.{◌≡◌, ℕ, ◌≤◌, Bool, true, false, List, [], ◌∷◌, ◌++◌, Option, Some, None, refl, sym, ap, subst, ◌∙◌, arith, true≢false}
 use Rattle.std.specs.Prelude.{slice_get, IsSomeAnd, IsSome}
 use Rattle.std.specs.List.{find}
 use Rattle.std.proofs.lemmas.Bool.{eqb-true}
@@ -13,7 +13,7 @@ use Rattle.direct_device.specs.Legal.{CanAnswerBy, IsAllowed, AreAllowed, acts}
 use Rattle.direct_device.proofs.Counts.{count, any-some, itself, Each-and}
 use Rattle.direct_device.specs.Performed.{times_performed, NeverCancels, FitsPerform}
 use Rattle.direct_device.proofs.Once.{was_performed, counted, counts-on, queued_number, done, by_id, live_number, ran_number, Idle, Once, Holds, found-zero, by-id-number}
-use Rattle.direct_device.proofs.Taken.{weight, weight-true, not-both, find-passes, count-taken}
+use Rattle.direct_device.proofs.Taken.{weight, weight-true, find-passes, count-taken}
 use Rattle.direct_device.proofs.OnceItems.{keep-item}
 
 -- ---- a whole trace
@@ -24,7 +24,7 @@ keep-all m (x ∷ xs) d c inv ok =
     subst (λ (f : ℕ → ℕ). Holds m (acts m (act m d x) xs) f) (λ i n. counts-on c x xs n i) (keep-all m xs (act m d x) (counted c x) (keep-item m d c x inv ok.0) ok.1)
 
 pub legal-once : {S : Type 0} (m : Meaning S) (s : S) (deeds : List Deed) → AreAllowed m (first_direct s) deeds → Holds m (acts m (first_direct s) deeds) (λ n. times_performed n 0 deeds)
-legal-once m s deeds ok = keep-all m deeds (first_direct s) (λ n. 0) (record { once = λ i k. absurd (not-both (sym i)); most = λ n. omega arith; out = λ i. (refl, refl); lost = λ k. refl }) ok
+legal-once m s deeds ok = keep-all m deeds (first_direct s) (λ n. 0) (record { once = λ i k. absurd (true≢false (sym i)); most = λ n. omega arith; out = λ i. (refl, refl); lost = λ k. refl }) ok
 
 pub allowed-front : {S : Type 0} (m : Meaning S) (xs ys : List Deed) (d : Direct S) → AreAllowed m d (xs ++ ys) → AreAllowed m d xs
 allowed-front m [] ys d h = tt

@@ -2,7 +2,7 @@
 use Rattle.std.proofs.Common.{◌≡◌, ℕ, ◌+◌, ◌≤◌, ◌==◌, Bool, true, false, cond, not, List, [], ◌∷◌, ◌++◌, map, Some, length, take, unwrap_or, slice_index, refl, sym, ap, ◌∙◌, arith}
 use Rattle.std.specs.Prelude.{filter}
 use Rattle.std.specs.List.{find}
-use Rattle.std.proofs.lemmas.Bool.{eqb-true}
+use Rattle.std.proofs.lemmas.Bool.{eqb-true, and_parts}
 use Rattle.usb_base.specs.Status.{is_success}
 use Rattle.usb_base.specs.declared.transfer.Outcome.{Outcome}
 use Rattle.control_route.specs.declared.route.Route.{Route}
@@ -20,7 +20,7 @@ use Rattle.gate_history.specs.write.Packets.{no_setup}
 use Rattle.direct_device.specs.Direct.{Live, Waiting, Ran, number, is_number, is_at, without_first, cancelled, seen_by}
 use Rattle.direct_device.specs.Acting.{Perform, is_taken, asked_back, marked, is_cancelled_by, without_number}
 use Rattle.direct_device.proofs.Counts.{count, count-append, count-map, zero-count, itself, Each-map, Each-and, count-parts}
-use Rattle.direct_device.proofs.Taken.{weight, weight-true, weight-false, and-parts, away, count-same, count-taken, find-passes, filter-only, Each-without, Each-find}
+use Rattle.direct_device.proofs.Taken.{weight, weight-true, weight-false, away, count-same, count-taken, find-passes, filter-only, Each-without, Each-find}
 use Rattle.direct_device.proofs.Once.{counted, done, by_id, live_number, queued_number, ran_number, Idle, Once, without_id, by-id-number, wait-by_id, passed}
 
 -- ---- an unlink
@@ -39,7 +39,7 @@ unlink-once live queue ran c by target o = record {
     left = filter (λ l. not (is_taken target l)) live
 
     fewer : (k : ℕ) → count (by_id k) left ≡ count (by_id k) live
-    fewer k = count-same (by_id k) (is_taken target) (λ l h. wait-by_id k l (and-parts (is_waiting l.load.verdict) (is_number target l.load) h).0) live
+    fewer k = count-same (by_id k) (is_taken target) (λ l h. wait-by_id k l (and_parts (is_waiting l.load.verdict) (is_number target l.load) h).0) live
 
 -- ---- a perform
 

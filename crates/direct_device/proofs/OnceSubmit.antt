@@ -1,5 +1,5 @@
 -- A submit keeps what holds.
-use Rattle.std.proofs.Common.{◌≡◌, ℕ, ◌+◌, ◌≤◌, ◌==◌, Bool, true, false, cond, not, List, [], ◌∷◌, ◌++◌, Option, Some, None, refl, sym, ap, subst, ◌∙◌, arith, append-nil}
+use Rattle.std.proofs.Common.{◌≡◌, ℕ, ◌+◌, ◌≤◌, ◌==◌, Bool, true, false, cond, not, List, [], ◌∷◌, ◌++◌, Option, Some, None, refl, sym, ap, subst, ◌∙◌, arith, append-nil, true≢false}
 use Rattle.std.specs.Prelude.{filter}
 use Rattle.std.specs.List.{list_any}
 use Rattle.std.proofs.lemmas.Bool.{eqb-true}
@@ -15,21 +15,21 @@ use Rattle.gate_history.specs.step.Meaning.{by_stream}
 use Rattle.direct_device.specs.Direct.{Load, Live, Waiting, Ran, number}
 use Rattle.direct_device.specs.Acting.{Submit, is_ended, joins_live, joins_queue}
 use Rattle.direct_device.proofs.Counts.{count, count-append, any-none, count-zero, zero-count, itself, Each-and, count-parts}
-use Rattle.direct_device.proofs.Taken.{weight, weight-true, weight-false, not-both, away, count-same}
+use Rattle.direct_device.proofs.Taken.{weight, weight-true, weight-false, away, count-same}
 use Rattle.direct_device.proofs.Once.{counted, done, by_id, live_number, queued_number, ran_number, Idle, Once, by-id-number, wait-by_id, reset}
 
 -- ---- a submit
 
 -- only one that waits is ended by another
 ended-waits : (v w : Verdict) → ends_by_change v w ≡ true → is_waiting w ≡ true
-ended-waits (Now status) w h = absurd (not-both (sym h))
-ended-waits (Wire pipe) w h = absurd (not-both (sym h))
-ended-waits (IsoOut row) w h = absurd (not-both (sym h))
-ended-waits (Stream row) w h = absurd (not-both (sym h))
-ended-waits (Routed route) (Now status) h = absurd (not-both (sym h))
-ended-waits (Routed route) (Wire pipe) h = absurd (not-both (sym h))
-ended-waits (Routed route) (Routed other) h = absurd (not-both (sym h))
-ended-waits (Routed route) (IsoOut row) h = absurd (not-both (sym h))
+ended-waits (Now status) w h = absurd (true≢false (sym h))
+ended-waits (Wire pipe) w h = absurd (true≢false (sym h))
+ended-waits (IsoOut row) w h = absurd (true≢false (sym h))
+ended-waits (Stream row) w h = absurd (true≢false (sym h))
+ended-waits (Routed route) (Now status) h = absurd (true≢false (sym h))
+ended-waits (Routed route) (Wire pipe) h = absurd (true≢false (sym h))
+ended-waits (Routed route) (Routed other) h = absurd (true≢false (sym h))
+ended-waits (Routed route) (IsoOut row) h = absurd (true≢false (sym h))
 ended-waits (Routed route) (Stream row) h = refl
 
 joins-same : (m : ℕ) (r : Request) (v : Verdict) → count (queued_number m) (joins_queue (record { request = r; verdict = v })) ≡ count (by_id m) (joins_live (record { request = r; verdict = v }) v)

@@ -1,9 +1,9 @@
 -- What the answers of a legal trace say of its performs.
 use Rattle.stream_buffers.specs.Fillings.{is_failed}
-use Rattle.std.proofs.Common.{◌≡◌, ℕ, ◌&&◌, ◌||◌, Bool, true, false, cond, List, [], ◌∷◌, Option, Some, None, refl, sym, ap, subst, ◌∙◌}
+use Rattle.std.proofs.Common.{◌≡◌, ℕ, ◌&&◌, ◌||◌, Bool, true, false, cond, List, [], ◌∷◌, Option, Some, None, refl, sym, ap, subst, ◌∙◌, true≢false}
 use Rattle.std.specs.Prelude.{pos, not, nat_lt, slice_get, ◌==◌, ◌%◌}
 use Rattle.std.specs.List.{find, list_any}
-use Rattle.std.proofs.lemmas.Bool.{eqb-true}
+use Rattle.std.proofs.lemmas.Bool.{eqb-true, both_ways, and_parts}
 use Rattle.usb_base.specs.declared.status.UsbStatus.{UsbStatus}
 use Rattle.usb_base.specs.declared.status.UsbStatus.TheVariants.{Cancelled}
 use Rattle.usb_base.specs.declared.transfer.Outcome.{Outcome}
@@ -22,13 +22,12 @@ use Rattle.direct_device.specs.Acting.{Deed, Import, Submit, Unlink, Perform, Ca
 use Rattle.direct_device.specs.Legal.{IsAllowed, acts}
 use Rattle.direct_device.specs.Performed.{times_performed, NeverCancels, is_won, is_good, FitsEnd, Fits, ItemsFit}
 use Rattle.direct_device.proofs.Once.{was_performed, live_number, Idle, Holds, waits-no_id, id-no_wait}
-use Rattle.direct_device.proofs.Taken.{not-both, clash, and-parts}
 use Rattle.direct_device.proofs.OnceLegal.{legal-once, allowed-front, allowed-back, answer-once, again-once, loss-once}
 
 -- ---- an unlink that takes a submit back at once
 
 any-each : {X : Type 0} (P : X → Type 0) (p : X → Bool) (Q : Type 0) → ((x : X) → P x → p x ≡ true → Q) → (xs : List X) → Each P xs → list_any p xs ≡ true → Q
-any-each P p Q h [] e some = absurd (not-both (sym some))
+any-each P p Q h [] e some = absurd (true≢false (sym some))
 any-each P p Q h (x ∷ xs) e some = go (p x) refl (any-each P p Q h xs e.1) some
   where
     go : (b : Bool) → p x ≡ b → (list_any p xs ≡ true → Q) → (b || list_any p xs) ≡ true → Q
@@ -47,7 +46,7 @@ taken-once m d c by n inv inside told = any-each (Idle c) (is_taken n) (c n ≡ 
   where
     zero : (l : Live) → Idle c l → is_taken n l ≡ true → c n ≡ 0
     zero l idle is =
-        let parts = and-parts (is_waiting l.load.verdict) (is_number n l.load) is in
+        let parts = and_parts (is_waiting l.load.verdict) (is_number n l.load) is in
         ap c (sym (eqb-true (number l.load) n parts.1)) ∙ idle (waits-no_id l.load.verdict parts.0)
 
     taken : (a b : Bool) → list_any is_won (cond a (ret_unlink by ECONNRESET ∷ []) (cond b [] (ret_unlink by (pos 0) ∷ []))) ≡ true → a ≡ true
@@ -68,20 +67,20 @@ filled-alone l (Some cut) = go cut.gives
 
 -- only of one that was cancelled it is told that its unlink won
 won-cancelled : (s : Submission) (o : Outcome) (unlinker : Option ℕ) → list_any is_won (answers_by s o unlinker) ≡ true → is_cancelled o.status ≡ true
-won-cancelled s o None e = absurd (not-both (sym e))
+won-cancelled s o None e = absurd (true≢false (sym e))
 won-cancelled s o (Some own) e = go (is_wire s.verdict && is_cancelled o.status) refl e
   where
     go : (b : Bool) → (is_wire s.verdict && is_cancelled o.status) ≡ b → list_any is_won (cond b (ret_unlink own ECONNRESET ∷ []) (with_outcome s.request o ∷ ret_unlink own (pos 0) ∷ [])) ≡ true → is_cancelled o.status ≡ true
-    go true is k = (and-parts (is_wire s.verdict) (is_cancelled o.status) is).1
-    go false is k = absurd (not-both (sym k))
+    go true is k = (and_parts (is_wire s.verdict) (is_cancelled o.status) is).1
+    go false is k = absurd (true≢false (sym k))
 
 -- and of no such one, that it was done
 good-done : (r : Request) (o : Outcome) → is_good (with_outcome r o) ≡ true → is_cancelled o.status ≡ false
 good-done r o = go o.status
   where
     short : (b : Bool) → not (is_failed (cond b EREMOTEIO ECONNRESET)) ≡ true → ⊥
-    short true e = not-both (sym e)
-    short false e = not-both (sym e)
+    short true e = true≢false (sym e)
+    short false e = true≢false (sym e)
 
     go : (status : UsbStatus) → is_good (with_outcome r (record { status = status; done = o.done; body = o.body })) ≡ true → is_cancelled status ≡ false
     go Cancelled e = absurd (short (r.is_in && none_of r.descs && not (is_failed ECONNRESET) && nat_lt o.done r.transfer.wanted && fails_if_short r.flags) e)
@@ -100,7 +99,7 @@ good-done_by s o (Some own) e = go (is_wire s.verdict && is_cancelled o.status) 
     alone false h = h
 
     go : (b : Bool) → list_any is_good (cond b (ret_unlink own ECONNRESET ∷ []) (with_outcome s.request o ∷ ret_unlink own (pos 0) ∷ [])) ≡ true → is_cancelled o.status ≡ false
-    go true k = absurd (not-both (sym k))
+    go true k = absurd (true≢false (sym k))
     go false k = good-done s.request o (alone (is_good (with_outcome s.request o)) k)
 
 -- the answers of one that doesn't wait
@@ -115,7 +114,7 @@ won-once m never d c n l inv ok found told = go (is_waiting l.load.verdict) refl
     ran (Some r) e = ap (λ (b : Bool). cond b 0 1) (won-cancelled (as_submission l.load) r.outcome l.unlinker e)
 
     go : (b : Bool) → is_waiting l.load.verdict ≡ b → list_any is_won (cond b (filled_answers l.load (cut_for d l.load)) (ran_answers l (slice_get d.ran 0))) ≡ true → c n ≡ 0
-    go true waits e = absurd (clash (list_any is_won (filled_answers l.load (cut_for d l.load))) e (filled-alone l.load (cut_for d l.load)))
+    go true waits e = absurd (both_ways (list_any is_won (filled_answers l.load (cut_for d l.load))) (filled-alone l.load (cut_for d l.load)) e)
     go false waits e = answer-once m never d c n l inv found waits ok ∙ ran (slice_get d.ran 0) e
 
 good-once : {S : Type 0} (m : Meaning S) → NeverCancels m → (d : Direct S) (c : ℕ → ℕ) (n : ℕ) (l : Live) → Holds m d c → IsAllowed m d (Answer n) → find (live_number n) d.live ≡ Some l → goes_by_id l.load.verdict ≡ true → list_any is_good (answers_of d (Some l)) ≡ true → c n ≡ 1
@@ -126,7 +125,7 @@ good-once m never d c n l inv ok found goes told =
     waits = id-no_wait l.load.verdict goes
 
     ran : (r : Option Ran) → list_any is_good (ran_answers l r) ≡ true → was_performed r ≡ 1
-    ran None e = absurd (not-both (sym e))
+    ran None e = absurd (true≢false (sym e))
     ran (Some r) e = ap (λ (b : Bool). cond b 0 1) (good-done_by (as_submission l.load) r.outcome l.unlinker e)
 
 -- ---- each item

@@ -1,5 +1,5 @@
 -- What a test counts in lists of which something is taken.
-use Rattle.std.proofs.Common.{◌≡◌, ℕ, ◌+◌, ◌≤◌, ◌&&◌, Bool, true, false, cond, not, eqb, List, [], ◌∷◌, Some, refl, sym, ap, subst, ◌∙◌, arith}
+use Rattle.std.proofs.Common.{◌≡◌, ℕ, ◌+◌, ◌≤◌, Bool, true, false, cond, not, eqb, List, [], ◌∷◌, Some, refl, sym, ap, subst, ◌∙◌, arith}
 use Rattle.std.specs.Prelude.{filter}
 use Rattle.std.specs.List.{find}
 use Rattle.gate_history.proofs.lemmas.Lists.{Each}
@@ -14,16 +14,6 @@ weight-true b e = ap weight e
 
 pub weight-false : (b : Bool) → b ≡ false → weight b ≡ 0
 weight-false b e = ap weight e
-
-pub not-both : true ≡ false → ⊥
-not-both e = cc
-
-pub clash : (b : Bool) → b ≡ true → b ≡ false → ⊥
-clash b h k = not-both (sym h ∙ k)
-
-pub and-parts : (a b : Bool) → (a && b) ≡ true → (a ≡ true) × (b ≡ true)
-and-parts true b h = (refl, h)
-and-parts false b h = absurd (not-both (sym h))
 
 pub away : (n k : ℕ) → eqb n k ≡ false → eqb k n ≡ false
 away n k h = grind arith

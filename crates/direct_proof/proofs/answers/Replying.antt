@@ -1,6 +1,7 @@
 -- The gateway reads an answer, a change's or another's: it ends its submit, or what a former client left.
-use Rattle.std.proofs.Common.{◌≡◌, ℕ, ◌==◌, ◌||◌, not, Bool, true, false, cond, List, [], ◌∷◌, ◌++◌, map, filter, Option, is_some, refl, sym, ap, ◌∙◌, subst, append-nil}
+use Rattle.std.proofs.Common.{◌≡◌, ℕ, ◌==◌, ◌||◌, not, Bool, true, false, cond, List, [], ◌∷◌, ◌++◌, map, filter, Option, is_some, refl, sym, ap, ◌∙◌, subst, append-nil, true≢false}
 use Rattle.std.specs.List.{list_any, flat_map}
+use Rattle.std.proofs.lemmas.Bool.{both_ways}
 use Rattle.usbip_urb.specs.declared.client.ClientPacket.TheVariants.{Urb}
 use Rattle.redir_data.specs.declared.packet.RedirPacket.{RedirPacket}
 use Rattle.model_device.specs.Meaning.{Meaning}
@@ -32,7 +33,6 @@ use Rattle.direct_proof.proofs.answers.Answering.{pending_has, live-left, answer
 use Rattle.direct_proof.proofs.answers.Answered.{IsDeed, reads-answer, reads-moved, answer_mark, with_back, way-read}
 use Rattle.direct_proof.proofs.shared.Found.{none-named}
 use Rattle.direct_proof.proofs.shared.Backs.{early-greets, farewell-read, session-read}
-use Rattle.direct_proof.proofs.shared.Folds.{clash, not-both}
 use Rattle.direct_proof.proofs.shared.Streaming.{controls-read, fenced-read}
 use Rattle.direct_proof.proofs.shared.Sending.{TellsLittle, answer-tells}
 use Rattle.direct_proof.proofs.shared.Debts.{load-waits, filter-append, debts-left, IsFor, is-for, IsLiveFor, is-live-for}
@@ -107,7 +107,7 @@ module _ {S : Type 0} (m : Meaning S) (w : World S) (j : Shared) (place : ℕ) (
     ids = ids-answer j.debts w.submits (j.held ++ j.coming) (runs_in bs) c ids;
     real = Each-filter (λ (d : Debt). (d.id == 0) ≡ false) (λ (d : Debt). not (d.id == c.id)) j.debts rel.real;
     runs_at_in = rel.runs_at_in;
-    before = λ h. absurd (not-both (sym (early-greets (Answered c) bs (rel.before h).back)));
+    before = λ h. absurd (true≢false (sym (early-greets (Answered c) bs (rel.before h).back)));
     asked = rel.asked;
     meets = record {
       host = rel.meets.host;
@@ -127,7 +127,7 @@ module _ {S : Type 0} (m : Meaning S) (w : World S) (j : Shared) (place : ℕ) (
     session = λ h a. session-read m w j (Answered c) bs (rel.session there (ap (λ (b : Bool). b || list_any is_plug bs) (sym known) ∙ a));
     ups = rel.ups;
     down = rel.down;
-    lost = λ h. absurd (clash st.lost h there);
+    lost = λ h. absurd (both_ways st.lost there h);
     sides = rel.sides;
     farewell = farewell-read w.host (Answered c) bs rel.farewell;
   }

@@ -1,6 +1,7 @@
 -- Each move that bytes can make keeps what is shared, and does as the device attached directly does.
-use Rattle.std.proofs.Common.{◌≡◌, ℕ, ◌≤◌, Bool, true, false, List, [], ◌∷◌, map, Option, Some, None, is_some, refl, sym, ap, ◌∙◌, subst, arith}
+use Rattle.std.proofs.Common.{◌≡◌, ℕ, ◌≤◌, Bool, true, false, List, [], ◌∷◌, map, Option, Some, None, is_some, refl, sym, ap, ◌∙◌, subst, arith, true≢false}
 use Rattle.std.specs.List.{AllByRecursion as Each}
+use Rattle.std.proofs.lemmas.Bool.{both_ways}
 use Rattle.usb_base.specs.Endpoint.{is_in_endpoint}
 use Rattle.usbip_op.specs.declared.packet.OpPacket.TheVariants as op
 use Rattle.usbip_op.specs.declared.packet.OpWay.TheVariants.{Reply, Request}
@@ -35,7 +36,6 @@ use Rattle.direct_proof.specs.Runs.{IsRun}
 use Rattle.direct_proof.specs.Shared.{Shared}
 use Rattle.direct_proof.proofs.streams.Kinds.{HearsSwitch, MovesStreams, ReadsStream}
 use Rattle.direct_proof.specs.Tagged.{Tagged, Greeted, Plugged, ToldTable, ToldFaces, Answered, Packed, Stated, Bye, on_wire}
-use Rattle.direct_proof.proofs.shared.Folds.{clash, not-both}
 use Rattle.direct_proof.proofs.shared.Keeps.{Keeps}
 use Rattle.direct_proof.proofs.races.Schedules.{keep-race}
 use Rattle.direct_proof.proofs.streams.StreamMoves.{keep-stream}
@@ -47,9 +47,9 @@ no-reply h = cc
 -- ---- a route that is no change ends no stream
 
 untouched : (x : Route) → is_change x ≡ false → (i : ℕ) → touches x i ≡ false
-untouched (route.SetConfig c) h i = absurd (not-both h)
-untouched (route.SetAlt n a) h i = absurd (not-both h)
-untouched route.Reset h i = absurd (not-both h)
+untouched (route.SetConfig c) h i = absurd (true≢false h)
+untouched (route.SetAlt n a) h i = absurd (true≢false h)
+untouched route.Reset h i = absurd (true≢false h)
 untouched _ h i = refl
 
 ends-none : (st : State) (x : Route) → is_change x ≡ false → EndsNone st x
@@ -84,8 +84,8 @@ module _ {S : Type 0} (m : Meaning S) (laws : IsGadget m) (w : World S) (j : Sha
       where
         go : (a : Bool) → w.gate.imported ≡ a → (b : Bool) → has_number w.gate s.head.seqnum ≡ b → Keeps m w j (move m w (ByClient (Asked place (Urb (urb.Submit s)))))
         go true inside false new = keep-stream m laws w j (ByClient (Asked place (Urb (urb.Submit s)))) (inside, record { read = read; new = new; verdict = v; verdict-is = e; moves = moves }) run rel
-        go true inside true taken = keep-race m laws w j (ByClient (Asked place (Urb (urb.Submit s)))) (record { read = read; new = λ a b. absurd (clash (has_number w.gate s.head.seqnum) taken b) }) run rel
-        go false out b n = keep-race m laws w j (ByClient (Asked place (Urb (urb.Submit s)))) (record { read = read; new = λ a b. absurd (clash w.gate.imported a out) }) run rel
+        go true inside true taken = keep-race m laws w j (ByClient (Asked place (Urb (urb.Submit s)))) (record { read = read; new = λ a b. absurd (both_ways (has_number w.gate s.head.seqnum) b taken) }) run rel
+        go false out b n = keep-race m laws w j (ByClient (Asked place (Urb (urb.Submit s)))) (record { read = read; new = λ a b. absurd (both_ways w.gate.imported out a) }) run rel
 
     keep-any-submit : Keeps m w j (move m w (ByClient (Asked place (Urb (urb.Submit s)))))
     keep-any-submit = go (verdict_of w.gate (request_of s)) refl

@@ -13,6 +13,7 @@ use Rattle.gate_history.specs.state.State.{State, next_ids}
 use Rattle.gate_history.specs.client.Submits.{Pending}
 use Rattle.gate_history.specs.state.Ups.{Up, is_ended, no_streams}
 use Rattle.std.specs.List.{last_or}
+use Rattle.std.proofs.lemmas.Bool.{both_ways}
 use Rattle.gate_history.specs.state.StreamIds.{stream_ids_after}
 use Rattle.gate_history.specs.state.Ids.{last_of}
 use Rattle.gate_history.specs.write.Packets.{stops}
@@ -30,7 +31,6 @@ use Rattle.direct_proof.proofs.leaving.Left.{leaving-made, left_world}
 use Rattle.direct_proof.proofs.leaving.Leaving.{keep-gone}
 use Rattle.direct_proof.proofs.races.Gates.{run-sound}
 use Rattle.direct_proof.proofs.shared.Counted.{counted_world, counted-related}
-use Rattle.direct_proof.proofs.shared.Folds.{clash}
 use Rattle.direct_proof.proofs.shared.Keeps.{Keeps, keeps-deed, keeps-quiet}
 
 module _ {S : Type 0} (m : Meaning S) (w : World S) (j : Shared) (rel : Related m w j) (run : IsRun w.gate) where
@@ -91,7 +91,7 @@ module _ {S : Type 0} (m : Meaning S) (w : World S) (j : Shared) (rel : Related 
   still-on inside = go st.client_over refl
     where
       go : (b : Bool) → st.client_over ≡ b → b ≡ false
-      go true h = absurd (clash st.imported inside (rel.sides.refused h))
+      go true h = absurd (both_ways st.imported (rel.sides.refused h) inside)
       go false h = refl
 
   keep-parting : (e : Effect) → ClientGoes st e → Keeps m w j (gate_made w (mark_as st e None))

@@ -1,5 +1,6 @@
 -- The host reads a packet of the gateway: all that ask it for transfers, and all cancels.
 use Rattle.std.proofs.Common.{◌≡◌, ℕ, false, List, [], ◌∷◌, is_some, refl, ap, ◌∙◌}
+use Rattle.std.proofs.lemmas.Bool.{both_ways}
 use Rattle.redir_wire.specs.declared.packet.RedirControl.TheVariants as plain
 use Rattle.redir_data.specs.declared.packet.RedirPacket.{RedirPacket}
 use Rattle.redir_data.specs.declared.packet.RedirPacket.TheVariants.{Plain}
@@ -11,7 +12,6 @@ use Rattle.direct_proof.specs.Related.{Related}
 use Rattle.direct_proof.specs.Cancels.{IsAsking}
 use Rattle.direct_proof.specs.Running.{stream_endpoint}
 use Rattle.direct_proof.proofs.heard.Hears.{Heard, Joins, Resetting, Cancelling, Switching, Ignored, heard}
-use Rattle.direct_proof.proofs.shared.Folds.{clash}
 use Rattle.direct_proof.proofs.heard.Listening.{greeted, keep-joined}
 use Rattle.direct_proof.proofs.heard.Ignoring.{keep-ignored, keep-reset}
 use Rattle.direct_proof.proofs.heard.Taking.{keep-cancel}
@@ -35,5 +35,5 @@ keep-reads-asked {S = S} m w j (p ∷ ps) rel wire calm = go (heard m w.host p a
     go (Joins f t line begin quiet changed host) = keep-joined m w j p ps f t rel wire asks first line begin quiet changed host
     go (Resetting is) = keep-reset m w j p.0 ps rel (named (Plain plain.Reset) is) first
     go (Cancelling is) = keep-cancel m w j p.0 ps rel (named (Plain plain.Cancel) is) first
-    go (Switching is) = absurd (clash (is_some (stream_endpoint p.1)) is (calm p ps refl).1)
+    go (Switching is) = absurd (both_ways (is_some (stream_endpoint p.1)) (calm p ps refl).1 is)
     go (Ignored line begin quiet changed host) = keep-ignored m w j p ps rel wire asks first line begin quiet changed (λ h. host)

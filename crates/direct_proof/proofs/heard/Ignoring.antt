@@ -1,5 +1,7 @@
 -- The host reads what leaves its queue alone: half a reset, and what it does nothing about.
 use Rattle.std.proofs.Common.{◌≡◌, ℕ, ◌||◌, Bool, true, false, List, [], ◌∷◌, ◌++◌, Option, None, refl, sym, ap, ◌∙◌}
+use Rattle.std.proofs.lemmas.Bool.{both_ways, or_right}
+use Rattle.std.proofs.Math.Bool.{or-false}
 use Rattle.redir_wire.specs.declared.packet.RedirControl.TheVariants as plain
 use Rattle.redir_data.specs.declared.packet.RedirPacket.{RedirPacket}
 use Rattle.redir_data.specs.declared.packet.RedirPacket.TheVariants.{Plain}
@@ -13,7 +15,7 @@ use Rattle.direct_proof.specs.Shared.{Shared, in_line, lines, half_line, at_host
 use Rattle.direct_proof.specs.Related.{Related}
 use Rattle.direct_proof.specs.Cancels.{IsAsking, begins, any_change}
 use Rattle.direct_proof.specs.Stale.{asks}
-use Rattle.direct_proof.proofs.shared.Folds.{clash, or-right, or-false, no-second}
+use Rattle.direct_proof.proofs.shared.Folds.{no-second}
 use Rattle.direct_proof.proofs.shared.Streaming.{IsQuiet}
 use Rattle.direct_proof.proofs.heard.Listening.{host-reads, read_world, after-heard, cancels-heard}
 use Rattle.direct_proof.proofs.shared.Keeps.{Keeps, keeps-quiet}
@@ -40,7 +42,7 @@ keep-ignored {S = S} m w j p ps rel wire k first line begin calm asked host = ke
     (ap (λ (b : Bool). (any_change j.held || j.half) || b) (asked None) ∙ or-false (any_change j.held || j.half)) rel.line.half) refl
   where
     go : (b : Bool) → w.host.unplugged ≡ b → move m w HostReads ≡ quiet (record w { to_host = ps; to_gate = w.to_gate ++ []; host = w.host })
-    go true off = host-reads m w p ps w.host wire k true off (λ z. absurd (clash true refl z))
+    go true off = host-reads m w p ps w.host wire k true off (λ z. absurd (both_ways true z refl))
     go false on = host-reads m w p ps w.host wire k false on (λ z. host on)
 
 -- ---- the packet of a reset
@@ -62,12 +64,12 @@ keep-reset {S = S} m w j id ps rel wire first = go w.host.unplugged refl
     coming = ap (λ (b : Bool). half_line b ++ Reset ∷ lines ps) (sym (none j.half refl)) ∙ whole
 
     changed : ((any_change j.held || j.half) || true) ≡ (any_change j.held || true)
-    changed = or-right (any_change j.held || j.half) true refl ∙ sym (or-right (any_change j.held) true refl)
+    changed = or_right (any_change j.held || j.half) true refl ∙ sym (or_right (any_change j.held) true refl)
 
     go : (b : Bool) → w.host.unplugged ≡ b → Keeps m w j (move m w HostReads)
     go true off = keeps-quiet m w j (record j { half = true }) (move m w HostReads) (read_world w ps w.host.queue w.host.resets_next)
-        (host-reads m w p ps w.host wire tt true off (λ z. absurd (clash true refl z)))
-        (after-silent m w j p ps true w.host.resets_next rel wire first refl (refl, refl, λ ep b. refl) coming changed (λ h. absurd (clash w.host.unplugged off h))) refl
+        (host-reads m w p ps w.host wire tt true off (λ z. absurd (both_ways true z refl)))
+        (after-silent m w j p ps true w.host.resets_next rel wire first refl (refl, refl, λ ep b. refl) coming changed (λ h. absurd (both_ways w.host.unplugged h off))) refl
     go false on = keeps-quiet m w j (record j { half = true }) (move m w HostReads) (read_world w ps w.host.queue true)
         (host-reads m w p ps (record w.host { resets_next = true }) wire tt false on (λ z. refl))
         (after-silent m w j p ps true true rel wire first refl (refl, refl, λ ep b. refl) coming changed (λ h. refl)) refl

@@ -1,6 +1,8 @@
 -- The host reads what asks it for a transfer, or the reset before it: it joins its queue as it stands there.
 use Rattle.std.proofs.Common.{◌≡◌, ℕ, ◌||◌, Bool, true, false, cond, List, [], ◌∷◌, ◌++◌, map, Option, None, refl, sym, ap, ◌∙◌, subst, append-nil, append_assoc}
 use Rattle.std.specs.List.{AllByRecursion as Each}
+use Rattle.std.proofs.lemmas.Bool.{both_ways}
+use Rattle.std.proofs.lemmas.List.Folds.{list_any-append}
 use Rattle.usb_base.specs.declared.transfer.Transfer.{Transfer}
 use Rattle.redir_data.specs.declared.packet.RedirPacket.{RedirPacket}
 use Rattle.redir_data.specs.Streams.{advanced}
@@ -26,7 +28,7 @@ use Rattle.direct_proof.specs.Running.{Quits, Trails, StartsFit, started_kind, s
 use Rattle.direct_proof.specs.Kinds.{StartOfKind, StreamIsIn}
 use Rattle.direct_proof.specs.Session.{down_in, runs}
 use Rattle.direct_proof.specs.StreamIds.{Fenced, Controls}
-use Rattle.direct_proof.proofs.shared.Folds.{clash, any-append, Next, next-line}
+use Rattle.direct_proof.proofs.shared.Folds.{Next, next-line}
 use Rattle.direct_proof.proofs.shared.Streaming.{IsQuiet, controls-heard, fenced-heard}
 use Rattle.direct_proof.proofs.heard.Hears.{not-greeting, form_changes, change-form, joined}
 use Rattle.direct_proof.proofs.shared.Traces.{map-append}
@@ -95,7 +97,7 @@ after-heard m w j p ps queue next held half coming rel wire first calm h = recor
   ids = subst (λ (l : List Entry). Ids j.debts w.submits l (runs_in j.back)) h.same rel.ids;
   real = rel.real;
   runs_at_in = rel.runs_at_in;
-  before = λ k. absurd (clash w.host.guest.first k first);
+  before = λ k. absurd (both_ways w.host.guest.first first k);
   asked = λ k. (subst (Each (λ (q : ℕ × RedirPacket). IsAsking q.1)) wire (rel.asked k)).1;
   meets = rel.meets;
   debts = rel.debts;
@@ -143,7 +145,7 @@ after-joined {S = S} m w j p ps f t queue next rel wire first begin calm asked n
     is-change = (λ i. sym n.reset i || (asked None ∙ ap form_changes n.same_form) i) ∙ sym (change-form n.entry.load.request n.entry.load.verdict)
 
     changed : ((any_change j.held || j.half) || asks None p) ≡ (any_change (j.held ++ n.entry ∷ []) || false)
-    changed = sums (any_change j.held) j.half (asks None p) ∙ (λ i. (any_change j.held || (is-change i || false)) || false) ∙ ap (λ (b : Bool). b || false) (sym (any-append is_change j.held (n.entry ∷ [])))
+    changed = sums (any_change j.held) j.half (asks None p) ∙ (λ i. (any_change j.held || (is-change i || false)) || false) ∙ ap (λ (b : Bool). b || false) (sym (list_any-append is_change j.held (n.entry ∷ [])))
 
 pub keep-joined : {S : Type 0} (m : Meaning S) (w : World S) (j : Shared) (p : ℕ × RedirPacket) (ps : List (ℕ × RedirPacket)) (f : Form) (t : Transfer) → Related m w j → w.to_host ≡ p ∷ ps → IsAsking p.1 → w.host.guest.first ≡ false →
     in_line p ≡ Waits 0 p.0 f t ∷ [] → begins p.1 ≡ true → IsQuiet p → ((fence : Option ℕ) → asks fence p ≡ form_changes f) → packet_move_by m w.host p.0 p.1 ≡ joins w.host p.0 f t → Keeps m w j (move m w HostReads)
@@ -166,9 +168,9 @@ keep-joined {S = S} m w j p ps f t rel wire k first line begin calm asked host =
 
     go : (b : Bool) → w.host.unplugged ≡ b → Keeps m w j (move m w HostReads)
     go true off = keeps-quiet m w j later (move m w HostReads) (read_world w ps w.host.queue w.host.resets_next)
-        (host-reads m w p ps w.host wire k true off (λ z. absurd (clash true refl z)))
+        (host-reads m w p ps w.host wire k true off (λ z. absurd (both_ways true z refl)))
         (after-joined m w j p ps f t w.host.queue w.host.resets_next rel wire first begin calm asked n
-        (rel.line.held ∙ ap (λ (b : Bool). cond b [] (map at_queue j.held)) off ∙ ap (λ (b : Bool). cond b [] (map at_queue (j.held ++ e ∷ []))) (sym off)) (λ h. absurd (clash w.host.unplugged off h)))
+        (rel.line.held ∙ ap (λ (b : Bool). cond b [] (map at_queue j.held)) off ∙ ap (λ (b : Bool). cond b [] (map at_queue (j.held ++ e ∷ []))) (sym off)) (λ h. absurd (both_ways w.host.unplugged h off)))
         (waits w)
     go false on = keeps-quiet m w j later (move m w HostReads) (read_world w ps (w.host.queue ++ at_queue e ∷ []) false)
         (host-reads m w p ps (record w.host { queue = w.host.queue ++ at_queue e ∷ []; resets_next = false }) wire k false on

@@ -1,6 +1,7 @@
 -- The request that a cancel takes off the queue, at the host and at the device attached directly.
-use Rattle.std.proofs.Common.{◌≡◌, ℕ, ◌==◌, ◌&&◌, not, Bool, true, false, cond, List, [], ◌∷◌, ◌++◌, map, Some, None, refl, sym, ap, ◌∙◌, arith, inl, inr, ◌⊎◌}
+use Rattle.std.proofs.Common.{◌≡◌, ℕ, ◌==◌, ◌&&◌, not, Bool, true, false, cond, List, [], ◌∷◌, ◌++◌, map, Some, None, refl, sym, ap, ◌∙◌, arith, inl, inr, ◌⊎◌, true≢false}
 use Rattle.std.specs.List.{find, list_any, AllByRecursion as Each}
+use Rattle.std.proofs.lemmas.Bool.{and_parts}
 use Rattle.usb_base.specs.declared.transfer.Outcome.{Outcome}
 use Rattle.control_route.specs.declared.route.Route.TheVariants as route
 use Rattle.model_device.specs.Meaning.{Meaning}
@@ -20,7 +21,6 @@ use Rattle.direct_proof.specs.Loads.{IsLoad, FitsVerdict}
 use Rattle.direct_proof.specs.Ids.{count}
 use Rattle.direct_proof.proofs.lists.Counts.{zero-count, itself}
 use Rattle.direct_proof.proofs.shared.Owed.{count-middle}
-use Rattle.direct_proof.proofs.shared.Folds.{not-both, both-parts}
 use Rattle.direct_proof.proofs.shared.Ran.{Held}
 
 data-wire : (r : Request) (v : Verdict) → FitsVerdict v r.transfer → is_data (form_by r v) ≡ is_wire v
@@ -34,11 +34,11 @@ data-wire r (IsoOut row) f = absurd f
 data-wire r (Stream row) f = absurd f
 
 pub wire-resets : (v : Verdict) → is_wire v ≡ true → (resets v ≡ false) × (changes v ≡ false)
-wire-resets (Routed x) h = absurd (not-both (sym h))
+wire-resets (Routed x) h = absurd (true≢false (sym h))
 wire-resets _ h = (refl, refl)
 
 pub wire-seen : (r : Request) (v : Verdict) (k : ℕ) (o : Outcome) → is_wire v ≡ true → seen_by r v k o ≡ o
-wire-seen r (Routed x) k o h = absurd (not-both (sym h))
+wire-seen r (Routed x) k o h = absurd (true≢false (sym h))
 wire-seen r _ k o h = refl
 
 -- the entry that a cancel takes
@@ -62,7 +62,7 @@ taken id (e ∷ es) h = go (is_taken_by id (at_queue e)) refl (taken id es h.1)
 
     go : (b : Bool) → is_taken_by id (at_queue e) ≡ b → (find (is_taken_by id) qs ≡ None) ⊎ Taken id es → (find (is_taken_by id) (at_queue e ∷ qs) ≡ None) ⊎ Taken id (e ∷ es)
     go true i rest =
-        let parts = both-parts (is_data (form_of e.load)) (e.id == id) i in
+        let parts = and_parts (is_data (form_of e.load)) (e.id == id) i in
         let wire : is_wire e.load.verdict ≡ true = sym (data-wire e.load.request e.load.verdict h.0.verdict) ∙ parts.0 in
         let reset = (wire-resets e.load.verdict wire).0 in
         inr (record {

@@ -2,6 +2,8 @@
 use Rattle.std.proofs.Common.{◌≡◌, ℕ, ◌==◌, ◌||◌, ◌&&◌, Bool, true, false, cond, List, [], ◌∷◌, ◌++◌, map, Some, None, refl, sym, ap, ◌∙◌, subst, arith, append-nil, inl, inr, ◌⊎◌}
 use Rattle.std.specs.Prelude.{Option, IsSomeAnd}
 use Rattle.std.specs.List.{find, AllByRecursion as Each}
+use Rattle.std.proofs.lemmas.Bool.{both_ways}
+use Rattle.std.proofs.Math.Bool.{or-false}
 use Rattle.usb_base.specs.declared.transfer.Outcome.{Outcome}
 use Rattle.usb_base.specs.declared.status.UsbStatus.TheVariants.{Cancelled}
 use Rattle.redir_wire.specs.declared.packet.RedirControl.TheVariants as plain
@@ -31,7 +33,6 @@ use Rattle.direct_proof.specs.Cancels.{IsAsked, CancelsFit, any_change}
 use Rattle.direct_proof.proofs.lists.Counts.{itself}
 use Rattle.direct_proof.proofs.shared.Owed.{each-parts}
 use Rattle.direct_proof.proofs.shared.WireBack.{way-answer, ran-answer}
-use Rattle.direct_proof.proofs.shared.Folds.{clash, or-false}
 use Rattle.direct_proof.proofs.shared.Ran.{Held, held-parts, coming_of, after-ran}
 use Rattle.direct_proof.proofs.shared.Sending.{sent_shared}
 use Rattle.direct_proof.proofs.heard.Listening.{read_world}
@@ -130,7 +131,7 @@ keep-cancel {S = S} m w j id ps rel wire first = go w.host.unplugged refl
             }))
 
     go : (b : Bool) → w.host.unplugged ≡ b → Keeps m w j (move m w HostReads)
-    go true off = ignored (λ h. absurd (clash w.host.unplugged off h))
+    go true off = ignored (λ h. absurd (both_ways w.host.unplugged h off))
     go false there = by (taken id j.held (each_front (λ (e : Entry). IsLoad e.load) j.held j.coming rel.line.loads))
       where
         by : (find (is_taken_by id) (map at_queue j.held) ≡ None) ⊎ Taken id j.held → Keeps m w j (move m w HostReads)

@@ -1,6 +1,6 @@
 -- A client that has imported leaves: its cancels and stops go behind what is on the wire. What is shared is kept, and the device
 -- attached directly does as its item says.
-use Rattle.std.proofs.Common.{◌≡◌, ℕ, ◌||◌, Bool, true, false, List, [], ◌++◌, length, map, filter, refl, sym, ap, ◌∙◌, subst, append-nil, append_assoc, not, cond, ◌∷◌, Option, Some, None, is_none}
+use Rattle.std.proofs.Common.{◌≡◌, ℕ, ◌||◌, Bool, true, false, List, [], ◌++◌, length, map, filter, refl, sym, ap, ◌∙◌, subst, append-nil, append_assoc, not, cond, ◌∷◌, Option, Some, None, is_none, true≢false}
 use Rattle.std.specs.Prelude.{zip}
 use Rattle.redir_data.specs.declared.packet.RedirPacket.{RedirPacket}
 use Rattle.model_device.specs.Meaning.{Meaning}
@@ -18,7 +18,7 @@ use Rattle.direct_proof.specs.Running.{StartsFit, stream_endpoint, Quits, Trails
 use Rattle.direct_proof.specs.Session.{Session, down_in, runs}
 use Rattle.direct_proof.specs.Shared.{Shared, at_hosts, half_line, lines, view, way_of}
 use Rattle.direct_proof.proofs.shared.Asked.{cancels-asking, cancels-line, cancels-quiet, changes-ask, line-ask, behind-ask, ids-ask}
-use Rattle.direct_proof.proofs.shared.Folds.{clash, lines-append, not-both, or-right}
+use Rattle.direct_proof.proofs.shared.Folds.{lines-append}
 use Rattle.direct_proof.proofs.shared.Fits.{fits-map, fits-nil}
 use Rattle.direct_proof.proofs.shared.Streaming.{IsQuiet, streams-quiet-in, starts-append, starts-more, controls-more, quits-more, trails-more}
 use Rattle.direct_proof.proofs.shared.Traces.{map-append}
@@ -30,6 +30,7 @@ use Rattle.direct_proof.proofs.leaving.LeftWire.{IsStopping, each-stop, every_up
 use Rattle.direct_proof.proofs.leaving.LeftLists.{asked_all, asked-fits, no-starts, by_id, debts-again, kinds-none, starts-down, tagged-none}
 use Rattle.redir_host.specs.declared.state.request.Request.{Request as HostRequest}
 use Rattle.std.specs.List.{last_or, AllByRecursion as Each}
+use Rattle.std.proofs.lemmas.Bool.{both_ways, or_right}
 use Rattle.gate_history.specs.state.StreamIds.{stream_ids_after}
 use Rattle.gate_history.specs.step.Marks.{Submission}
 use Rattle.gate_history.specs.state.Ids.{holds}
@@ -114,7 +115,7 @@ module _ {S : Type 0} (m : Meaning S) (w : World S) (j : Shared) (rel : Related 
 
       go : (b : Bool) → w.gate.lost ≡ b → Early (left_world w test over) (later fenced)
       go true off = record { back = early.back; wire = ap (λ (l : List (ℕ × RedirPacket)). w.to_host ++ l) (none-sent off) ∙ append-nil w.to_host ∙ early.wire; held = ap (map asked_all) early.held; half = early.half; running = early.running }
-      go false on = absurd (clash w.host.guest.first h (rel.meets.behind (rel.meets.no_session inside on)).2)
+      go false on = absurd (both_ways w.host.guest.first (rel.meets.behind (rel.meets.no_session inside on)).2 h)
 
   -- ---- the session
 
@@ -152,11 +153,11 @@ module _ {S : Type 0} (m : Meaning S) (w : World S) (j : Shared) (rel : Related 
     runs_at_in = rel.runs_at_in;
     before = new-before fenced;
     asked = new-asked;
-    meets = meets-client w j false w.gate.lost (λ h. absurd (not-both (sym h))) rel.meets;
+    meets = meets-client w j false w.gate.lost (λ h. absurd (true≢false (sym h))) rel.meets;
     debts = λ h. ap (λ (l : List Submission). debts_of (l ++ filter by_id (submits w.gate))) (rel.alone inside).0 ∙ debts-again (submits w.gate) ∙ live-debts m w j rel inside h;
     controls = λ h. subst (λ (l : List (ℕ × RedirPacket)). Controls (stream_ids_after (leave_stops w.gate) w.gate.stream_ids) l j.back) (sym wire) (left-controls w.gate rel.ups gate ps j.back (controls-more w.gate.stream_ids w.to_host cs j.back quiet-cs (rel.controls h)));
     fenced = f.fence-is;
-    alone = λ h. absurd (not-both (sym h));
+    alone = λ h. absurd (true≢false (sym h));
     session = λ h k. let s = rel.session h k in record {
       table = s.table;
       faces = s.faces;
@@ -174,7 +175,7 @@ module _ {S : Type 0} (m : Meaning S) (w : World S) (j : Shared) (rel : Related 
       reads = rel.sides.reads;
       refused = λ h. refl;
       gone = rel.sides.gone;
-      seen = λ h. absurd (not-both (sym h));
+      seen = λ h. absurd (true≢false (sym h));
     };
     farewell = rel.farewell;
   }
@@ -238,7 +239,7 @@ module _ {S : Type 0} (m : Meaning S) (w : World S) (j : Shared) (rel : Related 
     fence-is = λ h. subst (λ (f : Option ℕ). Fenced f true (w.to_host ++ (cs ++ zs)) j.back) (sym fence)
         (subst (λ (l : List (ℕ × RedirPacket)). Fenced (Some z.0) true l j.back) (sym wire)
         (left-fenced w.gate rel.ups gate ps j.back front z is free (controls-more w.gate.stream_ids w.to_host cs j.back quiet-cs (rel.controls h))));
-    clean-is = λ s. subst (λ (b : Bool). Clean (last_or w.gate.fence (leave_ids w.gate)) (down_in no_streams) b j.back) (sym (or-right (any_change (map asked_all j.held ++ map asked_all j.coming)) true refl))
+    clean-is = λ s. subst (λ (b : Bool). Clean (last_or w.gate.fence (leave_ids w.gate)) (down_in no_streams) b j.back) (sym (or_right (any_change (map asked_all j.held ++ map asked_all j.coming)) true refl))
         (clean-true (last_or w.gate.fence (leave_ids w.gate)) (down_in no_streams) j.back);
     quits-is = λ s e. subst (λ (f : Option ℕ). Quits f e (runs w.host e) (w.to_host ++ (cs ++ zs))) (sym fence)
         (subst (Quits (Some z.0) e (runs w.host e)) (sym wire)

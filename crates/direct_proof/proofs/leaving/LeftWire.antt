@@ -1,5 +1,5 @@
 -- The wire to the host behind a client that has left: the stops of all its streams stand at its end, and the last is the fence.
-use Rattle.std.proofs.Common.{◌≡◌, ℕ, zero, suc, ◌+◌, ◌≤◌, ◌⊎◌, inl, inr, Bool, true, false, cond, List, [], ◌∷◌, ◌++◌, length, Option, Some, None, is_none, is_some, refl, sym, ap, ◌∙◌, subst, arith, append_assoc}
+use Rattle.std.proofs.Common.{◌≡◌, ℕ, zero, suc, ◌+◌, ◌≤◌, ◌⊎◌, inl, inr, Bool, true, false, cond, List, [], ◌∷◌, ◌++◌, length, Option, Some, None, is_none, is_some, refl, sym, ap, ◌∙◌, subst, arith, append_assoc, true≢false}
 use Rattle.std.specs.Prelude.{get_or, zip}
 use Rattle.redir_wire.specs.declared.packet.RedirControl.TheVariants as plain
 use Rattle.redir_data.specs.declared.packet.RedirPacket.{RedirPacket}
@@ -23,7 +23,6 @@ use Rattle.direct_proof.specs.Session.{down_in}
 use Rattle.direct_proof.specs.Stale.{asks, is_fence}
 use Rattle.direct_proof.specs.Tagged.{Tagged, Stated}
 use Rattle.direct_proof.proofs.lists.Counts.{itself}
-use Rattle.direct_proof.proofs.shared.Folds.{not-both}
 use Rattle.direct_proof.proofs.shared.Streaming.{stream_ids-append}
 use Rattle.direct_proof.proofs.shared.UpsFound.{lowered, by-address}
 use Rattle.direct_proof.proofs.streams.wires.Lowered.{WasUp, why-down}
@@ -163,7 +162,7 @@ module _ (st : State) (fits : UpsFit st.streams) (gate : IsStopping st) (ps : Li
     where
       go : (stream_of st.streams e ≡ None) ⊎ WasUp every_up st.streams e → stream_of st.streams e ≡ None
       go (inl down) = down
-      go (inr u) = absurd (not-both (ap (λ (l : List (ℕ × RedirPacket)). runs_all u.up.ep l true) (sym none) ∙ stops-quit every_up u.up u.passes-it (leave_ids st) st.streams (ups-in st.streams fits) same-length (endpoint_index e) u.at true))
+      go (inr u) = absurd (true≢false (ap (λ (l : List (ℕ × RedirPacket)). runs_all u.up.ep l true) (sym none) ∙ stops-quit every_up u.up u.passes-it (leave_ids st) st.streams (ups-in st.streams fits) same-length (endpoint_index e) u.at true))
 
   module _ (front : List (ℕ × RedirPacket)) (z : ℕ × RedirPacket) (is : leave_stops st ≡ front ++ z ∷ []) where
     asks-z : asks (Some z.0) z ≡ true

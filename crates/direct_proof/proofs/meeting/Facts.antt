@@ -1,6 +1,7 @@
 -- The gateway reads a fact of the device: nothing but what it knows of the device changes.
-use Rattle.std.proofs.Common.{◌≡◌, ℕ, ◌||◌, Bool, true, false, cond, List, [], ◌∷◌, ◌++◌, map, Option, Some, None, is_some, refl, sym, ap, ◌∙◌, subst, inl, inr, ◌⊎◌}
+use Rattle.std.proofs.Common.{◌≡◌, ℕ, ◌||◌, Bool, true, false, cond, List, [], ◌∷◌, ◌++◌, map, Option, Some, None, is_some, refl, sym, ap, ◌∙◌, subst, inl, inr, ◌⊎◌, true≢false}
 use Rattle.std.specs.List.{list_any}
+use Rattle.std.proofs.lemmas.Bool.{both_ways, or_right}
 use Rattle.usb_base.specs.declared.endpoint.EpTable.{EpTable}
 use Rattle.redir_wire.specs.declared.packet.InterfaceInfo.{InterfaceInfo}
 use Rattle.redir_wire.specs.declared.packet.Connect.{Connect}
@@ -25,7 +26,6 @@ use Rattle.direct_proof.specs.Ids.{Ids}
 use Rattle.direct_proof.specs.Meets.{is_plug, is_greeting}
 use Rattle.direct_proof.proofs.answers.Answered.{with_back}
 use Rattle.direct_proof.proofs.shared.Backs.{early-greets, farewell-read, session-read}
-use Rattle.direct_proof.proofs.shared.Folds.{clash, not-both, or-right}
 use Rattle.direct_proof.proofs.shared.Streaming.{controls-read, fenced-read}
 use Rattle.direct_proof.proofs.answers.Replying.{still-there}
 use Rattle.direct_proof.proofs.shared.Keeps.{Keeps, keeps-quiet}
@@ -85,7 +85,7 @@ module _ {S : Type 0} (m : Meaning S) (w : World S) (j : Shared) (place : ℕ) (
     session = λ h a. session-read m w j b bs (rel.session there (on.announced a));
     ups = rel.ups;
     down = rel.down;
-    lost = λ h. absurd (clash st.lost h there);
+    lost = λ h. absurd (both_ways st.lost there h);
     sides = rel.sides;
     farewell = farewell-read w.host b bs rel.farewell;
   }
@@ -110,12 +110,12 @@ fact-moved m w j place b bs rel idle = ap (gate_reads w place) rel.answers
 
 pub keep-table : {S : Type 0} (m : Meaning S) (w : World S) (j : Shared) (place : ℕ) (t : EpTable) (bs : List Tagged) → Related m w (with_back j (ToldTable t ∷ bs)) → Keeps m w (with_back j (ToldTable t ∷ bs)) (move m w (GateReads place))
 keep-table m w j place t bs rel = keep-told m w j place (ToldTable t) bs w.gate.agreed rel
-    (record { no_ran = refl; no_packet = λ iso ep. refl; gate = rel.meets.gate; before = λ h. absurd (not-both (sym (early-greets (ToldTable t) bs (rel.before h).back))); behind = rel.meets.behind; known = λ h. h; announced = λ a. a; tells = λ a. a; plugged = rel.meets.plugged })
+    (record { no_ran = refl; no_packet = λ iso ep. refl; gate = rel.meets.gate; before = λ h. absurd (true≢false (sym (early-greets (ToldTable t) bs (rel.before h).back))); behind = rel.meets.behind; known = λ h. h; announced = λ a. a; tells = λ a. a; plugged = rel.meets.plugged })
     (fact-moved m w j place (ToldTable t) bs rel refl)
 
 pub keep-faces : {S : Type 0} (m : Meaning S) (w : World S) (j : Shared) (place : ℕ) (t : InterfaceInfo) (bs : List Tagged) → Related m w (with_back j (ToldFaces t ∷ bs)) → Keeps m w (with_back j (ToldFaces t ∷ bs)) (move m w (GateReads place))
 keep-faces m w j place t bs rel = keep-told m w j place (ToldFaces t) bs w.gate.agreed rel
-    (record { no_ran = refl; no_packet = λ iso ep. refl; gate = rel.meets.gate; before = λ h. absurd (not-both (sym (early-greets (ToldFaces t) bs (rel.before h).back))); behind = rel.meets.behind; known = λ h. h; announced = λ a. a; tells = λ a. a; plugged = rel.meets.plugged })
+    (record { no_ran = refl; no_packet = λ iso ep. refl; gate = rel.meets.gate; before = λ h. absurd (true≢false (sym (early-greets (ToldFaces t) bs (rel.before h).back))); behind = rel.meets.behind; known = λ h. h; announced = λ a. a; tells = λ a. a; plugged = rel.meets.plugged })
     (fact-moved m w j place (ToldFaces t) bs rel refl)
 
 -- the device's coming
@@ -125,10 +125,10 @@ keep-plugged m w j place c bs rel = keep-told m w j place (Plugged c) bs w.gate.
       no_ran = refl;
       no_packet = λ iso ep. refl;
       gate = rel.meets.gate;
-      before = λ h. absurd (clash w.host.guest.first h met);
+      before = λ h. absurd (both_ways w.host.guest.first met h);
       behind = λ h. ((rel.meets.once.0 refl).0, (rel.meets.once.0 refl).1, met);
       known = λ h. refl;
-      announced = λ a. or-right (is_some w.gate.facts.connect) (true || list_any is_plug bs) refl;
+      announced = λ a. or_right (is_some w.gate.facts.connect) (true || list_any is_plug bs) refl;
       tells = λ a. refl;
       plugged = λ h. met;
     })
@@ -145,7 +145,7 @@ keep-greeted m w j place bs rel = keep-told m w j place Greeted bs both_caps rel
       no_packet = λ iso ep. refl;
       gate = λ h. refl;
       before = λ h. early (rel.before h).back;
-      behind = λ h. absurd (not-both (rel.meets.behind h).0);
+      behind = λ h. absurd (true≢false (rel.meets.behind h).0);
       known = λ h. h;
       announced = λ a. a;
       tells = λ a. a;

@@ -1,5 +1,5 @@
 -- In the first world, where nothing but the two hellos is on a wire, the two stand for the device attached directly.
-use Rattle.std.proofs.Common.{◌≡◌, ℕ, zero, suc, ◌%◌, nat_lt, Bool, true, false, cond, [], ◌∷◌, get_or, Option, None, refl, sym, subst, arith, inl}
+use Rattle.std.proofs.Common.{◌≡◌, ℕ, zero, suc, ◌%◌, nat_lt, Bool, true, false, cond, [], ◌∷◌, get_or, Option, None, refl, sym, subst, arith, inl, true≢false}
 use Rattle.std.specs.Prelude.{replicate}
 use Rattle.usb_base.specs.Endpoint.{endpoint_index}
 use Rattle.model_device.specs.Meaning.{Meaning}
@@ -9,7 +9,6 @@ use Rattle.direct_proof.specs.Shared.{Shared}
 use Rattle.direct_proof.specs.Tagged.{Greeted}
 use Rattle.direct_proof.specs.Related.{Related}
 use Rattle.direct_proof.specs.Kinds.{UpsFit, UpFits}
-use Rattle.direct_proof.proofs.shared.Folds.{not-both}
 
 abbrev pub first_shared : Shared
 first_shared = record { held = []; half = false; coming = []; back = Greeted ∷ []; debts = []; fenced = false; gone = false }
@@ -40,7 +39,7 @@ first-related m s = record {
     coming = refl;
     loads = tt;
     streams_in = (tt, tt);
-    cancels = ((λ h. absurd (not-both (sym h))), tt);
+    cancels = ((λ h. absurd (true≢false (sym h))), tt);
     behind = tt;
   };
   answers = refl;
@@ -49,33 +48,33 @@ first-related m s = record {
   real = tt;
   runs_at_in = tt;
   before = λ h. record { back = inl refl; wire = refl; held = refl; half = refl; running = refl };
-  asked = λ h. absurd (not-both h);
+  asked = λ h. absurd (true≢false h);
   meets = record {
-    host = λ h. absurd (not-both h);
-    gate = λ h. absurd (not-both h);
-    announced = λ h k. absurd (not-both h);
-    behind = λ h. absurd (not-both (sym h));
-    once = ((λ h. absurd (not-both (sym h))), tt);
-    plugged = λ h. absurd (not-both (sym h));
-    no_session = λ h k. absurd (not-both (sym h));
+    host = λ h. absurd (true≢false h);
+    gate = λ h. absurd (true≢false h);
+    announced = λ h k. absurd (true≢false h);
+    behind = λ h. absurd (true≢false (sym h));
+    once = ((λ h. absurd (true≢false (sym h))), tt);
+    plugged = λ h. absurd (true≢false (sym h));
+    no_session = λ h k. absurd (true≢false (sym h));
   };
   debts = λ h. refl;
   controls = λ h. record { once = λ id. omega arith; stream_ids_kept = (tt, tt); statuses_kept = (tt, tt) };
   fenced = λ h. refl;
-  alone = λ h. absurd (not-both (sym h));
-  session = λ h a. absurd (not-both (sym a));
+  alone = λ h. absurd (true≢false (sym h));
+  session = λ h a. absurd (true≢false (sym a));
   ups = record { count_is = refl; each = λ i. subst (UpFits i) (sym (none-up 32 i)) tt };
   down = λ h. refl;
-  lost = λ h. absurd (not-both (sym h));
+  lost = λ h. absurd (true≢false (sym h));
   sides = record {
     reads = refl;
-    refused = λ h. absurd (not-both (sym h));
-    gone = λ h. absurd (not-both (sym h));
-    seen = λ h. absurd (not-both (sym h));
+    refused = λ h. absurd (true≢false (sym h));
+    gone = λ h. absurd (true≢false (sym h));
+    seen = λ h. absurd (true≢false (sym h));
   };
   farewell = record {
-    still = λ h. absurd (not-both (sym h));
+    still = λ h. absurd (true≢false (sym h));
     bye = λ h. refl;
-    bye_last = ((λ h. absurd (not-both (sym h))), tt);
+    bye_last = ((λ h. absurd (true≢false (sym h))), tt);
   };
 }

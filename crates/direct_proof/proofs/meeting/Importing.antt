@@ -1,6 +1,7 @@
 -- A client lists or imports the device: it gets a reply, and with a success the session begins.
-use Rattle.std.proofs.Common.{◌≡◌, ℕ, suc, ◌&&◌, Bool, true, false, cond, List, [], ◌∷◌, ◌++◌, map, filter, Option, Some, None, is_some, is_none, refl, sym, ap, ◌∙◌, subst, arith, append-nil}
+use Rattle.std.proofs.Common.{◌≡◌, ℕ, suc, ◌&&◌, Bool, true, false, cond, List, [], ◌∷◌, ◌++◌, map, filter, Option, Some, None, is_some, is_none, refl, sym, ap, ◌∙◌, subst, arith, append-nil, true≢false}
 use Rattle.std.specs.List.{flat_map}
+use Rattle.std.proofs.lemmas.Bool.{both_ways, and_parts}
 use Rattle.usb_base.specs.declared.side.Side.TheVariants.{Client}
 use Rattle.usb_base.specs.declared.reason.Reason.TheVariants.{AlreadyImported}
 use Rattle.usbip_op.specs.declared.packet.OpPacket.{OpPacket}
@@ -32,7 +33,6 @@ use Rattle.direct_proof.specs.Shared.{Shared, view}
 use Rattle.direct_proof.specs.Tagged.{runs_in}
 use Rattle.direct_proof.specs.Related.{Related}
 use Rattle.direct_proof.specs.Ids.{count}
-use Rattle.direct_proof.proofs.shared.Folds.{clash, not-both, both-parts}
 use Rattle.direct_proof.proofs.shared.Sending.{meets-client}
 use Rattle.direct_proof.proofs.shared.Keeps.{Keeps, keeps-quiet, keeps-replied, not-gone}
 use Rattle.direct_proof.proofs.shared.Counted.{replied_world, replied-related}
@@ -111,17 +111,17 @@ keep-import {S = S} m w j place status busid rel sound out = go w.gate.client_ov
 
     none-is : {X : Type 0} (xs : List X) → none_of xs ≡ true → xs ≡ []
     none-is [] h = refl
-    none-is (x ∷ xs) h = absurd (not-both (sym h))
+    none-is (x ∷ xs) h = absurd (true≢false (sym h))
 
     no-fence : (o : Option ℕ) → is_none o ≡ true → o ≡ None
     no-fence None h = refl
-    no-fence (Some x) h = absurd (not-both (sym h))
+    no-fence (Some x) h = absurd (true≢false (sym h))
 
     succeeds : st.client_over ≡ false → (c : Connect) → (is_exported busid && none_of st.abandoned && is_none st.fence) ≡ true → st.facts.connect ≡ Some c → importable st busid ≡ Some c → Keeps m w j made
     succeeds on c may known e = keeps-import
       where
         parts : (none_of st.abandoned ≡ true) × (is_none st.fence ≡ true)
-        parts = let a = both-parts (is_exported busid && none_of st.abandoned) (is_none st.fence) may in ((both-parts (is_exported busid) (none_of st.abandoned) a.0).1, a.1)
+        parts = let a = and_parts (is_exported busid && none_of st.abandoned) (is_none st.fence) may in ((and_parts (is_exported busid) (none_of st.abandoned) a.0).1, a.1)
 
         empty : st.abandoned ≡ []
         empty = none-is st.abandoned parts.0
@@ -168,12 +168,12 @@ keep-import {S = S} m w j place status busid rel sound out = go w.gate.client_ov
           alone = λ h. (empty, no-fence st.fence parts.1);
           session = λ h a. rel.session there a;
           ups = rel.ups;
-          down = λ h. absurd (not-both h);
-          lost = λ h. absurd (not-both (sym h));
+          down = λ h. absurd (true≢false h);
+          lost = λ h. absurd (true≢false (sym h));
           sides = record {
             reads = rel.sides.reads;
-            refused = λ h. absurd (clash st.client_over h on);
-            gone = λ h. absurd (clash j.gone h ungone);
+            refused = λ h. absurd (both_ways st.client_over on h);
+            gone = λ h. absurd (both_ways j.gone ungone h);
             seen = λ h. sym ungone;
           };
           farewell = rel.farewell;

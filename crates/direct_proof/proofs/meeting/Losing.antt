@@ -1,6 +1,7 @@
 -- The gateway reads the device's end: all that is live is answered, and nothing comes any more.
-use Rattle.std.proofs.Common.{◌≡◌, ℕ, suc, ◌&&◌, not, Bool, true, false, cond, List, [], ◌∷◌, ◌++◌, map, Option, Some, None, refl, sym, ap, ◌∙◌, subst, append-nil, inl, inr, ◌⊎◌}
+use Rattle.std.proofs.Common.{◌≡◌, ℕ, suc, ◌&&◌, not, Bool, true, false, cond, List, [], ◌∷◌, ◌++◌, map, Option, Some, None, refl, sym, ap, ◌∙◌, subst, append-nil, inl, inr, ◌⊎◌, true≢false}
 use Rattle.std.specs.List.{flat_map, AllByRecursion as Each}
+use Rattle.std.proofs.lemmas.Bool.{both_ways}
 use Rattle.usbip_urb.specs.declared.packet.UrbPacket.{UrbPacket}
 use Rattle.usbip_urb.specs.declared.client.ClientPacket.TheVariants.{Urb}
 use Rattle.redir_wire.specs.declared.packet.TheConstants.Caps.{DISCONNECT_ACK}
@@ -37,7 +38,7 @@ use Rattle.direct_proof.specs.Cancels.{IsAsking, CancelsFit}
 use Rattle.direct_proof.specs.Kinds.{StreamIsIn}
 use Rattle.direct_proof.specs.Running.{stream_endpoint}
 use Rattle.direct_proof.proofs.answers.Answered.{with_back}
-use Rattle.direct_proof.proofs.shared.Folds.{clash, not-both, lines-append}
+use Rattle.direct_proof.proofs.shared.Folds.{lines-append}
 use Rattle.direct_proof.proofs.shared.Fits.{fits-nil}
 use Rattle.direct_proof.proofs.answers.Replying.{still-there}
 use Rattle.direct_proof.proofs.meeting.First.{none-ups, all-down}
@@ -68,7 +69,7 @@ module _ {S : Type 0} (m : Meaning S) (w : World S) (j : Shared) (place : ℕ) (
     where
       go : (b : Bool) → w.host.unplugged ≡ b → b ≡ true
       go true h = refl
-      go false h = absurd (not-both (rel.farewell.bye h))
+      go false h = absurd (true≢false (rel.farewell.bye h))
 
   met : w.host.guest.first ≡ false
   met = go w.host.guest.first refl
@@ -110,7 +111,7 @@ module _ {S : Type 0} (m : Meaning S) (w : World S) (j : Shared) (place : ℕ) (
 
   -- the acknowledgement is nothing that the host does
   acked : (b : Bool) → (lines (cond b ((0, Plain plain.DisconnectAck) ∷ []) []) ≡ []) × (Each (λ (p : ℕ × RedirPacket). IsAsking p.1) (cond b ((0, Plain plain.DisconnectAck) ∷ []) [])) × CancelsFit (j.held ++ j.coming) (cond b ((0, Plain plain.DisconnectAck) ∷ []) []) []
-  acked true = (refl, (tt, tt), ((λ h. absurd (not-both (sym h))), tt))
+  acked true = (refl, (tt, tt), ((λ h. absurd (true≢false (sym h))), tt))
   acked false = (refl, tt, tt)
 
   stream_ids_stay : (b : Bool) → Each (λ (p : ℕ × RedirPacket). StreamIsIn (stream_endpoint p.1)) (cond b ((0, Plain plain.DisconnectAck) ∷ []) [])
@@ -136,22 +137,22 @@ module _ {S : Type 0} (m : Meaning S) (w : World S) (j : Shared) (place : ℕ) (
     ids = rel.ids;
     real = rel.real;
     runs_at_in = rel.runs_at_in;
-    before = λ h. absurd (clash w.host.guest.first h met);
+    before = λ h. absurd (both_ways w.host.guest.first met h);
     asked = λ h. Each-append (λ (p : ℕ × RedirPacket). IsAsking p.1) w.to_host acks (rel.asked h) (acked (has st.agreed DISCONNECT_ACK)).1;
     meets = record {
       host = rel.meets.host;
       gate = rel.meets.gate;
-      announced = λ h k. absurd (clash w.host.unplugged off k);
-      behind = λ h. absurd (not-both (sym h));
+      announced = λ h k. absurd (both_ways w.host.unplugged k off);
+      behind = λ h. absurd (true≢false (sym h));
       once = tt;
       plugged = λ h. met;
-      no_session = λ h k. absurd (not-both k);
+      no_session = λ h k. absurd (true≢false k);
     };
-    debts = λ h. absurd (not-both h);
-    controls = λ h. absurd (not-both h);
-    fenced = λ h. absurd (not-both h);
+    debts = λ h. absurd (true≢false h);
+    controls = λ h. absurd (true≢false h);
+    fenced = λ h. absurd (true≢false h);
     alone = λ h. (refl, refl);
-    session = λ h a. absurd (not-both h);
+    session = λ h a. absurd (true≢false h);
     ups = none-ups;
     down = λ h. refl;
     lost = λ h. (refl, off, refl, refl, all-down);
@@ -198,7 +199,7 @@ module _ {S : Type 0} (m : Meaning S) (w : World S) (j : Shared) (place : ℕ) (
               one s (Some x) = refl
       go false out = keeps-quiet m w (with_back j (Bye ∷ [])) (lost_shared j.gone) (move m w (GateReads place)) lost_world
           (made-is ∙ (λ i. record { world = lost_world; outs = map Urb (map (λ (p : Pending). lost_answer p.submit p.unlinker) (sound.gone out i)); deeds = when (out i) Gone }))
-          (related j.gone (λ h. absurd (clash st.imported h out)))
+          (related j.gone (λ h. absurd (both_ways st.imported out h)))
           (λ i. record (view w (with_back j (Bye ∷ []))) {
             live = ap (map live_of) (sound.gone out) i;
             streams = rel.down out i;

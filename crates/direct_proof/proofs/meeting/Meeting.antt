@@ -1,6 +1,8 @@
 -- The two meet: from the first world on, the hellos are read, and the gateway is told of the device.
-use Rattle.std.proofs.Common.{◌≡◌, ℕ, ◌||◌, Bool, true, false, cond, List, [], ◌∷◌, ◌++◌, map, Option, Some, None, is_some, refl, sym, ap, ◌∙◌, subst, append-nil, inl, inr, ◌⊎◌}
+use Rattle.std.proofs.Common.{◌≡◌, ℕ, ◌||◌, Bool, true, false, cond, List, [], ◌∷◌, ◌++◌, map, Option, Some, None, is_some, refl, sym, ap, ◌∙◌, subst, append-nil, inl, inr, ◌⊎◌, true≢false}
 use Rattle.std.specs.List.{list_any, AllByRecursion as Each}
+use Rattle.std.proofs.lemmas.Bool.{both_ways, or_right}
+use Rattle.std.proofs.lemmas.List.Folds.{list_any-append}
 use Rattle.redir_data.specs.declared.packet.RedirPacket.{RedirPacket}
 use Rattle.model_device.specs.Meaning.{Meaning}
 use Rattle.redir_host.specs.declared.state.host.Host.{Host}
@@ -28,7 +30,6 @@ use Rattle.direct_proof.specs.Cancels.{any_change}
 use Rattle.direct_proof.specs.StreamIds.{Controls, Fenced, StatusIsKept, statuses_on}
 use Rattle.direct_proof.proofs.shared.WireBack.{runs_in-append, packets_in-append}
 use Rattle.direct_proof.proofs.shared.Traces.{map-append}
-use Rattle.direct_proof.proofs.shared.Folds.{clash, not-both, or-right, any-append}
 use Rattle.direct_proof.proofs.shared.Streaming.{controls-heard, fenced-heard, controls-sent, fenced-sent}
 use Rattle.direct_proof.proofs.shared.Backs.{told-append}
 use Rattle.direct_proof.proofs.shared.Sending.{no-bye, none-more}
@@ -52,8 +53,8 @@ keep-hello {S = S} m w j rel fresh = go w.host.unplugged refl
     unknown h = by (is_some w.gate.facts.connect) refl h
       where
         by : (b : Bool) → is_some w.gate.facts.connect ≡ b → (b || list_any is_plug j.back) ≡ true → ⊥
-        by true e k = clash w.host.guest.first fresh (rel.meets.behind e).2
-        by false e k = clash w.host.guest.first fresh (rel.meets.plugged k)
+        by true e k = both_ways w.host.guest.first (rel.meets.behind e).2 fresh
+        by false e k = both_ways w.host.guest.first (rel.meets.plugged k) fresh
 
     coming : half_line j.half ++ lines [] ≡ at_hosts j.coming
     coming = ap (λ l. half_line j.half ++ lines l) (sym early.wire) ∙ rel.line.coming
@@ -76,13 +77,13 @@ keep-hello {S = S} m w j rel fresh = go w.host.unplugged refl
       ids = subst (Ids j.debts w.submits (j.held ++ j.coming)) (sym (runs_in-append j.back cs ∙ ap (λ (l : List Coming). runs_in j.back ++ l) no_ran ∙ append-nil (runs_in j.back))) rel.ids;
       real = rel.real;
       runs_at_in = rel.runs_at_in;
-      before = λ h. absurd (not-both (sym h));
+      before = λ h. absurd (true≢false (sym h));
       asked = λ h. tt;
       meets = record {
         host = λ h. refl;
         gate = λ h. rel.meets.gate (sym (none-more is_greeting j.back cs no_greeting) ∙ h);
-        announced = λ h k. or-right (is_some w.gate.facts.connect) (list_any is_plug (j.back ++ cs)) (any-append is_plug j.back cs ∙ or-right (list_any is_plug j.back) (list_any is_plug cs) (plugs k));
-        behind = λ h. absurd (clash w.host.guest.first fresh (rel.meets.behind h).2);
+        announced = λ h k. or_right (is_some w.gate.facts.connect) (list_any is_plug (j.back ++ cs)) (list_any-append is_plug j.back cs ∙ or_right (list_any is_plug j.back) (list_any is_plug cs) (plugs k));
+        behind = λ h. absurd (both_ways w.host.guest.first (rel.meets.behind h).2 fresh);
         once = once;
         plugged = λ h. refl;
         no_session = rel.meets.no_session;
@@ -110,14 +111,14 @@ keep-hello {S = S} m w j rel fresh = go w.host.unplugged refl
     go : (b : Bool) → w.host.unplugged ≡ b → Keeps m w j (move m w HostReads)
     go true off = keeps-quiet m w j (record j { back = j.back ++ [] }) (move m w HostReads) (record w { to_host = []; host = g; to_gate = w.to_gate ++ [] })
         (ap (host_reads m w) early.wire ∙ ap (host_takes (record w { to_host = [] })) (ap (λ (b : Bool). cond b (host_quiet g) (greets m g)) off))
-        (after [] (λ h. refl) refl tt tt refl refl refl (subst PlugOnce (sym (append-nil j.back)) rel.meets.once) (λ k. absurd (clash w.host.unplugged off k)) (λ a. absurd (unknown (ap (λ bs. is_some w.gate.facts.connect || list_any is_plug bs) (sym (append-nil j.back)) ∙ a))))
+        (after [] (λ h. refl) refl tt tt refl refl refl (subst PlugOnce (sym (append-nil j.back)) rel.meets.once) (λ k. absurd (both_ways w.host.unplugged k off)) (λ a. absurd (unknown (ap (λ bs. is_some w.gate.facts.connect || list_any is_plug bs) (sym (append-nil j.back)) ∙ a))))
         (λ i. record (view w j) {
           ran = cond w.gate.imported (map ran_of (runs_in (sym (append-nil j.back) i))) [];
           way = λ ep. way_of (stream_of w.gate.streams ep) ep (sym (append-nil j.back) i);
         })
     go false on = keeps-quiet m w j (record j { back = j.back ++ cs }) (move m w HostReads) (record w { to_host = []; host = g; to_gate = w.to_gate ++ map on_wire cs })
         (ap (host_reads m w) early.wire ∙ ap (host_takes (record w { to_host = [] })) (ap (λ (b : Bool). cond b (host_quiet g) (greets m g)) on))
-        (after cs (λ h. absurd (clash w.host.unplugged h on)) refl (tt, (tt, (tt, tt))) (tt, (tt, (tt, tt))) refl refl refl (order j.back early.back) (λ k. refl) (λ a. session))
+        (after cs (λ h. absurd (both_ways w.host.unplugged on h)) refl (tt, (tt, (tt, tt))) (tt, (tt, (tt, tt))) refl refl refl (order j.back early.back) (λ k. refl) (λ a. session))
         (λ i. record (view w j) {
           ran = cond w.gate.imported (map ran_of (sym (runs_in-append j.back cs ∙ append-nil (runs_in j.back)) i)) [];
           way = λ ep. sym (ways (stream_of w.gate.streams ep) ep) i;
@@ -131,20 +132,20 @@ keep-hello {S = S} m w j rel fresh = go w.host.unplugged refl
         ways (Some up) ep = packets_in-append (is_iso up.row.kind) ep j.back cs ∙ append-nil (packets_in (is_iso up.row.kind) ep j.back)
 
         plug : PlugOnce cs
-        plug = ((λ h. absurd (not-both (sym h))), ((λ h. absurd (not-both (sym h))), ((λ h. (refl, refl)), tt)))
+        plug = ((λ h. absurd (true≢false (sym h))), ((λ h. absurd (true≢false (sym h))), ((λ h. (refl, refl)), tt)))
 
         order : (bs : List Tagged) → (bs ≡ Greeted ∷ []) ⊎ (bs ≡ []) → PlugOnce (bs ++ cs)
-        order bs (inl e) = subst (λ l. PlugOnce (l ++ cs)) (sym e) ((λ h. absurd (not-both (sym h))), plug)
+        order bs (inl e) = subst (λ l. PlugOnce (l ++ cs)) (sym e) ((λ h. absurd (true≢false (sym h))), plug)
         order bs (inr e) = subst (λ l. PlugOnce (l ++ cs)) (sym e) plug
 
         pending : Bool
         pending = any_change (j.held ++ j.coming) || j.fenced
 
         clean-cs : Clean w.gate.fence (down_in w.gate.streams) pending cs
-        clean-cs = ((λ h. or-right pending true refl), ((λ h. or-right pending true refl), ((λ h. absurd (not-both (sym h))), tt)))
+        clean-cs = ((λ h. or_right pending true refl), ((λ h. or_right pending true refl), ((λ h. absurd (true≢false (sym h))), tt)))
 
         clean : (bs : List Tagged) → (bs ≡ Greeted ∷ []) ⊎ (bs ≡ []) → Clean w.gate.fence (down_in w.gate.streams) pending (bs ++ cs)
-        clean bs (inl e) = subst (λ l. Clean w.gate.fence (down_in w.gate.streams) pending (l ++ cs)) (sym e) ((λ h. absurd (not-both (sym h))), clean-cs)
+        clean bs (inl e) = subst (λ l. Clean w.gate.fence (down_in w.gate.streams) pending (l ++ cs)) (sym e) ((λ h. absurd (true≢false (sym h))), clean-cs)
         clean bs (inr e) = subst (λ l. Clean w.gate.fence (down_in w.gate.streams) pending (l ++ cs)) (sym e) clean-cs
 
         session : Session m (record w { to_host = []; host = g; to_gate = w.to_gate ++ map on_wire cs }) (record j { back = j.back ++ cs })

@@ -1,6 +1,7 @@
 -- The device is taken away: its host tells of that, where it has sent its hello, and answers nothing any more.
-use Rattle.std.proofs.Common.{◌≡◌, ℕ, ◌||◌, Bool, true, false, cond, List, [], ◌∷◌, ◌++◌, map, Option, Some, None, is_some, refl, sym, ap, ◌∙◌, subst, append-nil, inl, inr, ◌⊎◌}
+use Rattle.std.proofs.Common.{◌≡◌, ℕ, ◌||◌, Bool, true, false, cond, List, [], ◌∷◌, ◌++◌, map, Option, Some, None, is_some, refl, sym, ap, ◌∙◌, subst, append-nil, inl, inr, ◌⊎◌, true≢false}
 use Rattle.std.specs.List.{list_any, AllByRecursion as Each}
+use Rattle.std.proofs.lemmas.Bool.{both_ways, or_left, or_parts}
 use Rattle.redir_wire.specs.declared.packet.RedirControl.TheVariants as plain
 use Rattle.redir_data.specs.declared.packet.RedirPacket.{RedirPacket}
 use Rattle.redir_data.specs.declared.packet.RedirPacket.TheVariants.{Plain}
@@ -26,7 +27,6 @@ use Rattle.direct_proof.specs.Session.{down_in, runs}
 use Rattle.direct_proof.specs.Cancels.{any_change}
 use Rattle.direct_proof.proofs.shared.WireBack.{runs_in-append, packets_in-append}
 use Rattle.direct_proof.proofs.shared.Traces.{map-append}
-use Rattle.direct_proof.proofs.shared.Folds.{clash, not-both, or-left, or-none}
 use Rattle.direct_proof.proofs.shared.Streaming.{controls-sent, fenced-sent}
 use Rattle.direct_proof.proofs.shared.Backs.{told-append, clean-append}
 use Rattle.direct_proof.proofs.performs.Flushes.{quits-low}
@@ -35,7 +35,7 @@ use Rattle.direct_proof.proofs.shared.Keeps.{Keeps, keeps-quiet}
 
 bye-behind : (bs : List Tagged) → list_any is_bye bs ≡ false → ByeLast (bs ++ Bye ∷ [])
 bye-behind [] h = ((λ z. refl), tt)
-bye-behind (b ∷ bs) h = let r = or-none (is_bye b) (list_any is_bye bs) h in ((λ z. absurd (clash (is_bye b) z r.0)), bye-behind bs r.1)
+bye-behind (b ∷ bs) h = let r = or_parts (is_bye b) (list_any is_bye bs) h in ((λ z. absurd (both_ways (is_bye b) r.0 z)), bye-behind bs r.1)
 
 module _ {S : Type 0} (m : Meaning S) (w : World S) (j : Shared) (rel : Related m w j) (on : w.host.unplugged ≡ false) where
   abbrev gone_host : Host S
@@ -53,7 +53,7 @@ module _ {S : Type 0} (m : Meaning S) (w : World S) (j : Shared) (rel : Related 
   related cs no_ran no_greeting no_plug tagged kept no_status no_fact clean bye_last early = record {
     line = record {
       held = refl;
-      half = λ h. absurd (not-both h);
+      half = λ h. absurd (true≢false h);
       coming = rel.line.coming;
       loads = rel.line.loads;
       streams_in = rel.line.streams_in;
@@ -70,7 +70,7 @@ module _ {S : Type 0} (m : Meaning S) (w : World S) (j : Shared) (rel : Related 
     meets = let k = meets-sent w j cs no_greeting no_plug rel.meets in record {
       host = k.host;
       gate = k.gate;
-      announced = λ h z. absurd (not-both z);
+      announced = λ h z. absurd (true≢false z);
       behind = k.behind;
       once = k.once;
       plugged = k.plugged;
@@ -84,7 +84,7 @@ module _ {S : Type 0} (m : Meaning S) (w : World S) (j : Shared) (rel : Related 
       table = ap (λ (f : Facts). f.table) (told-append w.gate.facts j.back cs ∙ no_fact (told w.gate.facts j.back)) ∙ s.table;
       faces = ap (λ (f : Facts). f.interfaces) (told-append w.gate.facts j.back cs ∙ no_fact (told w.gate.facts j.back)) ∙ s.faces;
       clean = clean-append w.gate.fence (down_in w.gate.streams) (any_change (j.held ++ j.coming) || j.fenced) (any_change (j.held ++ j.coming) || j.fenced) j.back cs
-          (λ z. or-left (any_change (j.held ++ j.coming) || j.fenced) (list_any (ends w.gate.fence) cs) z) s.clean (clean w.gate.fence (any_change (j.held ++ j.coming) || j.fenced));
+          (λ z. or_left (any_change (j.held ++ j.coming) || j.fenced) (list_any (ends w.gate.fence) cs) z) s.clean (clean w.gate.fence (any_change (j.held ++ j.coming) || j.fenced));
       quits = λ ep d. quits-low w.gate.fence ep (runs w.host ep) w.to_host (s.quits ep d);
       trails = s.trails;
       starts = s.starts;
@@ -93,11 +93,11 @@ module _ {S : Type 0} (m : Meaning S) (w : World S) (j : Shared) (rel : Related 
     };
     ups = rel.ups;
     down = rel.down;
-    lost = λ h. absurd (clash w.host.unplugged (rel.lost h).1 on);
+    lost = λ h. absurd (both_ways w.host.unplugged on (rel.lost h).1);
     sides = rel.sides;
     farewell = record {
       still = λ h. refl;
-      bye = λ h. absurd (not-both h);
+      bye = λ h. absurd (true≢false h);
       bye_last = bye_last;
     };
   }
@@ -128,7 +128,7 @@ module _ {S : Type 0} (m : Meaning S) (w : World S) (j : Shared) (rel : Related 
             way = λ ep. way_of (stream_of w.gate.streams ep) ep (sym (append-nil j.back) i);
           })
       go false f = keeps-quiet m w j (gone_shared (Bye ∷ [])) (move m w Unplugs) (gone_world (Bye ∷ [])) (made false f)
-          (related (Bye ∷ []) refl refl refl (tt, tt) (tt, tt) refl (λ x. refl) (λ fence p. ((λ h. absurd (not-both (sym h))), tt)) (bye-behind j.back (rel.farewell.bye on)) (λ h. absurd (clash w.host.guest.first h f)))
+          (related (Bye ∷ []) refl refl refl (tt, tt) (tt, tt) refl (λ x. refl) (λ fence p. ((λ h. absurd (true≢false (sym h))), tt)) (bye-behind j.back (rel.farewell.bye on)) (λ h. absurd (both_ways w.host.guest.first f h)))
           (λ i. record (view w j) {
             ran = cond w.gate.imported (map ran_of (sym (runs_in-append j.back (Bye ∷ []) ∙ append-nil (runs_in j.back)) i)) [];
             way = λ ep. sym (ways (Bye ∷ []) (λ iso k. refl) (stream_of w.gate.streams ep) ep) i;

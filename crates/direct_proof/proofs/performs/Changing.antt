@@ -1,7 +1,9 @@
 -- The device performs a change, with success or refusing it, also a reset: what it flushes, and the facts that it tells.
-use Rattle.std.proofs.Common.{◌≡◌, ℕ, ◌||◌, ◌&&◌, not, Bool, true, false, cond, List, [], ◌∷◌, ◌++◌, map, filter, Option, Some, None, refl, sym, ap, ◌∙◌, subst, arith, append-nil, ◌==◌}
+use Rattle.std.proofs.Common.{◌≡◌, ℕ, ◌||◌, ◌&&◌, not, Bool, true, false, cond, List, [], ◌∷◌, ◌++◌, map, filter, Option, Some, None, refl, sym, ap, ◌∙◌, subst, arith, append-nil, ◌==◌, true≢false}
 use Rattle.std.specs.Prelude.{IfSome}
 use Rattle.std.specs.List.{find, list_any, AllByRecursion as Each}
+use Rattle.std.proofs.lemmas.Bool.{or_left, or_right}
+use Rattle.std.proofs.lemmas.List.Folds.{list_any-append}
 use Rattle.usb_base.specs.Status.{is_success}
 use Rattle.usb_base.specs.declared.transfer.Outcome.{Outcome}
 use Rattle.usb_base.specs.declared.endpoint.EpTable.{EpTable}
@@ -44,7 +46,6 @@ use Rattle.direct_proof.specs.Kinds.{TaggedOfKind, OfKind, IsIn}
 use Rattle.direct_proof.proofs.answers.Loads.{performed-as}
 use Rattle.direct_proof.proofs.performs.Performs.{First, answered, perform-allowed, same-byte}
 use Rattle.direct_proof.proofs.shared.Owed.{each-parts, ids-perform}
-use Rattle.direct_proof.proofs.shared.Folds.{not-both, or-left, or-right, any-append}
 use Rattle.direct_proof.proofs.shared.Streaming.{starts-none}
 use Rattle.direct_proof.proofs.shared.Backs.{told-append, clean-append}
 use Rattle.direct_proof.proofs.shared.Debts.{filter-append}
@@ -182,20 +183,20 @@ module _ {S : Type 0} (m : Meaning S) (laws : IsGadget m) (w : World S) (j : Sha
       all (x ∷ es) h = (record { load = h.0; outcome = record { done = omega arith; from_device = λ z. refl; to_device = λ z. refl }; status = refl }, all es h.1)
 
   ends-in : (fence : Option ℕ) → list_any (ends fence) cs ≡ true
-  ends-in fence = any-append (ends fence) (map flushed_tag gone) (ToldTable (m.table done.0) ∷ ToldFaces (m.interfaces done.0) ∷ Answered c ∷ [])
-      ∙ or-right (list_any (ends fence) (map flushed_tag gone)) (changes e.load.verdict || false) (or-left (changes e.load.verdict) false is-it)
+  ends-in fence = list_any-append (ends fence) (map flushed_tag gone) (ToldTable (m.table done.0) ∷ ToldFaces (m.interfaces done.0) ∷ Answered c ∷ [])
+      ∙ or_right (list_any (ends fence) (map flushed_tag gone)) (changes e.load.verdict || false) (or_left (changes e.load.verdict) false is-it)
 
   session : Session m w j → Session m (sent_world w done.0 left running cs) (sent_shared j left cs)
   session s = record {
     table = ap (λ (f : Facts). f.table) facts ∙ (answer-tells (tell (tell before (fact_of (on_wire (ToldTable (m.table done.0))).1)) (fact_of (on_wire (ToldFaces (m.interfaces done.0))).1)) c).table;
     faces = ap (λ (f : Facts). f.interfaces) facts ∙ (answer-tells (tell (tell before (fact_of (on_wire (ToldTable (m.table done.0))).1)) (fact_of (on_wire (ToldFaces (m.interfaces done.0))).1)) c).interfaces;
     clean = clean-append w.gate.fence (down_in w.gate.streams) (any_change (j.held ++ j.coming) || j.fenced) (any_change (left ++ j.coming) || j.fenced) j.back cs
-        (λ z. or-right (any_change (left ++ j.coming) || j.fenced) (list_any (ends w.gate.fence) cs) (ends-in w.gate.fence)) s.clean
+        (λ z. or_right (any_change (left ++ j.coming) || j.fenced) (list_any (ends w.gate.fence) cs) (ends-in w.gate.fence)) s.clean
         (clean-flushed w.gate.fence (down_in w.gate.streams) (any_change (left ++ j.coming) || j.fenced) gone (ToldTable (m.table done.0) ∷ ToldFaces (m.interfaces done.0) ∷ Answered c ∷ [])
-        ((λ z. ended-soon), ((λ z. ended-soon), ((λ z. absurd (not-both (sym z))), tt))));
+        ((λ z. ended-soon), ((λ z. ended-soon), ((λ z. absurd (true≢false (sym z))), tt))));
     quits = λ k d. quits-still success r table w.gate.fence k w.host.running w.to_host (s.quits k d);
     trails = s.trails;
-    starts = starts-none table (m.table done.0) (any_change left || j.half) w.to_host (subst (λ (b : Bool). StartsFit table b w.to_host) (or-left (any_change j.held) j.half some-change) s.starts);
+    starts = starts-none table (m.table done.0) (any_change left || j.half) w.to_host (subst (λ (b : Bool). StartsFit table b w.to_host) (or_left (any_change j.held) j.half some-change) s.starts);
     kinds = each-still (λ (x : Running). OfKind (stream_of w.gate.streams x.ep) x.kind) success r table w.host.running s.kinds;
     start_kinds = s.start_kinds;
   }
@@ -207,10 +208,10 @@ module _ {S : Type 0} (m : Meaning S) (laws : IsGadget m) (w : World S) (j : Sha
       facts = told-append w.gate.facts j.back cs ∙ told-append (told w.gate.facts j.back) (map flushed_tag gone) (ToldTable (m.table done.0) ∷ ToldFaces (m.interfaces done.0) ∷ Answered c ∷ [])
 
       ended-soon : ((any_change (left ++ j.coming) || j.fenced) || (changes e.load.verdict || false)) ≡ true
-      ended-soon = or-right (any_change (left ++ j.coming) || j.fenced) (changes e.load.verdict || false) (or-left (changes e.load.verdict) false is-it)
+      ended-soon = or_right (any_change (left ++ j.coming) || j.fenced) (changes e.load.verdict || false) (or_left (changes e.load.verdict) false is-it)
 
       some-change : any_change j.held ≡ true
-      some-change = ap any_change held.is ∙ any-append is_change f.front (e ∷ f.back) ∙ or-right (any_change f.front) (is_change e || any_change f.back) (or-left (is_change e) (any_change f.back) is-it)
+      some-change = ap any_change held.is ∙ list_any-append is_change f.front (e ∷ f.back) ∙ or_right (any_change f.front) (is_change e || any_change f.back) (or_left (is_change e) (any_change f.back) is-it)
 
   related : Related m (sent_world w done.0 left running cs) (sent_shared j left cs)
   related = after-host m w j done.0 left running cs rel there first news

@@ -1,5 +1,5 @@
 -- What a change takes off the queues, of those that are held.
-use Rattle.std.proofs.Common.{◌≡◌, ℕ, ◌==◌, ◌&&◌, not, Bool, true, false, cond, List, [], ◌∷◌, ◌++◌, map, filter, Option, refl, sym, ap, ◌∙◌, subst, arith, inl, inr, ◌⊎◌}
+use Rattle.std.proofs.Common.{◌≡◌, ℕ, ◌==◌, ◌&&◌, not, Bool, true, false, cond, List, [], ◌∷◌, ◌++◌, map, filter, Option, refl, sym, ap, ◌∙◌, subst, arith, inl, inr, ◌⊎◌, true≢false}
 use Rattle.std.specs.List.{AllByRecursion as Each}
 use Rattle.usb_base.specs.declared.endpoint.EpTable.{EpTable}
 use Rattle.usb_base.specs.Endpoint.{row_of}
@@ -30,7 +30,6 @@ use Rattle.direct_proof.specs.Running.{Quits, runs_after}
 use Rattle.direct_proof.specs.Stale.{Clean}
 use Rattle.direct_proof.specs.Loads.{FitsVerdict}
 use Rattle.direct_proof.proofs.lists.Counts.{count-append, count-map, count-parts, Each-map}
-use Rattle.direct_proof.proofs.shared.Folds.{not-both}
 use Rattle.direct_proof.proofs.shared.Ran.{coming_of}
 
 -- ---- what is touched
@@ -54,8 +53,8 @@ pub touched-wire : (r : Route) (t : EpTable) (l : Load) → FitsVerdict l.verdic
 touched-wire r t l fits h = go l.verdict fits h
   where
     by_route : (x : Route) → is_touched r t (normal_by l.request (Routed x)).ep ≡ true → ⊥
-    by_route (route.SetConfig c) k = not-both (sym k)
-    by_route _ k = not-both (sym k)
+    by_route (route.SetConfig c) k = true≢false (sym k)
+    by_route _ k = true≢false (sym k)
 
     go : (v : Verdict) → FitsVerdict v l.request.transfer → is_touched r t (normal_by l.request v).ep ≡ true → is_wire v ≡ true
     go (Wire pipe) f k = refl
@@ -132,7 +131,7 @@ packets-flushed iso ep (e ∷ es) bs = packets-flushed iso ep es bs
 
 pub clean-flushed : (fence : Option ℕ) (down : ℕ → Bool) (p : Bool) (es : List Entry) (bs : List Tagged) → Clean fence down p bs → Clean fence down p (map flushed_tag es ++ bs)
 clean-flushed fence down p [] bs h = h
-clean-flushed fence down p (e ∷ es) bs h = ((λ z. absurd (not-both (sym z))), clean-flushed fence down p es bs h)
+clean-flushed fence down p (e ∷ es) bs h = ((λ z. absurd (true≢false (sym z))), clean-flushed fence down p es bs h)
 
 -- ---- a stream that ends at the host
 
@@ -145,7 +144,7 @@ runs-shape ep _ = inl (λ b. refl)
 
 pub quits-low : (fence : Option ℕ) (ep : ℕ) (r : Bool) (ps : List (ℕ × RedirPacket)) → Quits fence ep r ps → Quits fence ep false ps
 quits-low fence ep r [] h = refl
-quits-low fence ep r (p ∷ ps) h = ((λ z. absurd (not-both (sym z))), go (runs-shape ep p.1) (quits-low fence ep (runs_after ep p.1 r) ps h.1))
+quits-low fence ep r (p ∷ ps) h = ((λ z. absurd (true≢false (sym z))), go (runs-shape ep p.1) (quits-low fence ep (runs_after ep p.1 r) ps h.1))
   where
     go : ((b : Bool) → runs_after ep p.1 b ≡ b) ⊎ ((b : Bool) → runs_after ep p.1 b ≡ runs_after ep p.1 false) → Quits fence ep false ps → Quits fence ep (runs_after ep p.1 false) ps
     go (inl k) low = subst (λ (b : Bool). Quits fence ep b ps) (sym (k false)) low

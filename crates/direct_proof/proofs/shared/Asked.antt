@@ -1,5 +1,5 @@
 -- Requests that are asked back: what an unlink marks, and the cancels that it sends.
-use Rattle.std.proofs.Common.{◌≡◌, ℕ, ◌+◌, ◌||◌, Bool, true, false, cond, List, [], ◌∷◌, ◌++◌, map, filter, refl, sym, ap, ◌∙◌, subst, arith}
+use Rattle.std.proofs.Common.{◌≡◌, ℕ, ◌+◌, ◌||◌, Bool, true, false, cond, List, [], ◌∷◌, ◌++◌, map, filter, refl, sym, ap, ◌∙◌, subst, arith, true≢false}
 use Rattle.std.specs.List.{AllByRecursion as Each}
 use Rattle.redir_data.specs.declared.packet.RedirPacket.{RedirPacket}
 use Rattle.model_device.specs.Transfer.{is_control}
@@ -17,7 +17,6 @@ use Rattle.direct_proof.specs.Shared.{lines, at_hosts}
 use Rattle.direct_proof.specs.Ids.{Ids, count, Agrees}
 use Rattle.direct_proof.specs.Cancels.{IsAsked, IsAsking, Behind, is_change, any_change, CancelsFit}
 use Rattle.direct_proof.proofs.lists.Counts.{count-map, Each-map, Each-swap}
-use Rattle.direct_proof.proofs.shared.Folds.{not-both}
 use Rattle.direct_proof.proofs.shared.Streaming.{IsQuiet}
 
 abbrev pub ask_entry : ℕ → Entry → Entry
@@ -90,7 +89,7 @@ debts-each P (s ∷ ss) h = go (goes_by_id s.verdict) refl h (debts-each P ss)
     go : (b : Bool) → goes_by_id s.verdict ≡ b → Each P (map debt_from (cond b (s ∷ filter (λ (x : Submission). goes_by_id x.verdict) ss) (filter (λ (x : Submission). goes_by_id x.verdict) ss))) → (Each P (debts_of ss) → Each (λ (x : Submission). goes_by_id x.verdict ≡ true → P (debt_from x)) ss) →
         (goes_by_id s.verdict ≡ true → P (debt_from s)) × Each (λ (x : Submission). goes_by_id x.verdict ≡ true → P (debt_from x)) ss
     go true e k rest = ((λ z. k.0), rest k.1)
-    go false e k rest = ((λ z. absurd (not-both (sym z ∙ e))), rest k)
+    go false e k rest = ((λ z. absurd (true≢false (sym z ∙ e))), rest k)
 
 -- an entry that has the id of a live submit is that submit's
 pub entries-of : (debts : List Debt) (names : List Submitted) (es : List Entry) (ran : List Coming) (ss left : List Submission) → Ids debts names es ran → debts_of ss ++ debts_of left ≡ debts →

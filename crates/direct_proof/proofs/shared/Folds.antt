@@ -1,6 +1,5 @@
 -- The wire to the host: what its packets put in line, and the relations that are kept as it grows and is read.
-use Rattle.std.proofs.Common.{◌≡◌, ℕ, ◌||◌, ◌&&◌, Bool, true, false, cond, List, [], ◌∷◌, ◌++◌, refl, sym, ap, ◌∙◌, append_assoc}
-use Rattle.std.specs.List.{list_any}
+use Rattle.std.proofs.Common.{◌≡◌, ℕ, ◌||◌, Bool, true, false, cond, List, [], ◌∷◌, ◌++◌, refl, sym, ap, ◌∙◌, append_assoc}
 use Rattle.usb_base.specs.declared.transfer.Transfer.{Transfer}
 use Rattle.redir_wire.specs.declared.packet.RedirControl.TheVariants as plain
 use Rattle.redir_data.specs.declared.packet.RedirPacket.{RedirPacket}
@@ -16,45 +15,15 @@ use Rattle.direct_proof.specs.Requests.{Entry, at_host, form_of, queued_transfer
 use Rattle.direct_proof.specs.Shared.{in_line, lines, half_line, at_hosts}
 use Rattle.direct_proof.specs.Cancels.{begins, is_request}
 
-pub clash : (b : Bool) → b ≡ true → b ≡ false → ⊥
-clash b h k = let bad : true ≡ false = sym h ∙ k in cc
-
-pub not-both : true ≡ false → ⊥
-not-both e = cc
-
-pub or-left : (a b : Bool) → a ≡ true → (a || b) ≡ true
-or-left true b h = refl
-or-left false b h = absurd (not-both (sym h))
-
-pub or-right : (a b : Bool) → b ≡ true → (a || b) ≡ true
-or-right true b h = refl
-or-right false b h = h
-
-pub or-none : (a b : Bool) → (a || b) ≡ false → (a ≡ false) × (b ≡ false)
-or-none true b h = absurd (not-both h)
-or-none false b h = (refl, h)
-
 pub or-assoc : (a b c : Bool) → (a || (b || c)) ≡ ((a || b) || c)
 or-assoc true b c = refl
 or-assoc false b c = refl
-
-pub or-false : (a : Bool) → (a || false) ≡ a
-or-false true = refl
-or-false false = refl
-
-pub both-parts : (a b : Bool) → (a && b) ≡ true → (a ≡ true) × (b ≡ true)
-both-parts true b h = (refl, h)
-both-parts false b h = absurd (not-both (sym h))
 
 -- what is gathered from each element of a list
 pub gathers-append : {X Y : Type 0} (f : X → List Y) (all : List X → List Y) → all [] ≡ [] → ((x : X) (xs : List X) → all (x ∷ xs) ≡ f x ++ all xs) → (xs ys : List X) → all (xs ++ ys) ≡ all xs ++ all ys
 gathers-append {Y = Y} f all none more [] ys = ap (λ (l : List Y). l ++ all ys) (sym none)
 gathers-append {Y = Y} f all none more (x ∷ xs) ys =
     more x (xs ++ ys) ∙ ap (λ (l : List Y). f x ++ l) (gathers-append f all none more xs ys) ∙ sym (append_assoc (f x) (all xs) (all ys)) ∙ ap (λ (l : List Y). l ++ all ys) (sym (more x xs))
-
-pub any-append : {X : Type 0} (p : X → Bool) (xs ys : List X) → list_any p (xs ++ ys) ≡ (list_any p xs || list_any p ys)
-any-append p [] ys = refl
-any-append p (x ∷ xs) ys = ap (λ (b : Bool). p x || b) (any-append p xs ys) ∙ or-assoc (p x) (list_any p xs) (list_any p ys)
 
 -- ---- what a packet puts in line
 

@@ -1,6 +1,7 @@
 -- A move keeps what the two machines share with the device attached directly.
 use Rattle.std.proofs.Common.{◌≡◌, Bool, true, false, List, [], ◌∷◌, ◌++◌, map, refl, sym, ap, ◌∙◌, subst, append-nil}
 use Rattle.std.specs.List.{flat_map}
+use Rattle.std.proofs.lemmas.Bool.{both_ways}
 use Rattle.usbip_op.specs.declared.packet.OpPacket.{OpPacket}
 use Rattle.usbip_urb.specs.declared.packet.UrbPacket.{UrbPacket}
 use Rattle.usbip_urb.specs.declared.client.ClientPacket.{ClientPacket}
@@ -16,7 +17,7 @@ use Rattle.direct_proof.specs.Related.{Related}
 use Rattle.direct_proof.specs.Runs.{urb_in}
 use Rattle.direct_proof.proofs.answers.Answered.{IsDeed}
 use Rattle.direct_proof.proofs.shared.Traces.{acts-append, allowed-append, answers-append}
-use Rattle.direct_proof.proofs.shared.Folds.{clash, gathers-append}
+use Rattle.direct_proof.proofs.shared.Folds.{gathers-append}
 
 -- what a move did is what the device attached directly does
 pub record Keeps {S : Type 0} (m : Meaning S) (w : World S) (j : Shared) (made : Made S) : Type 0 where
@@ -65,12 +66,12 @@ pub not-lost : {S : Type 0} (m : Meaning S) (w : World S) (j : Shared) → Relat
 not-lost m w j rel there = go w.gate.lost refl
   where
     go : (b : Bool) → w.gate.lost ≡ b → b ≡ false
-    go true h = absurd (clash w.host.unplugged (rel.lost h).1 there)
+    go true h = absurd (both_ways w.host.unplugged there (rel.lost h).1)
     go false h = refl
 
 pub not-gone : {S : Type 0} (m : Meaning S) (w : World S) (j : Shared) → Related m w j → w.gate.lost ≡ false → j.gone ≡ false
 not-gone m w j rel there = go j.gone refl
   where
     go : (b : Bool) → j.gone ≡ b → b ≡ false
-    go true h = absurd (clash w.gate.lost (rel.sides.gone h) there)
+    go true h = absurd (both_ways w.gate.lost there (rel.sides.gone h))
     go false h = refl

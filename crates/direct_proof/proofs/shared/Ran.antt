@@ -1,6 +1,7 @@
 -- What isn't a change is performed, or taken off the queue: it leaves, its answer is under way, and the facts stay.
-use Rattle.std.proofs.Common.{◌≡◌, ℕ, ◌||◌, Bool, true, false, List, [], ◌∷◌, ◌++◌, Some, refl, sym, ap, ◌∙◌, subst, append_assoc}
+use Rattle.std.proofs.Common.{◌≡◌, ℕ, ◌||◌, Bool, true, false, List, [], ◌∷◌, ◌++◌, Some, refl, sym, ap, ◌∙◌, subst, append_assoc, true≢false}
 use Rattle.std.specs.List.{list_any, AllByRecursion as Each}
+use Rattle.std.proofs.lemmas.Bool.{or_left}
 use Rattle.usb_base.specs.declared.transfer.Outcome.{Outcome}
 use Rattle.usb_base.specs.declared.endpoint.EpTable.{EpTable}
 use Rattle.redir_wire.specs.EpTable.{table_of}
@@ -22,7 +23,6 @@ use Rattle.direct_proof.specs.Cancels.{Behind, is_change, any_change}
 use Rattle.direct_proof.specs.Stale.{ends}
 use Rattle.direct_proof.specs.Running.{StartsFit}
 use Rattle.direct_proof.proofs.shared.Owed.{each-parts, ids-perform}
-use Rattle.direct_proof.proofs.shared.Folds.{not-both, or-left}
 use Rattle.direct_proof.proofs.shared.Backs.{told-append, clean-append}
 use Rattle.direct_proof.proofs.shared.Sending.{after-host, sent_world, sent_shared, TellsLittle, answer-tells}
 
@@ -94,7 +94,7 @@ after-ran {S = S} m w j front e back gadget configuration o rel plugged held pla
       table = tells.table ∙ s.table ∙ ap (λ (t : EpTable). table_of (ep_info_of both_caps t)) (sym same.table);
       faces = tells.interfaces ∙ s.faces ∙ ap Some (sym same.interfaces);
       clean = clean-append w.gate.fence (down_in w.gate.streams) (any_change (j.held ++ j.coming) || j.fenced) (any_change ((front ++ back) ++ j.coming) || j.fenced) j.back cs
-          (λ z. or-left (any_change ((front ++ back) ++ j.coming) || j.fenced) (list_any (ends w.gate.fence) cs) (ap (λ (b : Bool). b || j.fenced) (sym all-same) ∙ z)) s.clean ((λ z. absurd (not-both (sym z))), tt);
+          (λ z. or_left (any_change ((front ++ back) ++ j.coming) || j.fenced) (list_any (ends w.gate.fence) cs) (ap (λ (b : Bool). b || j.fenced) (sym all-same) ∙ z)) s.clean ((λ z. absurd (true≢false (sym z))), tt);
       quits = s.quits;
       trails = s.trails;
       starts = subst (λ (t : EpTable). StartsFit t (any_change (front ++ back) || j.half) w.to_host) (sym same.table) (subst (λ (b : Bool). StartsFit (m.table w.host.gadget) (b || j.half) w.to_host) held-same s.starts);

@@ -1,6 +1,9 @@
 -- The host does something: some of what it holds leaves, and it sends answers and facts.
 use Rattle.std.proofs.Common.{◌≡◌, ℕ, ◌||◌, Bool, true, false, cond, List, [], ◌∷◌, ◌++◌, map, Option, Some, None, is_some, if◌then◌else◌, ◌==◌, refl, sym, ap, ◌∙◌, subst}
 use Rattle.std.specs.List.{list_any, AllByRecursion as Each}
+use Rattle.std.proofs.lemmas.Bool.{both_ways, or_parts}
+use Rattle.std.proofs.Math.Bool.{or-false}
+use Rattle.std.proofs.lemmas.List.Folds.{list_any-append}
 use Rattle.usb_base.specs.Status.{status_byte}
 use Rattle.redir_data.specs.declared.packet.RedirPacket.{RedirPacket}
 use Rattle.model_device.specs.Meaning.{Meaning}
@@ -29,7 +32,6 @@ use Rattle.gate_history.specs.state.StreamIds.{StreamIds}
 use Rattle.direct_proof.specs.StreamIds.{status_id, statuses_on, StatusIsKept}
 use Rattle.direct_proof.proofs.shared.WireBack.{runs_in-append}
 use Rattle.direct_proof.proofs.shared.Traces.{map-append}
-use Rattle.direct_proof.proofs.shared.Folds.{clash, or-none, or-false, any-append}
 use Rattle.direct_proof.proofs.shared.Fits.{fits-each}
 use Rattle.direct_proof.proofs.shared.Streaming.{controls-sent, fenced-sent}
 
@@ -72,17 +74,17 @@ news-kept stream_ids (c ∷ cs) k = ((plainly c k.0).kept stream_ids, news-kept 
 
 pub no-bye : (bs : List Tagged) → list_any is_bye bs ≡ false → ByeLast bs
 no-bye [] h = tt
-no-bye (b ∷ bs) h = let r = or-none (is_bye b) (list_any is_bye bs) h in ((λ z. absurd (clash (is_bye b) z r.0)), no-bye bs r.1)
+no-bye (b ∷ bs) h = let r = or_parts (is_bye b) (list_any is_bye bs) h in ((λ z. absurd (both_ways (is_bye b) r.0 z)), no-bye bs r.1)
 
 pub none-more : (test : Tagged → Bool) (bs cs : List Tagged) → list_any test cs ≡ false → list_any test (bs ++ cs) ≡ list_any test bs
-none-more test bs cs h = any-append test bs cs ∙ ap (λ (b : Bool). list_any test bs || b) h ∙ or-false (list_any test bs)
+none-more test bs cs h = list_any-append test bs cs ∙ ap (λ (b : Bool). list_any test bs || b) h ∙ or-false (list_any test bs)
 
 pub once-more : (bs cs : List Tagged) → PlugOnce bs → list_any is_greeting cs ≡ false → list_any is_plug cs ≡ false → PlugOnce (bs ++ cs)
 once-more [] cs o g p = go cs p
   where
     go : (ds : List Tagged) → list_any is_plug ds ≡ false → PlugOnce ds
     go [] h = tt
-    go (d ∷ ds) h = let r = or-none (is_plug d) (list_any is_plug ds) h in ((λ z. absurd (clash (is_plug d) z r.0)), go ds r.1)
+    go (d ∷ ds) h = let r = or_parts (is_plug d) (list_any is_plug ds) h in ((λ z. absurd (both_ways (is_plug d) r.0 z)), go ds r.1)
 once-more (b ∷ bs) cs o g p = ((λ z. (none-more is_greeting bs cs g ∙ (o.0 z).0, none-more is_plug bs cs p ∙ (o.0 z).1)), once-more bs cs o.1 g p)
 
 -- how far the two have met is the same behind what names neither the greeting nor the device
@@ -104,7 +106,7 @@ meets-client w j imported lost known k = record { host = k.host; gate = k.gate; 
 -- a host that is there has sent no farewell
 pub farewell-sent : {S : Type 0} (h : Host S) (bs cs : List Tagged) → h.unplugged ≡ false → list_any is_bye bs ≡ false → list_any is_bye cs ≡ false → Farewell h (bs ++ cs)
 farewell-sent h bs cs plugged none no_more = record {
-  still = λ z. absurd (clash h.unplugged z plugged);
+  still = λ z. absurd (both_ways h.unplugged plugged z);
   bye = λ z. none-more is_bye bs cs no_more ∙ none;
   bye_last = no-bye (bs ++ cs) (none-more is_bye bs cs no_more ∙ none);
 }
@@ -157,7 +159,7 @@ after-host m w j gadget held running cs rel plugged first news loads tagged ids 
   ids = subst (Ids j.debts w.submits (held ++ j.coming)) (sym (runs_in-append j.back cs)) ids;
   real = rel.real;
   runs_at_in = runs_in_range;
-  before = λ h. absurd (clash w.host.guest.first h first);
+  before = λ h. absurd (both_ways w.host.guest.first first h);
   asked = rel.asked;
   meets = meets-sent w j cs greetingless plugless rel.meets;
   debts = rel.debts;
@@ -167,7 +169,7 @@ after-host m w j gadget held running cs rel plugged first news loads tagged ids 
   session = λ h a. session (rel.session h (ap (λ (b : Bool). is_some w.gate.facts.connect || b) (sym (none-more is_plug j.back cs plugless)) ∙ a));
   ups = rel.ups;
   down = rel.down;
-  lost = λ h. absurd (clash w.host.unplugged (rel.lost h).1 plugged);
+  lost = λ h. absurd (both_ways w.host.unplugged plugged (rel.lost h).1);
   sides = rel.sides;
   farewell = farewell-sent (sent_world w gadget held running cs).host j.back cs plugged (rel.farewell.bye plugged) (news-none is_bye (λ b p. p.bye) cs news);
 }

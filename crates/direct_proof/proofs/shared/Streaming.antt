@@ -1,6 +1,9 @@
 -- The wire to the host: streams that quit, starts and stops, and their ids, as it grows and is read.
-use Rattle.std.proofs.Common.{◌≡◌, ℕ, ◌+◌, ◌≤◌, ◌||◌, Bool, true, false, cond, List, [], ◌∷◌, ◌++◌, Option, Some, None, refl, sym, ap, ◌∙◌, subst, arith, append-nil, is_some}
+use Rattle.std.proofs.Common.{◌≡◌, ℕ, ◌+◌, ◌≤◌, ◌||◌, Bool, true, false, cond, List, [], ◌∷◌, ◌++◌, Option, Some, None, refl, sym, ap, ◌∙◌, subst, arith, append-nil, is_some, true≢false}
 use Rattle.std.specs.List.{list_any, AllByRecursion as Each}
+use Rattle.std.proofs.lemmas.Bool.{or_left}
+use Rattle.std.proofs.Math.Bool.{or-false}
+use Rattle.std.proofs.lemmas.List.Folds.{list_any-append}
 use Rattle.usb_base.specs.declared.endpoint.EpTable.{EpTable}
 use Rattle.redir_data.specs.declared.packet.RedirPacket.{RedirPacket}
 use Rattle.redir_host.specs.declared.state.running.StreamKind.{StreamKind}
@@ -12,7 +15,7 @@ use Rattle.direct_proof.specs.Stale.{asks}
 use Rattle.direct_proof.specs.Running.{Quits, runs_after, Trails, passes, stream_endpoint, started_kind, CanStart, StartsFit}
 use Rattle.direct_proof.specs.StreamIds.{stream_id, stream_ids_on, statuses_on, status_id, Controls, StreamIdIsKept, StatusIsKept, Fenced}
 use Rattle.direct_proof.specs.Kinds.{StreamIsIn}
-use Rattle.direct_proof.proofs.shared.Folds.{not-both, or-left, or-assoc, or-false, any-append, gathers-append}
+use Rattle.direct_proof.proofs.shared.Folds.{or-assoc, gathers-append}
 
 -- ---- packets that say nothing of streams
 
@@ -21,21 +24,21 @@ IsQuiet p = (stream_endpoint p.1 ≡ None) × (started_kind p.1 ≡ None) × ((e
 
 quits-quiet : (fence : Option ℕ) (ep : ℕ) (qs : List (ℕ × RedirPacket)) → Each IsQuiet qs → Quits fence ep false qs
 quits-quiet fence ep [] h = refl
-quits-quiet fence ep (q ∷ qs) h = ((λ e. absurd (not-both (sym e))), subst (λ (b : Bool). Quits fence ep b qs) (sym (h.0.2 ep false)) (quits-quiet fence ep qs h.1))
+quits-quiet fence ep (q ∷ qs) h = ((λ e. absurd (true≢false (sym e))), subst (λ (b : Bool). Quits fence ep b qs) (sym (h.0.2 ep false)) (quits-quiet fence ep qs h.1))
 
 pub quits-more : (fence : Option ℕ) (ep : ℕ) (r : Bool) (ps qs : List (ℕ × RedirPacket)) → Each IsQuiet qs → Quits fence ep r ps → Quits fence ep r (ps ++ qs)
 quits-more fence ep r [] qs k h = subst (λ (b : Bool). Quits fence ep b qs) (sym h) (quits-quiet fence ep qs k)
 quits-more fence ep r (p ∷ ps) qs k h =
-    ((λ e. any-append (asks fence) (p ∷ ps) qs ∙ or-left (list_any (asks fence) (p ∷ ps)) (list_any (asks fence) qs) (h.0 e)), quits-more fence ep (runs_after ep p.1 r) ps qs k h.1)
+    ((λ e. list_any-append (asks fence) (p ∷ ps) qs ∙ or_left (list_any (asks fence) (p ∷ ps)) (list_any (asks fence) qs) (h.0 e)), quits-more fence ep (runs_after ep p.1 r) ps qs k h.1)
 
 trails-quiet : (fence : Option ℕ) (down : ℕ → Bool) (qs : List (ℕ × RedirPacket)) → Each IsQuiet qs → Trails fence down qs
 trails-quiet fence down [] h = tt
-trails-quiet fence down (q ∷ qs) h = ((λ e. absurd (not-both (sym e ∙ ap (passes down) h.0.0))), trails-quiet fence down qs h.1)
+trails-quiet fence down (q ∷ qs) h = ((λ e. absurd (true≢false (sym e ∙ ap (passes down) h.0.0))), trails-quiet fence down qs h.1)
 
 pub trails-append : (fence : Option ℕ) (down : ℕ → Bool) (ps qs : List (ℕ × RedirPacket)) → Trails fence down ps → Trails fence down qs → Trails fence down (ps ++ qs)
 trails-append fence down [] qs h k = k
 trails-append fence down (p ∷ ps) qs h k =
-    ((λ e. any-append (asks fence) (p ∷ ps) qs ∙ or-left (list_any (asks fence) (p ∷ ps)) (list_any (asks fence) qs) (h.0 e)), trails-append fence down ps qs h.1 k)
+    ((λ e. list_any-append (asks fence) (p ∷ ps) qs ∙ or_left (list_any (asks fence) (p ∷ ps)) (list_any (asks fence) qs) (h.0 e)), trails-append fence down ps qs h.1 k)
 
 pub trails-more : (fence : Option ℕ) (down : ℕ → Bool) (ps qs : List (ℕ × RedirPacket)) → Each IsQuiet qs → Trails fence down ps → Trails fence down (ps ++ qs)
 trails-more fence down ps qs k h = trails-append fence down ps qs h (trails-quiet fence down qs k)
@@ -58,7 +61,7 @@ starts-none t u c (p ∷ ps) h = (go (started_kind p.1) h.0, starts-none t u (c 
   where
     go : (o : Option (StreamKind × ℕ)) → CanStart t true o → CanStart u c o
     go None k = tt
-    go (Some s) k = absurd (not-both k.0)
+    go (Some s) k = absurd (true≢false k.0)
 
 -- ---- ids
 

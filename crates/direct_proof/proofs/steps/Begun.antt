@@ -2,6 +2,8 @@
 use Rattle.std.proofs.Common.{◌≡◌, ◌||◌, Bool, true, false, cond, List, [], ◌∷◌, ◌++◌, map, refl, sym, ap, ◌∙◌, append-nil, append_assoc}
 use Rattle.std.specs.List.{flat_map, list_any}
 use Rattle.std.proofs.lemmas.Grind.{flat_map-append}
+use Rattle.std.proofs.lemmas.List.Folds.{list_any-append}
+use Rattle.std.proofs.lemmas.Bool.{or_right}
 use Rattle.usbip_op.specs.declared.packet.OpPacket.{OpPacket}
 use Rattle.usbip_urb.specs.declared.client.ClientPacket.{ClientPacket}
 use Rattle.usbip_urb.specs.declared.client.ClientPacket.TheVariants.{Op, Urb}
@@ -20,7 +22,6 @@ use Rattle.direct_device.specs.Legal.{all_answers}
 use Rattle.direct_proof.specs.Moves.{deeds_of}
 use Rattle.direct_proof.specs.Runs.{urb_in}
 use Rattle.direct_proof.specs.Simulates.{is_import, since_import}
-use Rattle.direct_proof.proofs.shared.Folds.{any-append, or-right}
 use Rattle.direct_proof.proofs.shared.Keeps.{urbs-mapped}
 use Rattle.direct_proof.proofs.shared.Traces.{map-append}
 use Rattle.direct_proof.proofs.steps.Replying.{Replying}
@@ -38,9 +39,6 @@ pub record Begun (since : List UrbPacket) (st : State) (packets : List ClientPac
 no-urbs : (xs : List OpPacket) → flat_map urb_in (map Op xs) ≡ []
 no-urbs [] = refl
 no-urbs (x ∷ xs) = no-urbs xs
-
-both-way : (b : Bool) → b ≡ true → b ≡ false → ⊥
-both-way b h k = let bad : true ≡ false = sym h ∙ k in cc
 
 chosen : (b : Bool) (x y : List UrbPacket) → b ≡ true → cond b x y ≡ x
 chosen b x y h = ap (λ (c : Bool). cond c x y) h
@@ -114,7 +112,7 @@ module _ {S : Type 0} (n : Meaning S) (d : Direct S) (since : List UrbPacket) (s
         ∙ sym (map-append Op b.ops r.ops) ∙ sym (append-nil (map Op (b.ops ++ r.ops)));
     none = λ i o. refl;
     given = by (imports m.what) refl;
-    inside = λ i. any-append is_import b.ops r.ops ∙ or-right (list_any is_import b.ops) (list_any is_import r.ops) (r.success ∙ comes (imports m.what) refl i);
+    inside = λ i. list_any-append is_import b.ops r.ops ∙ or_right (list_any is_import b.ops) (list_any is_import r.ops) (r.success ∙ comes (imports m.what) refl i);
   }
     where
       comes : (x : Bool) → imports m.what ≡ x → (after st m).imported ≡ true → imports m.what ≡ true
@@ -122,7 +120,7 @@ module _ {S : Type 0} (n : Meaning S) (d : Direct S) (since : List UrbPacket) (s
       comes false e i = absurd (not-in (imports m.what) (leaves m.what) e (ap (λ (z : Bool). cond (imports m.what) true (cond (leaves m.what) false z)) (sym h) ∙ i))
 
       by : (x : Bool) → imports m.what ≡ x → [] ≡ cond (list_any is_import (b.ops ++ r.ops)) later []
-      by true e = sym (chosen (list_any is_import (b.ops ++ r.ops)) later [] (any-append is_import b.ops r.ops ∙ or-right (list_any is_import b.ops) (list_any is_import r.ops) (r.success ∙ e)) ∙ mark-imports st m n d since e ∙ none-out h)
+      by true e = sym (chosen (list_any is_import (b.ops ++ r.ops)) later [] (list_any-append is_import b.ops r.ops ∙ or_right (list_any is_import b.ops) (list_any is_import r.ops) (r.success ∙ e)) ∙ mark-imports st m n d since e ∙ none-out h)
       by false e =
           nothing-more (list_any is_import b.ops) since (sym nothing ∙ b.given)
           ∙ (λ i. cond (sym same i) (since ++ sym (none-out h) i) [])
@@ -133,7 +131,7 @@ module _ {S : Type 0} (n : Meaning S) (d : Direct S) (since : List UrbPacket) (s
           or-none false c z = z
 
           same : list_any is_import (b.ops ++ r.ops) ≡ list_any is_import b.ops
-          same = any-append is_import b.ops r.ops ∙ or-none (list_any is_import b.ops) (list_any is_import r.ops) (r.success ∙ e)
+          same = list_any-append is_import b.ops r.ops ∙ or-none (list_any is_import b.ops) (list_any is_import r.ops) (r.success ∙ e)
 
   begun-over : st.imported ≡ false → st.client_over ≡ true → Begun later (after st m) (packets ++ to_client st m)
   begun-over h over = record {

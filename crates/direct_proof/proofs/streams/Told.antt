@@ -1,5 +1,5 @@
 -- What comes to the gateway: a reply, or a packet of a stream or its status, and never both.
-use Rattle.std.proofs.Common.{sym, ◌∙◌}
+use Rattle.std.proofs.Common.{sym, ◌∙◌, true≢false}
 use Rattle.redir_wire.specs.declared.packet.RedirControl.TheVariants as plain
 use Rattle.redir_data.specs.declared.packet.RedirData.TheVariants as moving
 use Rattle.redir_data.specs.declared.packet.RedirPacket.{RedirPacket}
@@ -16,14 +16,13 @@ use Rattle.direct_proof.specs.Loads.{FitsVerdict, IsComing}
 use Rattle.direct_proof.specs.Tagged.{Answered, on_wire}
 use Rattle.direct_proof.proofs.races.Kinds.{IsReply}
 use Rattle.direct_proof.proofs.streams.Kinds.{IsStreamPacket}
-use Rattle.direct_proof.proofs.shared.Folds.{not-both}
 
 pub never-both : (p : RedirPacket) → IsReply p → IsStreamPacket p → ⊥
 never-both (Plain (plain.IsoStatus status ep)) a b = a
 never-both (Plain (plain.InterruptStatus status ep)) a b = a
 never-both (Plain x) a b = b
 never-both (Carrying (moving.Iso ep status told body)) a b = a
-never-both (Carrying (moving.Interrupt ep status told body)) a b = not-both (sym b ∙ a)
+never-both (Carrying (moving.Interrupt ep status told body)) a b = true≢false (sym b ∙ a)
 never-both (Carrying x) a b = b
 
 -- what answers a request is no packet of a stream

@@ -1,6 +1,8 @@
 -- A submit that goes to the host and ends no stream is the same item at the device attached directly, and keeps what is shared.
 use Rattle.std.proofs.Common.{◌≡◌, ℕ, ◌<◌, ◌==◌, ◌||◌, Bool, true, false, cond, List, [], ◌∷◌, ◌++◌, map, filter, None, refl, sym, ap, ◌∙◌, subst, append-nil, append_assoc, inl, inr, ◌⊎◌}
 use Rattle.std.specs.List.{AllByRecursion as Each}
+use Rattle.std.proofs.lemmas.Bool.{both_ways}
+use Rattle.std.proofs.lemmas.List.Folds.{list_any-append}
 use Rattle.usbip_urb.specs.declared.packet.Submit.{Submit as UrbSubmit}
 use Rattle.redir_data.specs.declared.packet.RedirPacket.{RedirPacket}
 use Rattle.model_device.specs.Meaning.{Meaning}
@@ -35,7 +37,7 @@ use Rattle.direct_proof.specs.Kinds.{StartOfKind, StreamIsIn}
 use Rattle.direct_proof.specs.Running.{started_kind, stream_endpoint}
 use Rattle.direct_proof.proofs.lists.Counts.{any-none}
 use Rattle.direct_proof.proofs.shared.Owed.{ids-submit, IsNewNumber}
-use Rattle.direct_proof.proofs.shared.Folds.{clash, any-append, lines-append, at_hosts-append}
+use Rattle.direct_proof.proofs.shared.Folds.{lines-append, at_hosts-append}
 use Rattle.direct_proof.proofs.shared.Fits.{fits-append}
 use Rattle.direct_proof.proofs.shared.Streaming.{IsQuiet, quits-more, trails-more, starts-more, controls-more, fenced-more, streams-quiet-in}
 use Rattle.direct_proof.proofs.shared.Backs.{clean-more}
@@ -121,7 +123,7 @@ module _ {S : Type 0} (m : Meaning S) (w : World S) (j : Shared) (rel : Related 
   met = (rel.meets.behind (rel.meets.no_session inside there)).2
 
   more-changes : (any_change (j.held ++ j.coming) || j.fenced) ≡ true → (any_change (j.held ++ (j.coming ++ entry ∷ [])) || j.fenced) ≡ true
-  more-changes h = ap (λ (b : Bool). b || j.fenced) (ap any_change (sym joined) ∙ any-append is_change (j.held ++ j.coming) (entry ∷ [])) ∙ wider (any_change (j.held ++ j.coming)) (is_change entry || false) j.fenced h
+  more-changes h = ap (λ (b : Bool). b || j.fenced) (ap any_change (sym joined) ∙ list_any-append is_change (j.held ++ j.coming) (entry ∷ [])) ∙ wider (any_change (j.held ++ j.coming)) (is_change entry || false) j.fenced h
     where
       wider : (a x f : Bool) → (a || f) ≡ true → ((a || x) || f) ≡ true
       wider true x f k = refl
@@ -134,7 +136,7 @@ module _ {S : Type 0} (m : Meaning S) (w : World S) (j : Shared) (rel : Related 
 
   uncancelled : (ahead : List Entry) (ps : List (ℕ × RedirPacket)) (es : List Entry) → Each (λ (p : ℕ × RedirPacket). is_cancel p.1 ≡ false) ps → CancelsFit ahead ps es
   uncancelled ahead [] es h = tt
-  uncancelled ahead (p ∷ ps) es h = ((λ c. absurd (clash (is_cancel p.1) c h.0)), uncancelled (moved_on (begins p.1) ahead es) ps (left (begins p.1) es) h.1)
+  uncancelled ahead (p ∷ ps) es h = ((λ c. absurd (both_ways (is_cancel p.1) h.0 c)), uncancelled (moved_on (begins p.1) ahead es) ps (left (begins p.1) es) h.1)
 
   new-number : IsNewNumber (number load) j.debts
   new-number = subst (IsNewNumber r.number) owed (mapped (filter (λ (x : Submission). goes_by_id x.verdict) (submits st)) (Each-filter (λ (x : Submission). is_numbered r.number x ≡ false) (λ (x : Submission). goes_by_id x.verdict) (submits st) (any-none (is_numbered r.number) (submits st) is.new)))
@@ -167,7 +169,7 @@ module _ {S : Type 0} (m : Meaning S) (w : World S) (j : Shared) (rel : Related 
         (ids-submit j.debts w.submits (j.held ++ j.coming) (runs_in j.back) (is.simple.id) load false rel.ids (is-new st (is.simple.id) j.debts is.fresh.1 (rel.debts there)) new-number);
     real = Each-append (λ (d : Debt). (d.id == 0) ≡ false) j.debts (debt ∷ []) rel.real (is.fresh.0, tt);
     runs_at_in = rel.runs_at_in;
-    before = λ h. absurd (clash w.host.guest.first h met);
+    before = λ h. absurd (both_ways w.host.guest.first met h);
     asked = λ h. Each-append (λ (p : ℕ × RedirPacket). IsAsking p.1) w.to_host qs (rel.asked h) is.simple.asking;
     meets = rel.meets;
     debts = λ h. (λ i. (ap debts_of (map-append (λ (p : Pending). p.submit) st.live (fresh (opened_as st r v is.simple first) ∷ [])) ∙ debts-append (submits st) (opened_as st r v is.simple first ∷ []) ∙ (λ k. owed k ++ map debt_from (cond (is.simple.goes k) (opened_as st r v is.simple first ∷ []) []))) i ++ debts_of ((rel.alone inside).0 i))
@@ -187,7 +189,7 @@ module _ {S : Type 0} (m : Meaning S) (w : World S) (j : Shared) (rel : Related 
     };
     ups = rel.ups;
     down = rel.down;
-    lost = λ h. absurd (clash st.lost h there);
+    lost = λ h. absurd (both_ways st.lost there h);
     sides = rel.sides;
     farewell = rel.farewell;
   }

@@ -1,6 +1,8 @@
 -- What is known of a submit that goes to the host and ends no stream: its id and its number are new, and it may stand behind a change.
 use Rattle.std.proofs.Common.{◌≡◌, ℕ, ◌<◌, ◌==◌, ◌||◌, Bool, true, false, List, [], ◌∷◌, ◌++◌, map, filter, sym, ◌∙◌, subst, arith, ◌⊎◌}
 use Rattle.std.specs.List.{list_any, AllByRecursion as Each}
+use Rattle.std.proofs.lemmas.Bool.{both_ways, or_parts}
+use Rattle.std.proofs.lemmas.List.Folds.{list_any-append}
 use Rattle.usb_base.specs.Endpoint.{endpoint_index}
 use Rattle.usbip_urb.specs.declared.packet.Submit.{Submit as UrbSubmit}
 use Rattle.model_device.specs.Transfer.{is_control}
@@ -19,7 +21,6 @@ use Rattle.direct_proof.specs.Requests.{Entry, Debt, debts_of}
 use Rattle.direct_proof.specs.Loads.{IsLoad}
 use Rattle.direct_proof.specs.Cancels.{Behind, is_change}
 use Rattle.direct_proof.proofs.shared.New.{IsNew, IsDrawn}
-use Rattle.direct_proof.proofs.shared.Folds.{clash, or-none, any-append}
 use Rattle.direct_proof.proofs.shared.Asked.{debt_from}
 use Rattle.direct_proof.proofs.submits.Simple.{IsSimple}
 
@@ -36,17 +37,17 @@ is-new st id ds free same = subst (IsNew id) same (Each-append (λ (d : Debt). (
     test x = id == x
 
     whole : (list_any test (ids_of (submits st) ++ ids_of st.abandoned) || list_any test (ids_of_streams st.stream_ids)) ≡ false
-    whole = sym (any-append test (ids_of (submits st) ++ ids_of st.abandoned) (ids_of_streams st.stream_ids)) ∙ free
+    whole = sym (list_any-append test (ids_of (submits st) ++ ids_of st.abandoned) (ids_of_streams st.stream_ids)) ∙ free
 
     parts : (list_any test (ids_of (submits st)) ≡ false) × (list_any test (ids_of st.abandoned) ≡ false)
-    parts = or-none (list_any test (ids_of (submits st))) (list_any test (ids_of st.abandoned)) (sym (any-append test (ids_of (submits st)) (ids_of st.abandoned)) ∙ (or-none (list_any test (ids_of (submits st) ++ ids_of st.abandoned)) (list_any test (ids_of_streams st.stream_ids)) whole).0)
+    parts = or_parts (list_any test (ids_of (submits st))) (list_any test (ids_of st.abandoned)) (sym (list_any-append test (ids_of (submits st)) (ids_of st.abandoned)) ∙ (or_parts (list_any test (ids_of (submits st) ++ ids_of st.abandoned)) (list_any test (ids_of_streams st.stream_ids)) whole).0)
 
     turned : (a b : ℕ) → (a == b) ≡ false → (b == a) ≡ false
     turned a b h = grind (arith, h)
 
     go : (ss : List Submission) → list_any test (map (λ (s : Submission). s.id) ss) ≡ false → Each (λ (d : Debt). (d.id == id) ≡ false) (map debt_from ss)
     go [] h = tt
-    go (s ∷ ss) h = let r = or-none (id == s.id) (list_any test (map (λ (x : Submission). x.id) ss)) h in (turned id s.id r.0, go ss r.1)
+    go (s ∷ ss) h = let r = or_parts (id == s.id) (list_any test (map (λ (x : Submission). x.id) ss)) h in (turned id s.id r.0, go ss r.1)
 
 -- ---- the move
 
@@ -62,7 +63,7 @@ pub record IsSimpleSubmit (st : State) (s : UrbSubmit) (v : Verdict) : Type 0 wh
 
 pub behind-none : (es : List Entry) (e : Entry) → Behind es → Each (λ (x : Entry). is_change x ≡ false) es → Behind (es ++ e ∷ [])
 behind-none [] e h k = ((λ c. tt), tt)
-behind-none (x ∷ es) e h k = ((λ c. absurd (clash (is_change x) c k.0)), behind-none es e h.1 k.1)
+behind-none (x ∷ es) e h k = ((λ c. absurd (both_ways (is_change x) k.0 c)), behind-none es e h.1 k.1)
 
 pub behind-zero : (es : List Entry) (e : Entry) → Behind es → is_control (normal_of e.load).ep ≡ true → Behind (es ++ e ∷ [])
 behind-zero [] e h k = ((λ c. tt), tt)

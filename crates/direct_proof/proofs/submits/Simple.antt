@@ -34,7 +34,7 @@ use Rattle.direct_proof.specs.Cancels.{IsAsking, CanAsk, is_cancel}
 use Rattle.direct_proof.specs.Loads.{FitsPipe}
 use Rattle.direct_proof.proofs.heard.Hearing.{heard-as, is-data}
 use Rattle.direct_proof.proofs.shared.Streaming.{IsQuiet}
-use Rattle.direct_proof.proofs.submits.Submitting.{by-wire}
+use Rattle.direct_proof.proofs.submits.Submitting.{by-routed, by-wire}
 
 -- what is known of its verdict: the packets that it sends, and that it ends no stream
 pub record IsSimple (st : State) (r : Request) (v : Verdict) : Type 0 where
@@ -105,10 +105,6 @@ none-lowered test [] h = refl
 none-lowered test (None ∷ ups) h = ap (λ l. None ∷ l) (none-lowered test ups h.1)
 none-lowered test (Some up ∷ ups) h = (λ i. cond (h.0 i) None (Some up) ∷ none-lowered test ups h.1 i)
 
-routed-kept : (up : Option Up) (x : Route) → by_stream up (Routed x) ≡ Routed x
-routed-kept None x = refl
-routed-kept (Some up) x = refl
-
 -- a get ends nothing
 pub get-ends : (st : State) (x : Route) → ((i : ℕ) → touches x i ≡ false) → EndsNone st x
 get-ends st x h = record { ups = every (Stays (ends_with (Some x))) stays st.streams; waiting = every (λ (p : Pending). is_touched (Routed x) p.submit.verdict ≡ false) (λ p. no-touch p.submit.verdict) st.live }
@@ -129,7 +125,7 @@ simple-route st r x p none one line asking quiet stream_ids_stay no_cancel = rec
   qs = (next_id st, p) ∷ [];
   id = next_id st;
   fresh = λ h. h.0;
-  kept = λ up. routed-kept up x;
+  kept = λ up. by-routed up x;
   opens = λ s. refl;
   packets = (λ i. none-stopped (ends_with (Some x)) st.streams none.ups i ++ one i);
   last = refl;
@@ -167,7 +163,7 @@ simple-reset st r none = record {
   qs = (next_id st, Plain plain.Reset) ∷ (second, Plain plain.GetConfiguration) ∷ [];
   id = second;
   fresh = λ h. h.1.0;
-  kept = λ up. routed-kept up route.Reset;
+  kept = λ up. by-routed up route.Reset;
   opens = λ s. refl;
   packets = (λ i. none-stopped (ends_with (Some route.Reset)) st.streams none.ups i ++ Plain plain.Reset ∷ Plain plain.GetConfiguration ∷ []);
   last = refl;

@@ -1,7 +1,8 @@
 -- Both machines say the same of a submit: with no change live the gateway knows the device's endpoints, and with one it needn't.
-use Rattle.std.proofs.Common.{◌≡◌, ℕ, ◌≤◌, ◌<◌, ◌==◌, ◌||◌, nat_le, Bool, true, false, cond, List, [], ◌∷◌, ◌++◌, map, filter, length, Option, Some, None, is_some, refl, sym, ap, ◌∙◌, subst, arith, append-nil}
+use Rattle.std.proofs.Common.{◌≡◌, ℕ, ◌≤◌, ◌<◌, ◌==◌, ◌||◌, nat_le, Bool, true, false, cond, List, [], ◌∷◌, ◌++◌, map, filter, length, Option, Some, None, is_some, refl, sym, ap, ◌∙◌, subst, arith, append-nil, true≢false}
 use Rattle.std.specs.List.{list_any, AllByRecursion as Each}
 use Rattle.std.proofs.lemmas.List.{length-map}
+use Rattle.std.proofs.lemmas.Bool.{or_left}
 use Rattle.usbip_urb.specs.declared.code.TheConstants.{MAX_LIVE}
 use Rattle.usb_base.specs.declared.setup.Setup.{Setup}
 use Rattle.usb_base.specs.declared.endpoint.EpTable.{EpTable}
@@ -43,7 +44,6 @@ use Rattle.direct_proof.specs.Session.{down_in}
 use Rattle.direct_proof.specs.Meets.{is_plug, is_announced}
 use Rattle.direct_proof.specs.StreamIds.{Fenced}
 use Rattle.direct_proof.proofs.lists.Counts.{single, any-none, Each-found, itself}
-use Rattle.direct_proof.proofs.shared.Folds.{not-both, or-left}
 use Rattle.direct_proof.proofs.shared.Backs.{silent}
 use Rattle.direct_proof.proofs.submits.Tables.{row-told}
 
@@ -107,13 +107,13 @@ module _ {S : Type 0} (m : Meaning S) (w : World S) (j : Shared) (rel : Related 
   connected = rel.meets.no_session inside there
 
   pub announced : is_announced w j ≡ true
-  announced = or-left (is_some w.gate.facts.connect) (list_any is_plug j.back) connected
+  announced = or_left (is_some w.gate.facts.connect) (list_any is_plug j.back) connected
 
   none-ends : (bs : List Tagged) → Each (λ (c : Coming). IsPlain c.load) (runs_in bs) → list_any is_plug bs ≡ false → list_any (ends None) bs ≡ false
   none-ends [] h k = refl
   none-ends (Answered c ∷ bs) h k = λ i. h.0 i || none-ends bs h.1 k i
   none-ends (Greeted ∷ bs) h k = none-ends bs h k
-  none-ends (Plugged c ∷ bs) h k = absurd (not-both k)
+  none-ends (Plugged c ∷ bs) h k = absurd (true≢false k)
   none-ends (ToldTable t ∷ bs) h k = none-ends bs h k
   none-ends (ToldFaces f ∷ bs) h k = none-ends bs h k
   none-ends (Packed kind ep p ∷ bs) h k = none-ends bs h k
@@ -138,8 +138,8 @@ module _ {S : Type 0} (m : Meaning S) (w : World S) (j : Shared) (rel : Related 
   told-none f (Answered c ∷ bs) h = told-none (tell f (fact_of (on_wire (Answered c)).1)) bs h.1 ∙ (answer-tells f c).table
   told-none f (Greeted ∷ bs) h = told-none f bs h.1
   told-none f (Plugged c ∷ bs) h = told-none (tell f (fact_of (on_wire (Plugged c)).1)) bs h.1
-  told-none f (ToldTable t ∷ bs) h = absurd (not-both h.0)
-  told-none f (ToldFaces i ∷ bs) h = absurd (not-both h.0)
+  told-none f (ToldTable t ∷ bs) h = absurd (true≢false h.0)
+  told-none f (ToldFaces i ∷ bs) h = absurd (true≢false h.0)
   told-none f (Packed Iso ep p ∷ bs) h = told-none f bs h.1
   told-none f (Packed Interrupt ep p ∷ bs) h = told-none f bs h.1
   told-none f (Stated Iso id ep status ∷ bs) h = told-none f bs h.1

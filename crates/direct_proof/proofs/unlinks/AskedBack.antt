@@ -1,6 +1,7 @@
 -- The cancels of an unlink name what was asked back.
 use Rattle.std.proofs.Common.{◌≡◌, ℕ, ◌==◌, ◌||◌, ◌&&◌, Bool, true, false, cond, List, [], ◌∷◌, map, filter, is_none, refl, sym, ap, ◌∙◌, arith}
 use Rattle.std.specs.List.{AllByRecursion as Each}
+use Rattle.std.proofs.lemmas.Bool.{and_parts}
 use Rattle.gate_history.specs.client.Verdict.{goes_by_id, is_wire}
 use Rattle.gate_history.specs.step.Marks.{Submission, Effect, Unlinks}
 use Rattle.gate_history.specs.client.Submits.{Pending}
@@ -10,7 +11,6 @@ use Rattle.direct_proof.specs.Requests.{Entry}
 use Rattle.direct_proof.specs.Cancels.{IsAsked}
 use Rattle.direct_proof.specs.Ids.{Agrees}
 use Rattle.direct_proof.proofs.lists.Counts.{itself}
-use Rattle.direct_proof.proofs.shared.Folds.{both-parts}
 use Rattle.direct_proof.proofs.shared.Asked.{ask_entry, debt_from}
 
 abbrev pub what : ℕ → ℕ → Effect
@@ -24,9 +24,9 @@ still-asked target id e h k = elim (is_number target e.load) as (λ b. (b || e.a
 -- one that is cancelled goes by an id, and has the number
 cancelled-is : (by target : ℕ) (p : Pending) → cancels (what by target) p ≡ true → (goes_by_id p.submit.verdict ≡ true) × ((p.submit.request.number == target) ≡ true)
 cancelled-is by target p h =
-    let a = both-parts (is_wire p.submit.verdict) (gate_target target p) h in
-    let b = both-parts (goes_by_id p.submit.verdict && (p.submit.request.number == target)) (is_none p.unlinker) a.1 in
-    both-parts (goes_by_id p.submit.verdict) (p.submit.request.number == target) b.0
+    let a = and_parts (is_wire p.submit.verdict) (gate_target target p) h in
+    let b = and_parts (goes_by_id p.submit.verdict && (p.submit.request.number == target)) (is_none p.unlinker) a.1 in
+    and_parts (goes_by_id p.submit.verdict) (p.submit.request.number == target) b.0
 
 equal : (a b : ℕ) → (a == b) ≡ true → a ≡ b
 equal a b h = grind (arith, h)

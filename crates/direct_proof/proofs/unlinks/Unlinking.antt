@@ -1,6 +1,7 @@
 -- An unlink keeps what is shared: it takes back one that waits for a stream, or asks for one at the host.
 use Rattle.std.proofs.Common.{◌≡◌, ℕ, ◌≤◌, ◌==◌, ◌||◌, ◌&&◌, not, Bool, true, false, cond, suc, List, [], ◌∷◌, ◌++◌, map, filter, length, None, refl, sym, ap, ◌∙◌, subst, arith, append-nil}
 use Rattle.std.specs.List.{AllByRecursion as Each}
+use Rattle.std.proofs.lemmas.Bool.{both_ways}
 use Rattle.usb_base.specs.declared.side.Side.TheVariants.{Client}
 use Rattle.usb_base.specs.declared.reason.Reason.TheVariants.{NotImported}
 use Rattle.usbip_urb.specs.declared.packet.Unlink.{Unlink as UrbUnlink}
@@ -38,7 +39,7 @@ use Rattle.direct_proof.specs.Session.{down_in}
 use Rattle.direct_proof.specs.Running.{StartsFit, started_kind, stream_endpoint}
 use Rattle.direct_proof.specs.Kinds.{StartOfKind, StreamIsIn}
 use Rattle.direct_proof.proofs.lists.Counts.{Each-map}
-use Rattle.direct_proof.proofs.shared.Folds.{clash, lines-append}
+use Rattle.direct_proof.proofs.shared.Folds.{lines-append}
 use Rattle.direct_proof.proofs.shared.Fits.{fits-nil, fits-map}
 use Rattle.direct_proof.proofs.shared.Streaming.{IsQuiet, quits-more, trails-more, starts-more, controls-more, fenced-more, streams-quiet-in}
 use Rattle.direct_proof.proofs.shared.Asked.{ask_entry, ids-ask, changes-ask, behind-ask, line-ask, cancels-line, cancels-quiet, cancels-asking, cancels-fit, entries-of}
@@ -108,7 +109,7 @@ keep-unlink {S = S} m w j place u rel sound inside = go w.gate.client_over refl
 
         by_lost : (b : Bool) → st.lost ≡ b → Early (record w { to_host = w.to_host ++ qs }) later
         by_lost true off = record { back = early.back; wire = ap (λ (l : List (ℕ × RedirPacket)). w.to_host ++ l) (none-lost off) ∙ append-nil w.to_host ∙ early.wire; held = ap (map f) early.held; half = early.half; running = early.running }
-        by_lost false on = absurd (clash w.host.guest.first h (rel.meets.behind (rel.meets.no_session inside on)).2)
+        by_lost false on = absurd (both_ways w.host.guest.first (rel.meets.behind (rel.meets.no_session inside on)).2 h)
 
     related : Related m (record (gate_made w mark).world { to_host = w.to_host ++ qs; submits = w.submits }) later
     related = record {

@@ -1,7 +1,9 @@
 -- An unlink, as the gateway takes it.
-use Rattle.std.proofs.Common.{◌≡◌, ℕ, ◌≤◌, ◌==◌, ◌||◌, ◌&&◌, not, Bool, true, false, cond, List, [], ◌∷◌, ◌++◌, map, filter, length, Some, None, is_none, refl, sym, ap, ◌∙◌, arith, append-nil}
+use Rattle.std.proofs.Common.{◌≡◌, ℕ, ◌≤◌, ◌==◌, ◌||◌, ◌&&◌, not, Bool, true, false, cond, List, [], ◌∷◌, ◌++◌, map, filter, length, Some, None, is_none, refl, sym, ap, ◌∙◌, arith, append-nil, true≢false}
 use Rattle.std.specs.Prelude.{pos}
 use Rattle.std.specs.List.{list_any, flat_map, AllByRecursion as Each}
+use Rattle.std.proofs.lemmas.Bool.{or_left, or_right}
+use Rattle.std.proofs.Math.Bool.{or-false}
 use Rattle.usbip_urb.specs.declared.client.ClientPacket.{ClientPacket}
 use Rattle.usbip_urb.specs.declared.client.ClientPacket.TheVariants.{Urb}
 use Rattle.gate_history.specs.declared.verdict.Verdict.{Verdict}
@@ -25,7 +27,6 @@ use Rattle.direct_device.specs.Acting.{Unlink, Answer, is_taken, is_target, aske
 use Rattle.direct_proof.specs.Moves.{deeds_of}
 use Rattle.direct_proof.specs.Requests.{Debt, debts_of, live_of}
 use Rattle.direct_proof.proofs.lists.Counts.{any-none}
-use Rattle.direct_proof.proofs.shared.Folds.{not-both, or-left, or-right, or-false}
 use Rattle.direct_proof.proofs.shared.Asked.{debt_from}
 
 module _ (st : State) (by target : ℕ) where
@@ -58,8 +59,8 @@ module _ (st : State) (by target : ℕ) where
   debts-unlinked = ap (λ (l : List Pending). debts_of (map (λ (p : Pending). p.submit) l)) live-unlinked ∙ go st.live
     where
       waits : (v : Verdict) (b : Bool) → (is_waiting v && b) ≡ true → goes_by_id v ≡ false
-      waits (Wire pipe) b h = absurd (not-both (sym h))
-      waits (Routed r) b h = absurd (not-both (sym h))
+      waits (Wire pipe) b h = absurd (true≢false (sym h))
+      waits (Routed r) b h = absurd (true≢false (sym h))
       waits _ b h = refl
 
       go : (ps : List Pending) → debts_of (map (λ (p : Pending). p.submit) (map (ask what) (filter (λ p. not (gate_taken target p)) ps))) ≡ debts_of (map (λ (p : Pending). p.submit) ps)
@@ -112,19 +113,19 @@ module _ (st : State) (by target : ℕ) where
           ∙ (λ i. cond (list_any-map (is_taken target) live_of st.live i) (ret_unlink by ECONNRESET ∷ []) (cond (list_any-map (is_target target) live_of st.live i) [] (ret_unlink by (pos 0) ∷ [])))
 
       either : (ps : List Pending) → list_any (gate_taken target) ps ≡ true → list_any (λ p. gate_target target p || gate_taken target p) ps ≡ true
-      either [] h = absurd (not-both (sym h))
+      either [] h = absurd (true≢false (sym h))
       either (p ∷ ps) h = on (gate_taken target p) refl h (either ps)
         where
           on : (b : Bool) → gate_taken target p ≡ b → (b || list_any (gate_taken target) ps) ≡ true → (list_any (gate_taken target) ps ≡ true → list_any (λ x. gate_target target x || gate_taken target x) ps ≡ true) → ((gate_target target p || gate_taken target p) || list_any (λ x. gate_target target x || gate_taken target x) ps) ≡ true
-          on true e k rest = or-left (gate_target target p || gate_taken target p) (list_any (λ x. gate_target target x || gate_taken target x) ps) (or-right (gate_target target p) (gate_taken target p) e)
-          on false e k rest = or-right (gate_target target p || gate_taken target p) (list_any (λ x. gate_target target x || gate_taken target x) ps) (rest k)
+          on true e k rest = or_left (gate_target target p || gate_taken target p) (list_any (λ x. gate_target target x || gate_taken target x) ps) (or_right (gate_target target p) (gate_taken target p) e)
+          on false e k rest = or_right (gate_target target p || gate_taken target p) (list_any (λ x. gate_target target x || gate_taken target x) ps) (rest k)
 
       none : (ps : List Pending) → Each (λ (p : Pending). gate_taken target p ≡ false) ps → list_any (λ p. gate_target target p || gate_taken target p) ps ≡ list_any (gate_target target) ps
       none [] h = refl
       none (p ∷ ps) h = λ i. (ap (λ (b : Bool). gate_target target p || b) h.0 ∙ or-false (gate_target target p)) i || none ps h.1 i
 
       passes : (ps : List Pending) → list_any (gate_taken target) ps ≡ true → filter (gate_taken target) ps ≡ [] → ⊥
-      passes [] h e = not-both (sym h)
+      passes [] h e = true≢false (sym h)
       passes (p ∷ ps) h e = on (gate_taken target p) h e (passes ps)
         where
           on : (b : Bool) → (b || list_any (gate_taken target) ps) ≡ true → cond b (p ∷ filter (gate_taken target) ps) (filter (gate_taken target) ps) ≡ [] → (list_any (gate_taken target) ps ≡ true → filter (gate_taken target) ps ≡ [] → ⊥) → ⊥

@@ -2,6 +2,7 @@
 use Rattle.std.proofs.Common.{◌≡◌, ℕ, Bool, true, false, cond, List, [], ◌∷◌, ◌++◌, Option, Some, None, refl}
 use Rattle.std.specs.Prelude.{zip}
 use Rattle.std.specs.List.{AllByRecursion as Each}
+use Rattle.std.proofs.lemmas.Bool.{both_ways}
 use Rattle.redir_wire.specs.declared.packet.RedirControl.TheVariants as plain
 use Rattle.redir_data.specs.declared.packet.RedirPacket.{RedirPacket}
 use Rattle.redir_data.specs.declared.packet.RedirPacket.TheVariants.{Plain}
@@ -14,7 +15,6 @@ use Rattle.gate_history.specs.state.Ups.{Up, is_ended}
 use Rattle.usb_base.specs.Endpoint.{is_iso}
 use Rattle.direct_proof.specs.Requests.{Entry}
 use Rattle.direct_proof.specs.Cancels.{CancelsFit, IsAsking, begins, is_cancel, left, moved}
-use Rattle.direct_proof.proofs.shared.Folds.{clash}
 use Rattle.direct_proof.proofs.streams.changes.Changing.{change_ids, change_sent}
 
 abbrev pub IsFree : RedirPacket → Type 0
@@ -56,4 +56,4 @@ stops-asking test ids ups = asks-free (zip ids (stops test ups)) (each-zip IsFre
 
 pub uncancelled-free : (ahead : List Entry) (ps : List (ℕ × RedirPacket)) (cs : List Entry) → Each (λ (z : ℕ × RedirPacket). IsFree z.1) ps → CancelsFit ahead ps cs
 uncancelled-free ahead [] cs h = tt
-uncancelled-free ahead (p ∷ ps) cs h = ((λ e. absurd (clash (is_cancel p.1) e h.0.0)), uncancelled-free (moved (begins p.1) ahead cs) ps (left (begins p.1) cs) h.1)
+uncancelled-free ahead (p ∷ ps) cs h = ((λ e. absurd (both_ways (is_cancel p.1) h.0.0 e)), uncancelled-free (moved (begins p.1) ahead cs) ps (left (begins p.1) cs) h.1)

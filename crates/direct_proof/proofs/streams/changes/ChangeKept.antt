@@ -1,8 +1,10 @@
 -- A change that the gateway accepts keeps what is shared.
-use Rattle.direct_proof.proofs.streams.changes.ChangeLists.{past, setup-alone, by-routed, debts-changer, new-debts, new-numbers, holds-front, zero-route, behind-more, clean-true, before-all, by_id}
+use Rattle.direct_proof.proofs.streams.changes.ChangeLists.{past, setup-alone, debts-changer, new-debts, new-numbers, holds-front, zero-route, behind-more, clean-true, before-all, by_id}
 use Rattle.std.proofs.Common.{◌≡◌, ℕ, ◌==◌, ◌||◌, not, true, false, cond, List, [], ◌∷◌, ◌++◌, map, filter, Option, Some, None, is_some, refl, sym, ap, ◌∙◌, subst, append-nil, append_assoc}
 use Rattle.std.specs.List.{list_any, AllByRecursion as Each}
 use Rattle.std.proofs.lemmas.List.{length-map}
+use Rattle.std.proofs.lemmas.Bool.{both_ways, or_left, or_right}
+use Rattle.std.proofs.lemmas.List.Folds.{list_any-append}
 use Rattle.usb_base.specs.declared.setup.Setup.{Setup}
 use Rattle.usbip_urb.specs.declared.packet.Submit.{Submit as UrbSubmit}
 use Rattle.usbip_urb.specs.declared.packet.UrbPacket.TheVariants as urb
@@ -48,11 +50,11 @@ use Rattle.direct_proof.specs.Kinds.{StartOfKind}
 use Rattle.direct_proof.specs.Running.{started_kind}
 use Rattle.direct_proof.proofs.shared.Traces.{map-append}
 use Rattle.direct_proof.proofs.shared.Owed.{IsNewNumber, ids-submit}
-use Rattle.direct_proof.proofs.shared.Folds.{clash, or-left, or-right, any-append}
 use Rattle.direct_proof.proofs.shared.Fits.{fits-append}
 use Rattle.direct_proof.proofs.streams.wires.Folds.{starts-append}
 use Rattle.direct_proof.proofs.shared.Keeps.{Keeps}
 use Rattle.direct_proof.proofs.streams.Keeping.{Does, keeps-made}
+use Rattle.direct_proof.proofs.submits.Submitting.{by-routed}
 use Rattle.direct_proof.proofs.streams.wires.Lowered.{tagged-lower, kinds-lower, starts-lower, fits-lower, way-lower}
 use Rattle.direct_proof.proofs.streams.changes.Changing.{change_ids, change_sent, changer, touched, staying, ending, change_world, change-means, change-made, changed, device-changes}
 use Rattle.direct_proof.proofs.streams.changes.ChangeTail.{entry_of, starts-none}
@@ -89,7 +91,7 @@ module _ {S : Type 0} (m : Meaning S) (w : World S) (j : Shared) (place : ℕ) (
   connect = rel.meets.no_session imported there
 
   session : Session m w j
-  session = rel.session there (or-left (is_some w.gate.facts.connect) _ connect)
+  session = rel.session there (or_left (is_some w.gate.facts.connect) _ connect)
 
   owed : debts_of (submits w.gate) ≡ j.debts
   owed = sym (append-nil (debts_of (submits w.gate))) ∙ ap (λ (l : List Submission). debts_of (submits w.gate) ++ debts_of l) (sym (rel.alone imported).0) ∙ rel.debts there
@@ -101,7 +103,7 @@ module _ {S : Type 0} (m : Meaning S) (w : World S) (j : Shared) (place : ℕ) (
   joined = append_assoc j.held j.coming (entry ∷ [])
 
   pending : (any_change (j.held ++ (j.coming ++ entry ∷ [])) || j.fenced) ≡ true
-  pending = or-left (any_change (j.held ++ (j.coming ++ entry ∷ []))) j.fenced (sym (ap any_change joined) ∙ any-append is_changing (j.held ++ j.coming) (entry ∷ []) ∙ or-right (any_change (j.held ++ j.coming)) (is_change x || false) (or-left (is_change x) false change))
+  pending = or_left (any_change (j.held ++ (j.coming ++ entry ∷ []))) j.fenced (sym (ap any_change joined) ∙ list_any-append is_changing (j.held ++ j.coming) (entry ∷ []) ∙ or_right (any_change (j.held ++ j.coming)) (is_change x || false) (or_left (is_change x) false change))
 
   new-session : Session m (change_world w r x) later
   new-session = record {
@@ -138,7 +140,7 @@ module _ {S : Type 0} (m : Meaning S) (w : World S) (j : Shared) (place : ℕ) (
         (ids-submit j.debts w.submits (j.held ++ j.coming) (runs_in j.back) id (record { request = r; verdict = Routed x }) false rel.ids new-id (subst (IsNewNumber r.number) owed (new-numbers r.number (submits w.gate) new)));
     real = Each-append (λ (y : Debt). (y.id == 0) ≡ false) j.debts (debt ∷ []) rel.real ((change-id m w j r x change rel gate).1, tt);
     runs_at_in = rel.runs_at_in;
-    before = λ h. absurd (clash w.host.guest.first h (rel.meets.behind connect).2);
+    before = λ h. absurd (both_ways w.host.guest.first (rel.meets.behind connect).2 h);
     asked = λ h. Each-append (λ (p : ℕ × RedirPacket). IsAsking p.1) w.to_host (change_sent w.gate x) (rel.asked h) (asks-free (change_sent w.gate x) (change-free w.gate x));
     meets = rel.meets;
     debts = λ h. ap (λ (l : List Submission). debts_of (map (λ (p : Pending). p.submit) (staying x w.gate.live ++ fresh (changer w.gate r x) ∷ [])) ++ debts_of l) (rel.alone imported).0 ∙ append-nil _ ∙ debts-changer w.gate r x w.gate.live ∙ ap (λ (l : List Debt). l ++ debt ∷ []) owed;
@@ -147,8 +149,8 @@ module _ {S : Type 0} (m : Meaning S) (w : World S) (j : Shared) (place : ℕ) (
     alone = rel.alone;
     session = λ h k. new-session;
     ups = fits-lower (is_ended (Some x)) w.gate.streams rel.ups;
-    down = λ h. absurd (clash w.gate.imported imported h);
-    lost = λ h. absurd (clash w.gate.lost h there);
+    down = λ h. absurd (both_ways w.gate.imported h imported);
+    lost = λ h. absurd (both_ways w.gate.lost there h);
     sides = rel.sides;
     farewell = rel.farewell;
   }

@@ -1,7 +1,9 @@
 -- A change's verdict, its debt, and its place behind the others.
-use Rattle.std.proofs.Common.{◌≡◌, ℕ, ◌<◌, ◌==◌, not, nat_le, Bool, true, false, cond, List, [], ◌∷◌, ◌++◌, map, filter, Option, Some, None, refl, sym, ap, ◌∙◌, arith}
+use Rattle.std.proofs.Common.{◌≡◌, ℕ, ◌<◌, ◌==◌, not, nat_le, Bool, true, false, cond, List, [], ◌∷◌, ◌++◌, map, filter, Option, Some, refl, sym, ap, ◌∙◌, arith, true≢false}
 use Rattle.std.specs.Prelude.{ℤ}
 use Rattle.std.specs.List.{list_any, AllByRecursion as Each}
+use Rattle.std.proofs.lemmas.Bool.{or_left, or_parts}
+use Rattle.std.proofs.lemmas.List.Folds.{list_any-append}
 use Rattle.usbip_urb.specs.declared.code.TheConstants.{MAX_LIVE}
 use Rattle.usb_base.specs.declared.setup.Setup.{Setup}
 use Rattle.control_route.specs.declared.route.Route.{Route}
@@ -22,8 +24,6 @@ use Rattle.gate_history.specs.client.Submits.{Pending}
 use Rattle.gate_history.specs.client.Ends.{is_touched}
 use Rattle.gate_history.specs.write.Output.{fresh}
 use Rattle.gate_history.specs.state.State.{State, is_number as has_seq}
-use Rattle.gate_history.specs.step.Meaning.{by_stream}
-use Rattle.gate_history.specs.state.Ups.{Up}
 use Rattle.direct_device.specs.Direct.{number, normal_of, normal_by}
 use Rattle.direct_proof.proofs.shared.New.{IsNew}
 use Rattle.direct_proof.specs.Requests.{Entry, Debt, load_of, debts_of}
@@ -31,7 +31,6 @@ use Rattle.direct_proof.specs.Tagged.{Tagged}
 use Rattle.direct_proof.specs.Cancels.{Behind}
 use Rattle.direct_proof.specs.Stale.{Clean}
 use Rattle.direct_proof.proofs.shared.Owed.{IsNewNumber}
-use Rattle.direct_proof.proofs.shared.Folds.{not-both, or-left, or-none, any-append}
 use Rattle.direct_proof.proofs.submits.Submitting.{AreBefore}
 use Rattle.direct_proof.proofs.streams.changes.Changing.{changer, touched, staying}
 
@@ -47,10 +46,6 @@ setup-alone here row r s h =
     (λ i. cond here.lost (Now ESHUTDOWN) (cond (nat_le MAX_LIVE here.live) (Now EBUSY) (by_transfer (record here { row = row }) r (h i))))
     ∙ (λ i. cond here.lost (Now ESHUTDOWN) (cond (nat_le MAX_LIVE here.live) (Now EBUSY) (by_transfer here r (sym h i))))
 
-pub by-routed : (up : Option Up) (x : Route) → by_stream up (Routed x) ≡ Routed x
-by-routed None x = refl
-by-routed (Some up) x = refl
-
 -- ---- debts
 
 abbrev pub debt_in : Submission → Debt
@@ -60,8 +55,8 @@ abbrev pub by_id : Submission → Bool
 by_id s = goes_by_id s.verdict
 
 touched-waits : (x : Route) (v : Verdict) → is_touched (Routed x) v ≡ true → goes_by_id v ≡ false
-touched-waits x (Wire pipe) h = absurd (not-both (sym h))
-touched-waits x (Routed y) h = absurd (not-both (sym h))
+touched-waits x (Wire pipe) h = absurd (true≢false (sym h))
+touched-waits x (Routed y) h = absurd (true≢false (sym h))
 touched-waits x _ h = refl
 
 pub debts-changer : (st : State) (r : Request) (x : Route) (ps : List Pending) → debts_of (map (λ (p : Pending). p.submit) (staying x ps ++ fresh (changer st r x) ∷ [])) ≡ debts_of (map (λ (p : Pending). p.submit) ps) ++ debt_in (changer st r x) ∷ []
@@ -77,7 +72,7 @@ debts-changer st r x (p ∷ ps) = go (touched x p) refl (debts-changer st r x ps
 
 pub new-debts : (id : ℕ) (ss : List Submission) → holds (map (λ (s : Submission). s.id) ss) id ≡ false → IsNew id (map debt_in ss)
 new-debts id [] h = tt
-new-debts id (s ∷ ss) h = let p = or-none (id == s.id) (holds (map (λ (y : Submission). y.id) ss) id) h in (flip id s.id p.0, new-debts id ss p.1)
+new-debts id (s ∷ ss) h = let p = or_parts (id == s.id) (holds (map (λ (y : Submission). y.id) ss) id) h in (flip id s.id p.0, new-debts id ss p.1)
   where
     flip : (a b : ℕ) → (a == b) ≡ false → (b == a) ≡ false
     flip a b e = grind (arith, e)
@@ -85,12 +80,12 @@ new-debts id (s ∷ ss) h = let p = or-none (id == s.id) (holds (map (λ (y : Su
 pub new-numbers : (n : ℕ) (ss : List Submission) → list_any (has_seq n) ss ≡ false → IsNewNumber n (debts_of ss)
 new-numbers n [] h = tt
 new-numbers n (s ∷ ss) h =
-    let p = or-none (has_seq n s) (list_any (has_seq n) ss) h in
+    let p = or_parts (has_seq n s) (list_any (has_seq n) ss) h in
     let rest = new-numbers n ss p.1 in
     elim (goes_by_id s.verdict) as (λ c. Each (λ (d : Debt). (number d.load == n) ≡ false) (map debt_in (cond c (s ∷ filter by_id ss) (filter by_id ss)))) [ true ↦ (p.0, rest) | false ↦ rest ]
 
 pub holds-front : (xs ys : List ℕ) (id : ℕ) → holds (xs ++ ys) id ≡ false → holds xs id ≡ false
-holds-front xs ys id h = (or-none (holds xs id) (holds ys id) (sym (any-append (λ y. id == y) xs ys) ∙ h)).0
+holds-front xs ys id h = (or_parts (holds xs id) (holds ys id) (sym (list_any-append (λ y. id == y) xs ys) ∙ h)).0
 
 -- ---- behind
 
@@ -98,7 +93,7 @@ pub zero-route : (r : Request) (x : Route) → is_change x ≡ true → is_contr
 zero-route r (route.SetConfig c) h = refl
 zero-route r (route.SetAlt i a) h = refl
 zero-route r route.Reset h = refl
-zero-route r _ h = absurd (not-both (sym h))
+zero-route r _ h = absurd (true≢false (sym h))
 
 pub behind-more : (es : List Entry) (e : Entry) → is_control (normal_of e.load).ep ≡ true → Behind es → Behind (es ++ e ∷ [])
 behind-more [] e h b = ((λ z. tt), tt)
@@ -106,7 +101,7 @@ behind-more (y ∷ es) e h b = ((λ z. Each-append (λ (q : Entry). is_control (
 
 pub clean-true : (fence : Option ℕ) (down : ℕ → Bool) (p : Bool) → p ≡ true → (bs : List Tagged) → Clean fence down p bs
 clean-true fence down p h [] = tt
-clean-true fence down p h (b ∷ bs) = ((λ s. or-left p _ h), clean-true fence down p h bs)
+clean-true fence down p h (b ∷ bs) = ((λ s. or_left p _ h), clean-true fence down p h bs)
 
 pub before-all : (n : ℕ) (ps : List Pending) → Each (λ (s : Submission). s.place < n) (map (λ (p : Pending). p.submit) ps) → AreBefore n ps
 before-all n [] h = tt

@@ -1,5 +1,5 @@
 -- The packets of a change behind the stops: the last stops all that runs, and they stand in line as the entry does.
-use Rattle.std.proofs.Common.{◌≡◌, ℕ, ◌≤◌, ◌||◌, Bool, true, false, cond, List, [], ◌∷◌, ◌++◌, length, Option, None, is_some, refl, sym, ap, ◌∙◌, subst, arith, append-nil, append_assoc}
+use Rattle.std.proofs.Common.{◌≡◌, ℕ, ◌≤◌, ◌||◌, Bool, true, false, cond, List, [], ◌∷◌, ◌++◌, length, Option, None, is_some, refl, sym, ap, ◌∙◌, subst, arith, append-nil, append_assoc, true≢false}
 use Rattle.std.specs.Prelude.{zip}
 use Rattle.std.specs.List.{AllByRecursion as Each}
 use Rattle.usb_base.specs.declared.endpoint.EpTable.{EpTable}
@@ -17,7 +17,6 @@ use Rattle.direct_proof.specs.Stale.{asks}
 use Rattle.direct_proof.specs.Running.{stream_endpoint, started_kind, passes, CanStart, Quits, Trails, StartsFit}
 use Rattle.direct_proof.specs.StreamIds.{stream_ids_on}
 use Rattle.direct_proof.proofs.streams.wires.Sorts.{is_for_endpoint}
-use Rattle.direct_proof.proofs.shared.Folds.{not-both}
 use Rattle.direct_proof.proofs.streams.wires.Folds.{quits-more}
 
 -- a packet that neither starts nor stops
@@ -41,7 +40,7 @@ pub is-tail : (r : Request) (x : Route) (m : ℕ) (f : List ℕ) (last : ℕ) �
 is-tail r (route.SetConfig c) m f last h = record { first = _; rest = []; are = refl; asks-it = λ n. refl; mute = (refl, refl); rest_mute = tt; line = refl; some = omega arith }
 is-tail r (route.SetAlt i a) m f last h = record { first = _; rest = []; are = refl; asks-it = λ n. refl; mute = (refl, refl); rest_mute = tt; line = refl; some = omega arith }
 is-tail r route.Reset m f last h = record { first = _; rest = _; are = refl; asks-it = λ n. refl; mute = (refl, refl); rest_mute = ((refl, refl), tt); line = refl; some = omega arith }
-is-tail r _ m f last h = absurd (not-both (sym h))
+is-tail r _ m f last h = absurd (true≢false (sym h))
 
 -- ---- mute packets
 
@@ -52,7 +51,7 @@ quits-mute fence e r ps (q ∷ qs) h k =
 
 pub trails-mute : (fence : Option ℕ) (down : ℕ → Bool) (qs : List (ℕ × RedirPacket)) → Each IsMute qs → Trails fence down qs
 trails-mute fence down [] h = tt
-trails-mute fence down (q ∷ qs) h = ((λ e. absurd (not-both (sym e ∙ ap (passes down) h.0.0))), trails-mute fence down qs h.1)
+trails-mute fence down (q ∷ qs) h = ((λ e. absurd (true≢false (sym e ∙ ap (passes down) h.0.0))), trails-mute fence down qs h.1)
 
 pub mute-stream_ids : (qs : List (ℕ × RedirPacket)) → Each IsMute qs → stream_ids_on qs ≡ []
 mute-stream_ids [] h = refl

@@ -24,7 +24,7 @@ use Rattle.gate_history.specs.client.Ends.{End, ByStatus, ends, at_once, is_touc
 use Rattle.gate_history.specs.state.Ids.{last_of}
 use Rattle.gate_history.specs.state.State.{State, has_number, next_ids}
 use Rattle.gate_history.specs.write.Packets.{stops, route_packets}
-use Rattle.gate_history.specs.step.Meaning.{meaning, mark_as, refused, by_stream, accepts, accepted_as, submission, drawn_for, verdict_of}
+use Rattle.gate_history.specs.step.Meaning.{meaning, mark_as, refused, accepts, accepted_as, submission, drawn_for, verdict_of}
 use Rattle.gate_history.specs.write.Output.{fresh}
 use Rattle.gate_history.specs.state.StreamIds.{stream_ids_after}
 use Rattle.gate_history.specs.write.Notes.{is_by_answer}
@@ -40,7 +40,7 @@ use Rattle.direct_run.specs.Moves.{World}
 use Rattle.direct_proof.specs.Moves.{gate_made}
 use Rattle.direct_proof.proofs.performs.Performs.{itself}
 use Rattle.direct_proof.proofs.streams.Keeping.{Does}
-use Rattle.direct_proof.proofs.submits.Submitting.{AreBefore}
+use Rattle.direct_proof.proofs.submits.Submitting.{AreBefore, by-routed}
 
 abbrev pub change_packets : State → Route → List RedirPacket
 change_packets st x = stops (is_ended (Some x)) st.streams ++ route_packets x
@@ -55,10 +55,6 @@ abbrev pub touched : Route → Pending → Bool
 touched x p = is_touched (Routed x) p.submit.verdict
 
 -- ---- what it means
-
-by-routed : (up : Option Up) (x : Route) → by_stream up (Routed x) ≡ Routed x
-by-routed None x = refl
-by-routed (Some up) x = refl
 
 pub change-means : (st : State) (place : ℕ) (s : UrbSubmit) (x : Route) → st.imported ≡ true → has_number st s.head.seqnum ≡ false → verdict_of st (request_of s) ≡ Routed x →
     meaning st (Asked place (Urb (urb.Submit s))) ≡ Opens (changer st (request_of s) x)

@@ -3,6 +3,7 @@ use Rattle.std.proofs.Common.{◌≡◌, ◌≢◌, ℕ, suc, ◌+◌, ◌≤◌
 use Rattle.std.specs.Prelude.{get_or, slice_set, zip}
 use Rattle.std.specs.List.{AllByRecursion as Each}
 use Rattle.std.proofs.lemmas.List.{get_or-set_same, get_or-set_other, length-set}
+use Rattle.std.proofs.lemmas.Bool.{both_ways, or_left, or_right}
 use Rattle.usb_base.specs.Endpoint.{endpoint_index}
 use Rattle.redir_data.specs.declared.packet.RedirPacket.{RedirPacket}
 use Rattle.gate_history.specs.state.StreamIds.{StreamIds, stream_ids_after, stopped}
@@ -14,7 +15,6 @@ use Rattle.direct_proof.specs.Kinds.{IsIn, UpFits}
 use Rattle.direct_proof.specs.StreamIds.{IdIsKept, StreamIdIsKept, is_id, stream_id, stream_ids_on}
 use Rattle.direct_proof.specs.Running.{stream_endpoint}
 use Rattle.direct_proof.proofs.streams.fills.FillLists.{weight}
-use Rattle.direct_proof.proofs.shared.Folds.{clash, or-left, or-right}
 use Rattle.direct_proof.proofs.shared.UpsFound.{in-place}
 use Rattle.direct_proof.proofs.streams.changes.Stops.{stopping, stop-is}
 
@@ -45,7 +45,7 @@ kept-stop up id c n e free kept = go (endpoint_index e == endpoint_index up.ep) 
         apart x y f g = grind (arith, f, g)
     go true i =
         let same : endpoint_index e ≡ endpoint_index up.ep = equal (endpoint_index e) (endpoint_index up.ep) i in
-        or-left (is_id n (get_or c.started (endpoint_index e) None)) (is_id n (get_or (slice_set c.stopped (endpoint_index up.ep) (Some id)) (endpoint_index e) None))
+        or_left (is_id n (get_or c.started (endpoint_index e) None)) (is_id n (get_or (slice_set c.stopped (endpoint_index up.ep) (Some id)) (endpoint_index e) None))
         (left (is_id n (get_or c.started (endpoint_index e) None)) (is_id n (get_or c.stopped (endpoint_index e) None)) kept (ap (is_id n) (ap (λ (k : ℕ). get_or c.stopped k None) same ∙ free)))
       where
         equal : (x y : ℕ) → (x == y) ≡ true → x ≡ y
@@ -53,10 +53,10 @@ kept-stop up id c n e free kept = go (endpoint_index e == endpoint_index up.ep) 
 
         left : (a b : Bool) → (a || b) ≡ true → b ≡ false → a ≡ true
         left true b x y = refl
-        left false b x y = absurd (clash b x y)
+        left false b x y = absurd (both_ways b y x)
 
 new-stop : (up : Up) (id : ℕ) (c : StreamIds) → IsIn up.ep → length c.stopped ≡ 32 → IdIsKept (stopped up.ep id c) id up.ep
-new-stop up id c h n = or-right (is_id id (get_or c.started (endpoint_index up.ep) None)) (is_id id (get_or (slice_set c.stopped (endpoint_index up.ep) (Some id)) (endpoint_index up.ep) None))
+new-stop up id c h n = or_right (is_id id (get_or c.started (endpoint_index up.ep) None)) (is_id id (get_or (slice_set c.stopped (endpoint_index up.ep) (Some id)) (endpoint_index up.ep) None))
     (ap (is_id id) (get_or-set_same c.stopped (endpoint_index up.ep) (Some id) None (subst (λ (k : ℕ). endpoint_index up.ep < k) (sym n) (in-place up.ep h))) ∙ itself id)
   where
     itself : (k : ℕ) → (k == k) ≡ true

@@ -1,7 +1,9 @@
 -- Stops of streams, as a list by their places: what they are, and how the streams run behind them.
-use Rattle.std.proofs.Common.{◌≡◌, ℕ, zero, suc, ◌==◌, ◌||◌, Bool, true, false, cond, List, [], ◌∷◌, ◌++◌, length, Option, Some, None, refl, sym, ap, ◌∙◌, subst, arith}
+use Rattle.std.proofs.Common.{◌≡◌, ℕ, zero, suc, ◌==◌, ◌||◌, Bool, true, false, cond, List, [], ◌∷◌, ◌++◌, length, Option, Some, None, refl, sym, ap, ◌∙◌, subst, arith, true≢false}
 use Rattle.std.specs.Prelude.{get_or, zip}
 use Rattle.std.specs.List.{list_any, AllByRecursion as Each}
+use Rattle.std.proofs.lemmas.Bool.{or_left, or_right}
+use Rattle.std.proofs.lemmas.List.Folds.{list_any-append}
 use Rattle.redir_wire.specs.declared.packet.RedirControl.TheVariants as plain
 use Rattle.redir_data.specs.declared.packet.RedirPacket.{RedirPacket}
 use Rattle.redir_data.specs.declared.packet.RedirPacket.TheVariants.{Plain}
@@ -12,7 +14,6 @@ use Rattle.direct_proof.specs.Shared.{lines}
 use Rattle.direct_proof.specs.Kinds.{IsIn, UpsFit, UpFits, StreamIsIn}
 use Rattle.direct_proof.specs.Running.{stream_endpoint, started_kind, runs_after, Quits, Trails}
 use Rattle.direct_proof.specs.Stale.{asks}
-use Rattle.direct_proof.proofs.shared.Folds.{not-both, or-left, or-right, any-append}
 use Rattle.direct_proof.proofs.streams.wires.Sorts.{IsSwitch, Switches_or, is-switch}
 
 -- ---- one stop
@@ -97,7 +98,7 @@ stops-quit test up t [] (Some u ∷ ups) h n zero e r = absurd (some (test u) (a
 
     some : (b : Bool) → b ≡ true → length {A = ℕ} [] ≡ length (cond b (stop_packet u ∷ []) [] ++ stops test ups) → ⊥
     some true y k = absurd (omega (arith, k))
-    some false y k = not-both (sym y)
+    some false y k = true≢false (sym y)
 stops-quit test up t (id ∷ ids) (Some u ∷ ups) h n zero e r = go (test u) (ap test (same e) ∙ t)
   where
     same : Some u ≡ Some up → u ≡ up
@@ -107,7 +108,7 @@ stops-quit test up t (id ∷ ids) (Some u ∷ ups) h n zero e r = go (test u) (a
     itself k = grind arith
 
     go : (b : Bool) → b ≡ true → runs_all up.ep (zip (id ∷ ids) (cond b (stop_packet u ∷ []) [] ++ stops test ups)) r ≡ false
-    go false y = absurd (not-both (sym y))
+    go false y = absurd (true≢false (sym y))
     go true y = ap (runs_all up.ep (zip ids (stops test ups))) ((stop-is u).runs-are up.ep r ∙ ap (λ (b : Bool). cond b false r) (ap (λ (x : Up). x.ep == up.ep) (same e) ∙ itself up.ep)) ∙ stops-off test up.ep (zip ids (stops test ups)) (each-stops test ids ups h.1)
 stops-quit test up t [] (Some u ∷ ups) h n (suc i) e r = go (test u) n (stops-quit test up t [] ups h.1)
   where
@@ -126,15 +127,15 @@ stops-quit test up t (id ∷ ids) (Some u ∷ ups) h n (suc i) e r = go (test u)
 -- ---- a wire that ends with what asks
 
 pub quits-ends : (fence : Option ℕ) (e : ℕ) (r : Bool) (ps : List (ℕ × RedirPacket)) (c : ℕ × RedirPacket) → asks fence c ≡ true → runs_all e (ps ++ c ∷ []) r ≡ false → Quits fence e r (ps ++ c ∷ [])
-quits-ends fence e r [] c h k = ((λ z. or-left (asks fence c) false h), k)
+quits-ends fence e r [] c h k = ((λ z. or_left (asks fence c) false h), k)
 quits-ends fence e r (p ∷ ps) c h k = (
-  (λ z. any-append (asks fence) (p ∷ ps) (c ∷ []) ∙ or-right (list_any (asks fence) (p ∷ ps)) (asks fence c || false) (or-left (asks fence c) false h)),
+  (λ z. list_any-append (asks fence) (p ∷ ps) (c ∷ []) ∙ or_right (list_any (asks fence) (p ∷ ps)) (asks fence c || false) (or_left (asks fence c) false h)),
   quits-ends fence e (runs_after e p.1 r) ps c h k,
 )
 
 pub trails-ends : (fence : Option ℕ) (down : ℕ → Bool) (ps : List (ℕ × RedirPacket)) (c : ℕ × RedirPacket) → asks fence c ≡ true → Trails fence down (ps ++ c ∷ [])
-trails-ends fence down [] c h = ((λ z. or-left (asks fence c) false h), tt)
-trails-ends fence down (p ∷ ps) c h = ((λ z. any-append (asks fence) (p ∷ ps) (c ∷ []) ∙ or-right (list_any (asks fence) (p ∷ ps)) (asks fence c || false) (or-left (asks fence c) false h)), trails-ends fence down ps c h)
+trails-ends fence down [] c h = ((λ z. or_left (asks fence c) false h), tt)
+trails-ends fence down (p ∷ ps) c h = ((λ z. list_any-append (asks fence) (p ∷ ps) (c ∷ []) ∙ or_right (list_any (asks fence) (p ∷ ps)) (asks fence c || false) (or_left (asks fence c) false h)), trails-ends fence down ps c h)
 
 pub quits-end : (fence : Option ℕ) (e : ℕ) (r : Bool) (ps : List (ℕ × RedirPacket)) → Quits fence e r ps → runs_all e ps r ≡ false
 quits-end fence e r [] h = h

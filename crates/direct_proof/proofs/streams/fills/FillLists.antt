@@ -1,5 +1,5 @@
 -- Lists, of which one in the middle is taken out.
-use Rattle.std.proofs.Common.{◌≡◌, ℕ, zero, suc, ◌≤◌, ◌&&◌, not, Bool, true, false, cond, List, [], ◌∷◌, ◌++◌, filter, Some, refl, ap, ◌∙◌, arith}
+use Rattle.std.proofs.Common.{◌≡◌, ℕ, zero, suc, ◌≤◌, not, Bool, true, false, cond, List, [], ◌∷◌, ◌++◌, filter, Some, refl, ap, ◌∙◌, arith}
 use Rattle.std.specs.List.{find, AllByRecursion as Each}
 use Rattle.std.specs.Prelude.{slice_set}
 use Rattle.direct_device.specs.Direct.{Live, is_number}
@@ -41,6 +41,3 @@ others p xs x ys few k =
 pub apart-middle : (xs : List Live) (x : Live) (ys : List Live) → AreApart (xs ++ x ∷ ys) → AreApart (xs ++ ys)
 apart-middle xs x ys h = λ n. let p : Live → Bool = λ l. is_number n l.load in let few = h n in omega (arith, few, count-append p xs (x ∷ ys), count-append p xs ys)
 
-pub and-parts : (a b : Bool) → (a && b) ≡ true → (a ≡ true) × (b ≡ true)
-and-parts true b h = (refl, h)
-and-parts false b h = absurd (cc)

@@ -5,6 +5,7 @@ use Rattle.std.specs.Prelude.{slice_set, slice_get, drop, option_and_then, IsSom
 use Rattle.std.proofs.lemmas.List.{get_or-set_same, length-set, set-get_or}
 use Rattle.usb_base.specs.Endpoint.{endpoint_index}
 use Rattle.std.specs.Option.{option_map}
+use Rattle.std.proofs.lemmas.Bool.{and_parts}
 use Rattle.usbip_urb.specs.declared.packet.UrbPacket.{UrbPacket}
 use Rattle.usbip_urb.specs.declared.client.ClientPacket.{ClientPacket}
 use Rattle.usbip_urb.specs.declared.client.ClientPacket.TheVariants.{Urb}
@@ -21,7 +22,7 @@ use Rattle.direct_device.specs.Acting.{Deed, Answer, answers, answered_by, answe
 use Rattle.direct_device.specs.Legal.{CanAnswerBy}
 use Rattle.direct_proof.proofs.lists.Counts.{itself}
 use Rattle.direct_proof.proofs.streams.Keeping.{Does, does-nothing, does-then}
-use Rattle.direct_proof.proofs.streams.fills.FillLists.{AreApart, set-twice, find-middle, filter-middle, others, apart-middle, and-parts}
+use Rattle.direct_proof.proofs.streams.fills.FillLists.{AreApart, set-twice, find-middle, filter-middle, others, apart-middle}
 
 -- ---- what comes of those that wait, in their order
 
@@ -113,7 +114,7 @@ module _ {S : Type 0} (m : Meaning S) (ep max : ℕ) where
       n = number l.load
 
       parts : (is_waiting l.load.verdict ≡ true) × ((l.load.request.transfer.ep == ep) ≡ true)
-      parts = and-parts (is_waiting l.load.verdict) (l.load.request.transfer.ep == ep) waiting
+      parts = and_parts (is_waiting l.load.verdict) (l.load.request.transfer.ep == ep) waiting
 
       is_stream : is_waiting l.load.verdict ≡ true
       is_stream = parts.0

@@ -1,14 +1,14 @@
 -- A law of every gateway: a stream that is up stands at its endpoint's place, and keeps no stop.
-use Rattle.std.proofs.Common.{◌≡◌, ◌≢◌, ℕ, zero, suc, ◌+◌, ◌==◌, Bool, true, false, cond, List, [], ◌∷◌, ◌++◌, Option, Some, None, is_some, refl, sym, ap, ◌∙◌, arith}
+use Rattle.std.proofs.Common.{◌≡◌, ◌≢◌, ℕ, zero, suc, ◌+◌, ◌==◌, Bool, true, false, cond, List, [], ◌∷◌, ◌++◌, Option, Some, None, is_some, refl, sym, ap, ◌∙◌, arith, true≢false}
 use Rattle.std.specs.Prelude.{get_or, slice_set, zip}
 use Rattle.std.proofs.Math.ListN.{get_or-map}
 use Rattle.std.proofs.lemmas.List.{get_or-set_other}
+use Rattle.std.proofs.lemmas.Bool.{both_ways}
 use Rattle.usb_base.specs.Endpoint.{endpoint_index}
 use Rattle.gate_history.specs.state.StreamIds.{StreamIds, stream_ids_after, started, stopped}
 use Rattle.gate_history.specs.write.Packets.{stops, stop_packet}
 use Rattle.gate_history.specs.state.Ups.{Up, lower, unless}
 use Rattle.gate_history.proofs.lemmas.state.StreamIds.{stop-stream_ids}
-use Rattle.direct_proof.proofs.shared.Folds.{clash, not-both}
 
 -- a place has the stream of its endpoint, and where one is up no stop is kept
 pub record Unstopped (ups : List (Option Up)) (c : StreamIds) : Type 0 where
@@ -64,7 +64,7 @@ unstopped-fewer ups more c from h = record {
 }
   where
     go : (i : ℕ) (o : Option Up) → get_or ups i None ≡ o → is_some o ≡ true → get_or c.stopped i None ≡ None
-    go i None k e = absurd (not-both (sym e))
+    go i None k e = absurd (true≢false (sym e))
     go i (Some u) k e = let y = from i u k in h.fresh i (ap is_some y.1)
 
 -- ---- streams are stopped and go down
@@ -114,11 +114,11 @@ unstopped-lower test ids ups c h = record { places = λ i u e. h.places i u (was
     plain n = omega arith
 
     go : (i : ℕ) (o : Option Up) → get_or (lower test ups) i None ≡ o → is_some o ≡ true → get_or (stream_ids_after (zip ids (stops test ups)) c).stopped i None ≡ None
-    go i None k e = absurd (not-both (sym e))
+    go i None k e = absurd (true≢false (sym e))
     go i (Some u) k e =
         let w = was i u k in
         stopped-elsewhere test ids 0 ups c (λ n up z. h.places n up z ∙ plain n) i
-        (λ n up z t q. (let same : n ≡ i = omega (arith, q) in clash (test u) (ap test (one up u (sym z ∙ ap (λ (y : ℕ). get_or ups y None) same ∙ w.0)) ∙ t) w.1))
+        (λ n up z t q. (let same : n ≡ i = omega (arith, q) in both_ways (test u) w.1 (ap test (one up u (sym z ∙ ap (λ (y : ℕ). get_or ups y None) same ∙ w.0)) ∙ t)))
         ∙ h.fresh i (ap is_some w.0)
       where
         one : (a b : Up) → Some a ≡ Some b → b ≡ a

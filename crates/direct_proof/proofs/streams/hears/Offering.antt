@@ -2,6 +2,7 @@
 use Rattle.std.proofs.Common.{◌≡◌, ℕ, ◌||◌, Bool, true, false, cond, List, [], ◌∷◌, ◌++◌, map, Option, Some, None, is_some, refl, sym, ap, ◌∙◌, subst, arith}
 use Rattle.std.specs.Prelude.{IfSome}
 use Rattle.std.specs.List.{find}
+use Rattle.std.proofs.lemmas.Bool.{both_ways, or_left}
 use Rattle.usb_base.specs.declared.endpoint.EpTable.{EpTable}
 use Rattle.usb_base.specs.declared.transfer.StreamPacket.{StreamPacket}
 use Rattle.redir_wire.specs.EpTable.{table_of}
@@ -33,7 +34,6 @@ use Rattle.direct_proof.specs.Running.{StartsFit, Quits}
 use Rattle.direct_proof.proofs.shared.Traces.{map-append}
 use Rattle.direct_proof.proofs.shared.Keeps.{Keeps, keeps-quiet}
 use Rattle.direct_proof.proofs.streams.Keeping.{Does, keeps-made}
-use Rattle.direct_proof.proofs.shared.Folds.{clash, or-left}
 use Rattle.direct_proof.proofs.shared.Backs.{clean-append}
 use Rattle.direct_proof.proofs.streams.wires.Folds.{quits-runs}
 use Rattle.direct_proof.proofs.streams.wires.Growing.{found-any, runs-last, told-last, no-fact, way-offered}
@@ -59,7 +59,7 @@ module _ {S : Type 0} (m : Meaning S) (laws : IsGadget m) (w : World S) (j : Sha
   here = go w.gate.lost refl
     where
       go : (x : Bool) → w.gate.lost ≡ x → x ≡ false
-      go true h = absurd (clash w.host.unplugged (rel.lost h).1 plugged)
+      go true h = absurd (both_ways w.host.unplugged plugged (rel.lost h).1)
       go false h = refl
 
   not-first : w.host.guest.first ≡ false
@@ -107,8 +107,8 @@ module _ {S : Type 0} (m : Meaning S) (laws : IsGadget m) (w : World S) (j : Sha
     table = ap (λ (f : Facts). f.table) same-told ∙ session.table ∙ ap (λ (t : EpTable). table_of (ep_info_of both_caps t)) (sym facts.table);
     faces = ap (λ (f : Facts). f.interfaces) same-told ∙ session.faces ∙ ap Some (sym facts.interfaces);
     clean = clean-append w.gate.fence (down_in w.gate.streams) (any_change (j.held ++ j.coming) || j.fenced) (any_change (j.held ++ j.coming) || j.fenced) j.back (Packed s.kind ep sent.1 ∷ [])
-        (λ e. or-left (any_change (j.held ++ j.coming) || j.fenced) (false || false) e) session.clean
-        ((λ down. or-left (any_change (j.held ++ j.coming) || j.fenced) (false || false) (pending down)), tt);
+        (λ e. or_left (any_change (j.held ++ j.coming) || j.fenced) (false || false) e) session.clean
+        ((λ down. or_left (any_change (j.held ++ j.coming) || j.fenced) (false || false) (pending down)), tt);
     quits = session.quits;
     trails = session.trails;
     starts = subst (λ (t : EpTable). StartsFit t (any_change j.held || j.half) w.to_host) (sym facts.table) session.starts;
@@ -124,7 +124,7 @@ module _ {S : Type 0} (m : Meaning S) (laws : IsGadget m) (w : World S) (j : Sha
     ids = subst (Ids j.debts w.submits (j.held ++ j.coming)) (sym (runs-last j.back (Packed s.kind ep sent.1) refl)) rel.ids;
     real = rel.real;
     runs_at_in = rel.runs_at_in;
-    before = λ h. absurd (clash w.host.guest.first h not-first);
+    before = λ h. absurd (both_ways w.host.guest.first not-first h);
     asked = rel.asked;
     meets = meets-sent w j (Packed s.kind ep sent.1 ∷ []) refl refl rel.meets;
     debts = rel.debts;
@@ -134,7 +134,7 @@ module _ {S : Type 0} (m : Meaning S) (laws : IsGadget m) (w : World S) (j : Sha
     session = λ h k. new-session;
     ups = rel.ups;
     down = rel.down;
-    lost = λ h. absurd (clash w.gate.lost h here);
+    lost = λ h. absurd (both_ways w.gate.lost here h);
     sides = rel.sides;
     farewell = farewell-sent new.host j.back (Packed s.kind ep sent.1 ∷ []) plugged (rel.farewell.bye plugged) refl;
   }
@@ -143,7 +143,7 @@ module _ {S : Type 0} (m : Meaning S) (laws : IsGadget m) (w : World S) (j : Sha
   not-gone = go j.gone refl
     where
       go : (x : Bool) → j.gone ≡ x → x ≡ false
-      go true h = absurd (clash w.gate.lost (rel.sides.gone h) here)
+      go true h = absurd (both_ways w.gate.lost here (rel.sides.gone h))
       go false h = refl
 
   offered-does : Does m (view w j) (Offer ep ∷ []) (view new later) []

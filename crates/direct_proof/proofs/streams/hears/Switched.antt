@@ -1,5 +1,5 @@
 -- The host reads a start or a stop of a stream, and what is shared is kept.
-use Rattle.std.proofs.Common.{◌≡◌, ℕ, ◌||◌, Bool, true, false, List, [], ◌∷◌, ◌++◌, Option, Some, None, refl, sym, ap, ◌∙◌, subst, ◌+◌, ◌⊎◌, inl, inr, cond, map, arith}
+use Rattle.std.proofs.Common.{◌≡◌, ℕ, ◌||◌, Bool, true, false, List, [], ◌∷◌, ◌++◌, Option, Some, None, refl, sym, ap, ◌∙◌, subst, ◌+◌, ◌⊎◌, inl, inr, cond, map, arith, true≢false}
 use Rattle.redir_data.specs.declared.packet.RedirPacket.{RedirPacket}
 use Rattle.model_device.specs.Meaning.{Meaning}
 use Rattle.redir_host.specs.guest.Line.{Waiting as InLine}
@@ -15,10 +15,11 @@ use Rattle.direct_proof.specs.Meets.{is_announced}
 use Rattle.direct_proof.specs.Cancels.{any_change, CancelsFit, moved, left, IsAsking}
 use Rattle.direct_proof.specs.Running.{stream_endpoint, started_kind, StartsFit, passes, Quits, Trails, runs_after}
 use Rattle.direct_proof.proofs.streams.wires.Sorts.{IsSwitch, Switches_or, is-switch, asks-parts, line_changes}
-use Rattle.direct_proof.proofs.shared.Folds.{clash, or-false, not-both, or-left, or-right}
 use Rattle.direct_proof.proofs.streams.hears.Switching.{HostSwitches, host-switches}
 use Rattle.direct_proof.proofs.streams.hears.SwitchedFence.{switched_world, switched-moved, unheard-moved, unfenced, stays-clean, fenced-switched}
 use Rattle.std.specs.List.{list_any, AllByRecursion as Each}
+use Rattle.std.proofs.lemmas.Bool.{both_ways, or_left, or_right}
+use Rattle.std.proofs.Math.Bool.{or-false}
 use Rattle.redir_data.specs.Streams.{advanced}
 use Rattle.redir_host.specs.declared.state.running.Running.{Running}
 use Rattle.redir_host.specs.guest.Packets.{runs_at}
@@ -94,7 +95,7 @@ module _ {S : Type 0} (m : Meaning S) (w : World S) (j : Shared) (rel : Related 
   here plugged = go w.gate.lost refl
     where
       go : (b : Bool) → w.gate.lost ≡ b → b ≡ false
-      go true h = absurd (clash w.host.unplugged (rel.lost h).1 plugged)
+      go true h = absurd (both_ways w.host.unplugged plugged (rel.lost h).1)
       go false h = refl
 
   known : w.host.unplugged ≡ false → is_announced w j ≡ true
@@ -135,12 +136,12 @@ module _ {S : Type 0} (m : Meaning S) (w : World S) (j : Shared) (rel : Related 
     covered down = go (or-either (asks w.gate.fence q) (list_any (asks w.gate.fence) ps) (trails.0 (ap (passes (down_in w.gate.streams)) c.at ∙ down)))
       where
         stop : (list_any line_changes (in_line q) ≡ true) ⊎ ((is_fence w.gate.fence q.0 ≡ true) × (stream_id q ≡ q.0 ∷ [])) → is_fence w.gate.fence q.0 ≡ true
-        stop (inl k) = absurd (not-both (sym k ∙ ap (list_any line_changes) is_switch.line))
+        stop (inl k) = absurd (true≢false (sym k ∙ ap (list_any line_changes) is_switch.line))
         stop (inr k) = k.0
 
         go : (asks w.gate.fence q ≡ true) ⊎ (list_any (asks w.gate.fence) ps ≡ true) → ((any_change (j.held ++ j.coming) || fenced') || (is_fence w.gate.fence q.0 || false)) ≡ true
-        go (inl k) = or-right (any_change (j.held ++ j.coming) || fenced') (is_fence w.gate.fence q.0 || false) (or-left (is_fence w.gate.fence q.0) false (stop (asks-parts w.gate.fence q k)))
-        go (inr k) = or-left (any_change (j.held ++ j.coming) || fenced') (is_fence w.gate.fence q.0 || false) (asked-pending w.gate.fence fenced' j.half ps (j.back ++ b ∷ []) j.held j.coming line new-fenced k)
+        go (inl k) = or_right (any_change (j.held ++ j.coming) || fenced') (is_fence w.gate.fence q.0 || false) (or_left (is_fence w.gate.fence q.0) false (stop (asks-parts w.gate.fence q k)))
+        go (inr k) = or_left (any_change (j.held ++ j.coming) || fenced') (is_fence w.gate.fence q.0 || false) (asked-pending w.gate.fence fenced' j.half ps (j.back ++ b ∷ []) j.held j.coming line new-fenced k)
 
     same-told : told w.gate.facts (j.back ++ b ∷ []) ≡ told w.gate.facts j.back
     same-told = told-last w.gate.facts j.back b (no-fact-told c.kind q.0 c.ep 0)
@@ -166,7 +167,7 @@ module _ {S : Type 0} (m : Meaning S) (w : World S) (j : Shared) (rel : Related 
       ids = subst (Ids j.debts w.submits (j.held ++ j.coming)) (sym (runs-last j.back b refl)) rel.ids;
       real = rel.real;
       runs_at_in = c.ins;
-      before = λ h. absurd (clash w.host.guest.first h not-first);
+      before = λ h. absurd (both_ways w.host.guest.first not-first h);
       asked = λ h. asked-tail;
       meets = meets-sent w j (b ∷ []) refl refl rel.meets;
       debts = rel.debts;
@@ -180,7 +181,7 @@ module _ {S : Type 0} (m : Meaning S) (w : World S) (j : Shared) (rel : Related 
       session = λ h k. new-session;
       ups = rel.ups;
       down = rel.down;
-      lost = λ h. absurd (clash w.gate.lost h there);
+      lost = λ h. absurd (both_ways w.gate.lost there h);
       sides = rel.sides;
       farewell = farewell-sent new.host j.back (b ∷ []) plugged (rel.farewell.bye plugged) refl;
     }
@@ -199,12 +200,12 @@ module _ {S : Type 0} (m : Meaning S) (w : World S) (j : Shared) (rel : Related 
     ids = rel.ids;
     real = rel.real;
     runs_at_in = rel.runs_at_in;
-    before = λ h. absurd (clash w.host.guest.first h not-first);
+    before = λ h. absurd (both_ways w.host.guest.first not-first h);
     asked = λ h. asked-tail;
     meets = record {
       host = rel.meets.host;
       gate = rel.meets.gate;
-      announced = λ h k. absurd (clash w.host.unplugged gone k);
+      announced = λ h k. absurd (both_ways w.host.unplugged k gone);
       behind = rel.meets.behind;
       once = rel.meets.once;
       plugged = rel.meets.plugged;

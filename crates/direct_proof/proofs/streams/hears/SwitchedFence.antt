@@ -1,5 +1,5 @@
 -- The host reads a start or a stop: what the move makes, and the fence.
-use Rattle.std.proofs.Common.{◌≡◌, ℕ, ◌+◌, ◌≤◌, ◌==◌, ◌&&◌, ◌||◌, not, Bool, true, false, cond, List, [], ◌∷◌, ◌++◌, Option, Some, None, refl, sym, ap, ◌∙◌, arith, append-nil}
+use Rattle.std.proofs.Common.{◌≡◌, ℕ, ◌+◌, ◌≤◌, ◌==◌, ◌&&◌, ◌||◌, not, Bool, true, false, cond, List, [], ◌∷◌, ◌++◌, Option, Some, None, refl, sym, ap, ◌∙◌, arith, append-nil, true≢false}
 use Rattle.redir_data.specs.declared.packet.RedirPacket.{RedirPacket}
 use Rattle.redir_data.specs.Streams.{advanced}
 use Rattle.model_device.specs.Meaning.{Meaning}
@@ -13,7 +13,6 @@ use Rattle.direct_proof.specs.Moves.{move, quiet, host_reads, host_takes}
 use Rattle.direct_proof.specs.Tagged.{Tagged, Stated, on_wire}
 use Rattle.direct_proof.specs.StreamIds.{Fenced, stream_id, statuses_on, stream_ids_on}
 use Rattle.direct_proof.specs.Stale.{is_fence}
-use Rattle.direct_proof.proofs.shared.Folds.{not-both}
 use Rattle.direct_proof.proofs.streams.fills.FillLists.{weight}
 use Rattle.direct_proof.proofs.streams.hears.Switching.{HostSwitches}
 
@@ -46,7 +45,7 @@ pub stays-clean : (a f x : Bool) → (a || f) ≡ true → ((a || (f && not x)) 
 stays-clean true f x h = refl
 stays-clean false true true h = refl
 stays-clean false true false h = refl
-stays-clean false false x h = absurd (not-both (sym h))
+stays-clean false false x h = absurd (true≢false (sym h))
 
 pub fenced-switched : (fence : Option ℕ) (fenced : Bool) (q : ℕ × RedirPacket) (ps : List (ℕ × RedirPacket)) (back : List Tagged) (b : Tagged) → stream_id q ≡ q.0 ∷ [] → statuses_on (back ++ b ∷ []) ≡ statuses_on back ++ q.0 ∷ [] →
     ((id : ℕ) → times id (stream_ids_on (q ∷ ps)) + times id (statuses_on back) ≤ 1) → Fenced fence fenced (q ∷ ps) back → Fenced fence (unfenced fence q.0 fenced) ps (back ++ b ∷ [])
@@ -66,8 +65,8 @@ fenced-switched (Some f) fenced q ps back b id stated once h = by (f == q.0) ref
     )
       where
         and-false : (y : Bool) → true ≡ (y && false) → ⊥
-        and-false true z = not-both z
-        and-false false z = not-both z
+        and-false true z = true≢false z
+        and-false false z = true≢false z
     by false e = (
       (λ k. let z : weight (f == q.0) ≡ weight false = ap weight e in ap (λ (y : Bool). fenced && not y) e ∙ and-true fenced (h.0 (omega (arith, k, z, here)))),
       (λ k. let z : weight (f == q.0) ≡ weight false = ap weight e in let s = h.1 (fst-true fenced (sym (ap (λ (y : Bool). fenced && not y) e) ∙ k)) in omega (arith, s, z, more)),

@@ -1,7 +1,8 @@
 -- The gateway reads a packet that is neither an answer nor a fact: what is shared is kept, whatever it makes of streams, of those
 -- that wait for them, and of the fence.
-use Rattle.std.proofs.Common.{◌≡◌, ℕ, ◌||◌, Bool, true, false, List, [], ◌∷◌, ◌++◌, map, Option, None, is_some, refl, sym, ap, ◌∙◌, subst, arith}
+use Rattle.std.proofs.Common.{◌≡◌, ℕ, ◌||◌, Bool, true, false, List, [], ◌∷◌, ◌++◌, map, Option, None, is_some, refl, sym, ap, ◌∙◌, subst, arith, true≢false}
 use Rattle.std.specs.List.{list_any, AllByRecursion as Each}
+use Rattle.std.proofs.lemmas.Bool.{both_ways}
 use Rattle.model_device.specs.Meaning.{Meaning}
 use Rattle.usb_base.specs.declared.transfer.StreamPacket.{StreamPacket}
 use Rattle.redir_host.specs.declared.state.running.StreamKind.{StreamKind}
@@ -27,7 +28,6 @@ use Rattle.direct_proof.specs.Session.{down_in, runs}
 use Rattle.direct_proof.specs.Stale.{ends, asks, Clean}
 use Rattle.direct_proof.specs.Running.{Trails}
 use Rattle.direct_proof.proofs.shared.Backs.{early-greets, farewell-read}
-use Rattle.direct_proof.proofs.shared.Folds.{clash, not-both}
 use Rattle.direct_proof.proofs.streams.wires.Growing.{no-fact, no-fact-told}
 use Rattle.direct_proof.proofs.streams.wires.Folds.{clean-fence, quits-fence, trails-fence}
 use Rattle.direct_proof.proofs.streams.wires.UpRows.{SameRows, same-down, tagged-rows, kinds-rows, starts-rows}
@@ -81,7 +81,7 @@ module _ {S : Type 0} (m : Meaning S) (w : World S) (j : Shared) (b : Tagged) (b
     ids = subst (Ids j.debts w.submits (j.held ++ j.coming)) (ap (λ (l : List Coming). l ++ runs_in bs) may.no_run) rel.ids;
     real = rel.real;
     runs_at_in = rel.runs_at_in;
-    before = λ h. absurd (not-both (sym (early-greets b bs (rel.before h).back) ∙ may.no_greeting));
+    before = λ h. absurd (true≢false (sym (early-greets b bs (rel.before h).back) ∙ may.no_greeting));
     asked = rel.asked;
     meets = record {
       host = rel.meets.host;
@@ -113,7 +113,7 @@ module _ {S : Type 0} (m : Meaning S) (w : World S) (j : Shared) (b : Tagged) (b
     };
     ups = may.fits;
     down = may.down;
-    lost = λ h. absurd (clash w.gate.lost h read-here);
+    lost = λ h. absurd (both_ways w.gate.lost read-here h);
     sides = rel.sides;
     farewell = farewell-read w.host b bs rel.farewell;
   }

@@ -2,6 +2,8 @@
 use Rattle.direct_proof.proofs.streams.submits.RaisedLists.{packets-none, none-runs}
 use Rattle.std.proofs.Common.{◌≡◌, ℕ, ◌+◌, ◌≤◌, ◌==◌, ◌||◌, ◌⊎◌, Bool, true, false, cond, List, [], ◌∷◌, ◌++◌, Option, Some, None, is_none, refl, sym, ap, ◌∙◌, subst, arith, append-nil}
 use Rattle.std.specs.List.{list_any, AllByRecursion as Each}
+use Rattle.std.proofs.lemmas.Bool.{both_ways, or_parts}
+use Rattle.std.proofs.lemmas.List.Folds.{list_any-append}
 use Rattle.usb_base.specs.Endpoint.{row_of, is_iso}
 use Rattle.usb_base.specs.declared.endpoint.EpKind.TheVariants as kind
 use Rattle.usb_base.specs.declared.endpoint.EpRow.{EpRow}
@@ -28,7 +30,7 @@ use Rattle.direct_proof.specs.Cancels.{IsAsking, any_change, is_change}
 use Rattle.direct_proof.specs.Stale.{is_stale, asks}
 use Rattle.direct_proof.proofs.streams.fills.FillLists.{weight}
 use Rattle.direct_proof.proofs.streams.submits.Still.{IsStill}
-use Rattle.direct_proof.proofs.shared.Folds.{clash, or-none, any-append, lines-append}
+use Rattle.direct_proof.proofs.shared.Folds.{lines-append}
 use Rattle.direct_proof.proofs.shared.Streaming.{stream_ids-append, trails-append}
 use Rattle.direct_proof.proofs.streams.wires.Folds.{clean-weaker, quits-more, trails-weaker, starts-append, cancels-more}
 use Rattle.direct_proof.proofs.streams.wires.Sorts.{is_for_endpoint as is_at}
@@ -87,7 +89,7 @@ module _ {S : Type 0} (m : Meaning S) (w : World S) (j : Shared) (ep id : ℕ) (
   asks-start false = tt
 
   no-change : ((any_change j.held || j.half) || list_any (asks None) w.to_host) ≡ false
-  no-change = λ i. ((or-none (any_change j.held) (any_change j.coming) (sym (any-append is_change j.held j.coming) ∙ s.entries)).0 i || s.half-is i) || (ap (λ (f : Option ℕ). list_any (asks f) w.to_host) (sym s.no_fence) ∙ s.none_asks) i
+  no-change = λ i. ((or_parts (any_change j.held) (any_change j.coming) (sym (list_any-append is_change j.held j.coming) ∙ s.entries)).0 i || s.half-is i) || (ap (λ (f : Option ℕ). list_any (asks f) w.to_host) (sym s.no_fence) ∙ s.none_asks) i
 
   can : CanStart (m.table w.host.gadget) ((any_change j.held || j.half) || list_any (asks None) w.to_host) (started_kind (start_packet ep row))
   can = subst (CanStart (m.table w.host.gadget) ((any_change j.held || j.half) || list_any (asks None) w.to_host)) (sym (start m w j ep id row rel s h kinds same-row down long free).started-is) (no-change, can-start (m.table w.host.gadget) (start m w j ep id row rel s h kinds same-row down long free).kind ep row h same-row (start m w j ep id row rel s h kinds same-row down long free).fits)
@@ -99,7 +101,7 @@ module _ {S : Type 0} (m : Meaning S) (w : World S) (j : Shared) (ep id : ℕ) (
     clean = clean-weaker w.gate.fence (down_in w.gate.streams) (down_in (ups m w j ep id row rel s h kinds same-row down long free)) (any_change (j.held ++ j.coming) || j.fenced) (stale-less m w j ep id row rel s h kinds same-row down long free) j.back s.session.clean;
     quits = λ e d. quits-more w.gate.fence e (runs w.host e) w.to_host (q m w j ep id row rel s h kinds same-row down long free) (ap (is_at e) (start m w j ep id row rel s h kinds same-row down long free).stream ∙ swap e ep ((down-other m w j ep id row rel s h kinds same-row down long free) e d)) (s.session.quits e ((down-less m w j ep id row rel s h kinds same-row down long free) e d));
     trails = trails-append w.gate.fence (down_in (ups m w j ep id row rel s h kinds same-row down long free)) w.to_host ((q m w j ep id row rel s h kinds same-row down long free) ∷ []) (trails-weaker w.gate.fence (down_in w.gate.streams) (down_in (ups m w j ep id row rel s h kinds same-row down long free)) (down-less m w j ep id row rel s h kinds same-row down long free) w.to_host s.session.trails)
-        ((λ d. absurd (clash (down_in (ups m w j ep id row rel s h kinds same-row down long free) ep) (sym (ap (passes (down_in (ups m w j ep id row rel s h kinds same-row down long free))) (start m w j ep id row rel s h kinds same-row down long free).stream) ∙ d) (ap is_none (up-here m w j ep id row rel s h kinds same-row down long free)))), tt);
+        ((λ d. absurd (both_ways (down_in (ups m w j ep id row rel s h kinds same-row down long free) ep) (ap is_none (up-here m w j ep id row rel s h kinds same-row down long free)) (sym (ap (passes (down_in (ups m w j ep id row rel s h kinds same-row down long free))) (start m w j ep id row rel s h kinds same-row down long free).stream) ∙ d))), tt);
     starts = starts-append (m.table w.host.gadget) (any_change j.held || j.half) w.to_host ((q m w j ep id row rel s h kinds same-row down long free) ∷ []) s.session.starts (can, tt);
     kinds = (running-kinds m w j ep id row rel s h kinds same-row down long free) w.host.running (none-runs ep w.host.running (runs-not m w j ep id row rel s h kinds same-row down long free)) s.session.kinds;
     start_kinds = Each-append (λ (p : ℕ × RedirPacket). StartOfKind (ups m w j ep id row rel s h kinds same-row down long free) (started_kind p.1)) w.to_host ((q m w j ep id row rel s h kinds same-row down long free) ∷ []) ((start-kinds m w j ep id row rel s h kinds same-row down long free) w.to_host (none-switched m w j ep id row rel s h kinds same-row down long free) s.session.start_kinds)

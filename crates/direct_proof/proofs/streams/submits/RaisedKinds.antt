@@ -2,6 +2,7 @@
 use Rattle.std.proofs.Common.{◌≡◌, ℕ, ◌==◌, ◌⊎◌, Bool, true, false, List, [], ◌∷◌, ◌++◌, Option, Some, None, is_none, refl, sym, ap, ◌∙◌, subst, arith}
 use Rattle.std.specs.Prelude.{slice_set}
 use Rattle.std.specs.List.{list_any, AllByRecursion as Each}
+use Rattle.std.proofs.lemmas.Bool.{both_ways}
 use Rattle.usb_base.specs.Endpoint.{endpoint_index, row_of}
 use Rattle.usb_base.specs.declared.endpoint.EpKind.TheVariants as kind
 use Rattle.usb_base.specs.declared.endpoint.EpRow.{EpRow}
@@ -23,7 +24,6 @@ use Rattle.direct_proof.specs.Kinds.{IsIn, OfKind, TaggedOfKind, StartOfKind}
 use Rattle.direct_proof.specs.Running.{stream_endpoint, started_kind, passes, Quits}
 use Rattle.direct_proof.specs.Stale.{is_stale, asks}
 use Rattle.direct_proof.proofs.streams.submits.Still.{IsStill}
-use Rattle.direct_proof.proofs.shared.Folds.{clash}
 use Rattle.direct_proof.proofs.streams.wires.Folds.{quits-runs, no-trails}
 use Rattle.direct_proof.proofs.streams.wires.Sorts.{IsSwitch, Switches_or, is-switch}
 use Rattle.direct_proof.proofs.streams.wires.SortsMore.{started-stream}
@@ -65,7 +65,7 @@ module _ {S : Type 0} (m : Meaning S) (w : World S) (j : Shared) (ep id : ℕ) (
     where
       go : (b : Bool) → (e == ep) ≡ b → b ≡ false
       go false i = refl
-      go true i = let same : e ≡ ep = grind (arith, i) in absurd (clash (down_in ups e) d (ap is_none (ap (stream_of ups) same ∙ up-here)))
+      go true i = let same : e ≡ ep = grind (arith, i) in absurd (both_ways (down_in ups e) (ap is_none (ap (stream_of ups) same ∙ up-here)) d)
 
   pub down-less : (e : ℕ) → down_in ups e ≡ true → down_in w.gate.streams e ≡ true
   down-less e d = sym (ap is_none (up-other e (down-other e d))) ∙ d
@@ -81,7 +81,7 @@ module _ {S : Type 0} (m : Meaning S) (w : World S) (j : Shared) (ep id : ℕ) (
     where
       go : (b : Bool) → (e == ep) ≡ b → b ≡ false
       go false i = refl
-      go true i = let same : e ≡ ep = grind (arith, i) in absurd (clash (down_in w.gate.streams e) (ap (down_in w.gate.streams) same ∙ was-down) f)
+      go true i = let same : e ≡ ep = grind (arith, i) in absurd (both_ways (down_in w.gate.streams e) f (ap (down_in w.gate.streams) same ∙ was-down))
 
   kind-other : (e : ℕ) (k : StreamKind) → (e == ep) ≡ false → OfKind (stream_of w.gate.streams e) k → OfKind (stream_of ups e) k
   kind-other e k i f = subst (λ (o : Option Up). OfKind o k) (sym (up-other e i)) f
@@ -101,7 +101,7 @@ module _ {S : Type 0} (m : Meaning S) (w : World S) (j : Shared) (ep id : ℕ) (
     where
       go : (b : Bool) → runs w.host ep ≡ b → b ≡ false
       go false i = refl
-      go true i = absurd (clash (list_any (asks w.gate.fence) w.to_host) (quits-runs w.gate.fence ep w.to_host (subst (λ (r : Bool). Quits w.gate.fence ep r w.to_host) i (s.session.quits ep was-down))) s.none_asks)
+      go true i = absurd (both_ways (list_any (asks w.gate.fence) w.to_host) s.none_asks (quits-runs w.gate.fence ep w.to_host (subst (λ (r : Bool). Quits w.gate.fence ep r w.to_host) i (s.session.quits ep was-down))))
 
   pub none-switched : Each (λ (p : ℕ × RedirPacket). passes (down_in w.gate.streams) (stream_endpoint p.1) ≡ false) w.to_host
   none-switched = no-trails w.gate.fence (down_in w.gate.streams) w.to_host s.none_asks s.session.trails

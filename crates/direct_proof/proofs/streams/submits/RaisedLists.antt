@@ -1,6 +1,7 @@
 -- A wire without packets of a stream that is down, and a stream that stays up.
 use Rattle.std.proofs.Common.{◌≡◌, ℕ, ◌==◌, ◌&&◌, Bool, true, false, cond, List, [], ◌∷◌, ◌++◌, refl, sym, ap, ◌∙◌, arith}
 use Rattle.std.specs.List.{list_any, AllByRecursion as Each}
+use Rattle.std.proofs.lemmas.Bool.{both_ways, or_parts}
 use Rattle.redir_host.specs.declared.state.running.Running.{Running}
 use Rattle.redir_host.specs.guest.Packets.{runs_at}
 use Rattle.model_device.specs.Meaning.{Meaning}
@@ -10,7 +11,6 @@ use Rattle.direct_proof.specs.Shared.{Shared}
 use Rattle.direct_proof.specs.Related.{Related}
 use Rattle.direct_proof.specs.Session.{Session}
 use Rattle.direct_proof.specs.Stale.{is_stale}
-use Rattle.direct_proof.proofs.shared.Folds.{clash, or-none}
 use Rattle.direct_proof.proofs.streams.submits.Waited.{AfterWait}
 
 -- ---- a wire without packets of a stream that is down
@@ -31,11 +31,11 @@ packets-none down iso e h (b ∷ bs) k = (λ i. go b k.0 i ++ packets-none down 
       where
         by : (c : Bool) → (ep == e) ≡ c → cond (c && is_kind x iso) (p ∷ []) [] ≡ []
         by false y = refl
-        by true y = let same : ep ≡ e = grind (arith, y) in absurd (clash (down e) h (ap down (sym same) ∙ z))
+        by true y = let same : ep ≡ e = grind (arith, y) in absurd (both_ways (down e) (ap down (sym same) ∙ z) h)
 
 pub none-runs : (ep : ℕ) (rs : List Running) → list_any (runs_at ep) rs ≡ false → Each (λ (s : Running). (s.ep == ep) ≡ false) rs
 none-runs ep [] h = tt
-none-runs ep (s ∷ rs) h = let p = or-none (s.ep == ep) (list_any (runs_at ep) rs) h in (p.0, none-runs ep rs p.1)
+none-runs ep (s ∷ rs) h = let p = or_parts (s.ep == ep) (list_any (runs_at ep) rs) h in (p.0, none-runs ep rs p.1)
 
 -- ---- a stream that is up stays up, and nothing is sent
 

@@ -1,9 +1,11 @@
 -- A start: what its packet is, and the ids of starts and stops with it.
-use Rattle.std.proofs.Common.{◌≡◌, ℕ, zero, suc, ◌+◌, ◌≤◌, ◌<◌, ◌%◌, ◌==◌, ◌&&◌, ◌||◌, ◌⊎◌, inl, inr, nat_lt, not, Bool, true, false, cond, List, [], ◌∷◌, Option, Some, None, is_some, refl, sym, ap, ◌∙◌, subst, arith}
+use Rattle.std.proofs.Common.{◌≡◌, ℕ, zero, suc, ◌+◌, ◌≤◌, ◌<◌, ◌%◌, ◌==◌, ◌&&◌, ◌||◌, ◌⊎◌, inl, inr, nat_lt, not, Bool, true, false, cond, List, [], ◌∷◌, Option, Some, None, is_some, refl, sym, ap, ◌∙◌, subst, arith, true≢false}
 use Rattle.std.specs.Prelude.{get_or, slice_set}
 use Rattle.std.specs.List.{list_any, flat_map, AllByRecursion as Each}
 use Rattle.std.specs.Option.{option_to_list}
 use Rattle.std.proofs.lemmas.List.{get_or-set_same, get_or-set_other}
+use Rattle.std.proofs.lemmas.Bool.{both_ways, or_left, or_right}
+use Rattle.std.proofs.lemmas.List.Folds.{list_any-append}
 use Rattle.usb_base.specs.Endpoint.{endpoint_index, is_in_endpoint, row_of, is_iso}
 use Rattle.usb_base.specs.declared.endpoint.EpKind.{EpKind}
 use Rattle.usb_base.specs.declared.endpoint.EpKind.TheVariants as kind
@@ -24,7 +26,6 @@ use Rattle.direct_proof.specs.Kinds.{IsIn}
 use Rattle.direct_proof.specs.StreamIds.{IdIsKept, StreamIdIsKept, StatusIsKept, is_id, stream_id, stream_ids_on, status_id, statuses_on}
 use Rattle.direct_proof.specs.Running.{stream_endpoint, started_kind}
 use Rattle.direct_proof.proofs.streams.fills.FillLists.{weight}
-use Rattle.direct_proof.proofs.shared.Folds.{clash, not-both, or-left, or-right, any-append}
 use Rattle.direct_proof.proofs.streams.wires.Folds.{or-either}
 use Rattle.direct_proof.proofs.shared.UpsFound.{in-place, places-differ}
 
@@ -74,28 +75,28 @@ can-start table k ep row h same fits = λ i. small ep h i && (in-byte ep h i && 
 -- ---- ids that are kept
 
 held-id : (id i : ℕ) (xs : List (Option ℕ)) → is_id id (get_or xs i None) ≡ true → list_any (λ x. id == x) (flat_map option_to_list xs) ≡ true
-held-id id i [] h = absurd (not-both (sym h))
-held-id id zero (None ∷ xs) h = absurd (not-both (sym h))
-held-id id zero (Some x ∷ xs) h = or-left (id == x) (list_any (λ y. id == y) (flat_map option_to_list xs)) (flip x id h)
+held-id id i [] h = absurd (true≢false (sym h))
+held-id id zero (None ∷ xs) h = absurd (true≢false (sym h))
+held-id id zero (Some x ∷ xs) h = or_left (id == x) (list_any (λ y. id == y) (flat_map option_to_list xs)) (flip x id h)
   where
     flip : (a b : ℕ) → (a == b) ≡ true → (b == a) ≡ true
     flip a b e = grind (arith, e)
 held-id id (suc i) (None ∷ xs) h = held-id id i xs h
-held-id id (suc i) (Some x ∷ xs) h = or-right (id == x) (list_any (λ y. id == y) (flat_map option_to_list xs)) (held-id id i xs h)
+held-id id (suc i) (Some x ∷ xs) h = or_right (id == x) (list_any (λ y. id == y) (flat_map option_to_list xs)) (held-id id i xs h)
 
 pub kept-held : (c : StreamIds) (id ep : ℕ) → IdIsKept c id ep → holds (ids_of_streams c) id ≡ true
-kept-held c id ep h = any-append (λ x. id == x) (flat_map option_to_list c.started) (flat_map option_to_list c.stopped) ∙ go (or-either (is_id id (get_or c.started (endpoint_index ep) None)) (is_id id (get_or c.stopped (endpoint_index ep) None)) h)
+kept-held c id ep h = list_any-append (λ x. id == x) (flat_map option_to_list c.started) (flat_map option_to_list c.stopped) ∙ go (or-either (is_id id (get_or c.started (endpoint_index ep) None)) (is_id id (get_or c.stopped (endpoint_index ep) None)) h)
   where
     go : (is_id id (get_or c.started (endpoint_index ep) None) ≡ true) ⊎ (is_id id (get_or c.stopped (endpoint_index ep) None) ≡ true) → (list_any (λ x. id == x) (flat_map option_to_list c.started) || list_any (λ x. id == x) (flat_map option_to_list c.stopped)) ≡ true
-    go (inl k) = or-left (list_any (λ x. id == x) (flat_map option_to_list c.started)) (list_any (λ x. id == x) (flat_map option_to_list c.stopped)) (held-id id (endpoint_index ep) c.started k)
-    go (inr k) = or-right (list_any (λ x. id == x) (flat_map option_to_list c.started)) (list_any (λ x. id == x) (flat_map option_to_list c.stopped)) (held-id id (endpoint_index ep) c.stopped k)
+    go (inl k) = or_left (list_any (λ x. id == x) (flat_map option_to_list c.started)) (list_any (λ x. id == x) (flat_map option_to_list c.stopped)) (held-id id (endpoint_index ep) c.started k)
+    go (inr k) = or_right (list_any (λ x. id == x) (flat_map option_to_list c.started)) (list_any (λ x. id == x) (flat_map option_to_list c.stopped)) (held-id id (endpoint_index ep) c.stopped k)
 
 -- an id that is held nowhere is on no wire
 none-here : (c : StreamIds) (id other ep : ℕ) → holds (ids_of_streams c) id ≡ false → IdIsKept c other ep → (id == other) ≡ false
 none-here c id other ep free kept = go (id == other) refl
   where
     go : (b : Bool) → (id == other) ≡ b → b ≡ false
-    go true e = let same : id ≡ other = grind (arith, e) in absurd (clash (holds (ids_of_streams c) other) (kept-held c other ep kept) (ap (holds (ids_of_streams c)) (sym same) ∙ free))
+    go true e = let same : id ≡ other = grind (arith, e) in absurd (both_ways (holds (ids_of_streams c) other) (ap (holds (ids_of_streams c)) (sym same) ∙ free) (kept-held c other ep kept))
     go false e = refl
 
 pub no-stream_id : (c : StreamIds) (id : ℕ) → holds (ids_of_streams c) id ≡ false → (ps : List (ℕ × RedirPacket)) → Each (λ (p : ℕ × RedirPacket). StreamIdIsKept c p.0 (stream_endpoint p.1)) ps → times id (stream_ids_on ps) ≡ 0
@@ -117,7 +118,7 @@ no-statuses c id free (b ∷ bs) h = let rest = no-statuses c id free bs h.1 in 
 -- ---- with one start more
 
 pub kept-new : (c : StreamIds) (id ep : ℕ) → AreLong c → IsIn ep → IdIsKept (started ep id c) id ep
-kept-new c id ep long h = or-left (is_id id (get_or (slice_set c.started (endpoint_index ep) (Some id)) (endpoint_index ep) None)) _ (ap (is_id id) (get_or-set_same c.started (endpoint_index ep) (Some id) None (subst (λ (n : ℕ). endpoint_index ep < n) (sym long.started) (in-place ep h))) ∙ itself id)
+kept-new c id ep long h = or_left (is_id id (get_or (slice_set c.started (endpoint_index ep) (Some id)) (endpoint_index ep) None)) _ (ap (is_id id) (get_or-set_same c.started (endpoint_index ep) (Some id) None (subst (λ (n : ℕ). endpoint_index ep < n) (sym long.started) (in-place ep h))) ∙ itself id)
   where
     itself : (n : ℕ) → (n == n) ≡ true
     itself n = grind arith

@@ -1,6 +1,8 @@
 -- Where a client has imported and no change of it is live, nothing is stale on the wires, and none is to come.
 use Rattle.std.proofs.Common.{◌≡◌, ℕ, ◌||◌, Bool, true, false, List, [], ◌∷◌, ◌++◌, Option, None, refl, sym, ap, ◌∙◌, subst}
 use Rattle.std.specs.List.{list_any, AllByRecursion as Each}
+use Rattle.std.proofs.lemmas.List.Folds.{list_any-append}
+use Rattle.std.proofs.lemmas.Bool.{both_ways, or_parts}
 use Rattle.model_device.specs.Meaning.{Meaning}
 use Rattle.redir_host.specs.guest.Line.{Reset}
 use Rattle.gate_history.specs.state.State.{change_waits}
@@ -14,7 +16,6 @@ use Rattle.direct_proof.specs.Session.{Session, down_in}
 use Rattle.direct_proof.specs.Shared.{Shared, half_line, at_hosts, lines}
 use Rattle.direct_proof.specs.Stale.{is_stale, asks}
 use Rattle.direct_proof.specs.Tagged.{told}
-use Rattle.direct_proof.proofs.shared.Folds.{any-append, clash, or-none}
 use Rattle.direct_proof.proofs.submits.Verdicts.{announced, calm-entries, nothing-stale, table-known}
 use Rattle.direct_proof.proofs.streams.wires.Pending.{asked-pending, coming-changes}
 use Rattle.direct_proof.proofs.streams.wires.Sorts.{line_changes}
@@ -65,7 +66,7 @@ is-still {S = S} m w j rel imported there calm = record {
     pending = λ i. entries i || none_fenced i
 
     no-asks : (b : Bool) → list_any (asks w.gate.fence) w.to_host ≡ b → b ≡ false
-    no-asks true h = absurd (clash (any_change (j.held ++ j.coming) || j.fenced) (asked-pending w.gate.fence j.fenced j.half w.to_host j.back j.held j.coming rel.line.coming (rel.fenced there) h) pending)
+    no-asks true h = absurd (both_ways (any_change (j.held ++ j.coming) || j.fenced) pending (asked-pending w.gate.fence j.fenced j.half w.to_host j.back j.held j.coming rel.line.coming (rel.fenced there) h))
     no-asks false h = refl
 
     no-half : (b : Bool) → j.half ≡ b → b ≡ false
@@ -73,4 +74,4 @@ is-still {S = S} m w j rel imported there calm = record {
     no-half true h =
         let line : Reset ∷ lines w.to_host ≡ at_hosts j.coming = ap (λ (b : Bool). half_line b ++ lines w.to_host) (sym h) ∙ rel.line.coming in
         let some : any_change j.coming ≡ true = coming-changes j.coming (sym (ap (list_any line_changes) line)) in
-        absurd (clash (any_change j.coming) some (or-none (any_change j.held) (any_change j.coming) (sym (any-append is_change j.held j.coming) ∙ entries)).1)
+        absurd (both_ways (any_change j.coming) (or_parts (any_change j.held) (any_change j.coming) (sym (list_any-append is_change j.held j.coming) ∙ entries)).1 some)

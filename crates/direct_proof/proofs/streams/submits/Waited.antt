@@ -1,6 +1,7 @@
 -- What is kept where a submit waits for a stream, by what changes with that.
 use Rattle.std.proofs.Common.{◌≡◌, ℕ, ◌||◌, Bool, true, false, cond, List, [], ◌∷◌, ◌++◌, map, filter, Option, refl, sym, ap, ◌∙◌, subst}
 use Rattle.std.specs.List.{AllByRecursion as Each}
+use Rattle.std.proofs.lemmas.Bool.{both_ways}
 use Rattle.usb_base.specs.declared.endpoint.EpRow.{EpRow}
 use Rattle.usb_base.specs.declared.transfer.StreamPacket.{StreamPacket}
 use Rattle.redir_data.specs.declared.packet.RedirPacket.{RedirPacket}
@@ -24,7 +25,6 @@ use Rattle.direct_proof.specs.Kinds.{IsIn, TaggedOfKind, StreamIsIn, UpsFit}
 use Rattle.direct_proof.specs.Cancels.{CancelsFit, IsAsking, any_change}
 use Rattle.direct_proof.specs.Running.{stream_endpoint, Trails}
 use Rattle.direct_proof.specs.Stale.{Clean}
-use Rattle.direct_proof.proofs.shared.Folds.{clash}
 use Rattle.direct_proof.proofs.streams.wires.UpRows.{SameRows, same-down, tagged-rows, kinds-rows, starts-rows, fits-hold, hold-rows}
 use Rattle.direct_proof.proofs.streams.reads.Arriving.{debts-stay}
 use Rattle.direct_proof.proofs.streams.submits.Waits.{waiter, with_waiter, fill_for, waits_world}
@@ -104,7 +104,7 @@ waits-related {S = S} m w j r row rel imported there a = record {
   ids = ids-named j.debts w.submits (j.held ++ j.coming) (runs_in j.back) r.number rel.real rel.ids;
   real = rel.real;
   runs_at_in = rel.runs_at_in;
-  before = λ h. absurd (clash w.host.guest.first h (rel.meets.behind (rel.meets.no_session imported there)).2);
+  before = λ h. absurd (both_ways w.host.guest.first (rel.meets.behind (rel.meets.no_session imported there)).2 h);
   asked = a.asked;
   meets = rel.meets;
   debts = λ h. ap (λ (l : List Debt). l ++ debts_of w.gate.abandoned) (debts-stay r.transfer.ep (fill_for w.gate r row).fillings (with_waiter w.gate r row) ∙ debts-waiter w.gate r row w.gate.live) ∙ rel.debts h;
@@ -113,8 +113,8 @@ waits-related {S = S} m w j r row rel imported there a = record {
   alone = rel.alone;
   session = λ h k. a.session;
   ups = a.fits;
-  down = λ h. absurd (clash w.gate.imported imported h);
-  lost = λ h. absurd (clash w.gate.lost h there);
+  down = λ h. absurd (both_ways w.gate.imported h imported);
+  lost = λ h. absurd (both_ways w.gate.lost there h);
   sides = rel.sides;
   farewell = rel.farewell;
 }

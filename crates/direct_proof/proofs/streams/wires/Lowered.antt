@@ -1,5 +1,5 @@
 -- Streams that go down: what is known of the others stays.
-use Rattle.std.proofs.Common.{◌≡◌, ℕ, ◌%◌, ◌==◌, ◌⊎◌, inl, inr, nat_lt, Bool, true, false, cond, List, [], ◌∷◌, Option, Some, None, is_none, refl, sym, ap, ◌∙◌, subst, arith}
+use Rattle.std.proofs.Common.{◌≡◌, ℕ, ◌%◌, ◌==◌, ◌⊎◌, inl, inr, nat_lt, Bool, true, false, cond, List, [], ◌∷◌, Option, Some, None, is_none, refl, sym, ap, ◌∙◌, subst, arith, true≢false}
 use Rattle.std.specs.Prelude.{get_or}
 use Rattle.std.specs.List.{AllByRecursion as Each}
 use Rattle.std.proofs.Math.ListN.{get_or-map}
@@ -17,7 +17,6 @@ use Rattle.direct_proof.specs.Session.{down_in}
 use Rattle.direct_proof.specs.Running.{started_kind}
 use Rattle.direct_proof.proofs.shared.UpsFound.{lowered}
 use Rattle.direct_proof.proofs.streams.wires.UpRows.{place-differs}
-use Rattle.direct_proof.proofs.shared.Folds.{not-both}
 
 module _ (test : Up → Bool) (ups : List (Option Up)) where
   kind-lower : (o : Option Up) (k : StreamKind) → OfKind o k → OfKind (unless test o) k
@@ -87,7 +86,7 @@ module _ (test : Up → Bool) (ups : List (Option Up)) where
             where
               passed : (b : Bool) → is_none (cond b None (Some up)) ≡ true → b ≡ true
               passed true k = refl
-              passed false k = absurd (not-both (sym k))
+              passed false k = absurd (true≢false (sym k))
 
               equal : (b : Bool) → (e == up.ep) ≡ b → UpFits (endpoint_index e) (Some up) → up.ep ≡ e
               equal true k u = grind (arith, k)
