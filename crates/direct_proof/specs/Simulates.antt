@@ -9,7 +9,7 @@ use Rattle.usbip_urb.specs.declared.client.ClientPacket.TheVariants.{Op, Urb}
 use Rattle.usbip_urb.specs.declared.packet.UrbPacket.{UrbPacket}
 use Rattle.model_device.specs.Meaning.{Meaning}
 use Rattle.redir_host.specs.step.History.{history as host_history}
-use Rattle.redir_host.specs.step.Machine.{all_given, notes_of as host_notes_of}
+use Rattle.redir_host.specs.step.Machine.{all_given, is_refusal, notes_of as host_notes_of}
 use Rattle.gate_history.specs.write.All.{all_of}
 use Rattle.gate_history.specs.step.History.{history}
 use Rattle.gate_history.specs.write.Notes.{notes_of}
@@ -17,7 +17,6 @@ use Rattle.gate_history.specs.state.Sides.{is_client}
 use Rattle.direct_run.specs.declared.item.Item.{Item}
 use Rattle.direct_run.specs.declared.item.Item.TheVariants as item
 use Rattle.direct_run.specs.Clients.{present}
-use Rattle.direct_run.specs.Follows.{is_refusal}
 use Rattle.gate_history.specs.write.Refusals.{refusal_in}
 use Rattle.direct_run.specs.Steps.{Step, Unplug}
 use Rattle.direct_run.specs.Trace.{told_by}

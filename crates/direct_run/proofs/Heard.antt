@@ -19,7 +19,7 @@ use Rattle.redir_host.specs.declared.state.running.StreamKind.{StreamKind}
 use Rattle.redir_host.specs.declared.state.running.StreamKind.TheVariants.{Iso, Interrupt}
 use Rattle.redir_host.specs.guest.Asking.{asking_of}
 use Rattle.redir_host.specs.step.Items.{Item, Asked, Wrong, Performs, Offers, Unplugs}
-use Rattle.redir_host.specs.step.Machine.{move, run, bytes_of, notes_of, all_given, given_by}
+use Rattle.redir_host.specs.step.Machine.{move, run, bytes_of, is_refusal, notes_of, all_given, given_by}
 use Rattle.redir_host.specs.step.Makes.{IsTaken}
 use Rattle.redir_host.specs.step.Moves.{Move, quiet}
 use Rattle.redir_host.specs.device.Offering.{offer_move, offered_on}
@@ -34,7 +34,6 @@ use Rattle.redir_host.proofs.lemmas.device.Silent.{perform-silent, offer-silent,
 use Rattle.gate_history.specs.write.Bytes.{gateway_hello}
 use Rattle.redir_data.specs.Sent.{sent_header, CanBeRead, sent_packet_bytes}
 use Rattle.direct_run.specs.Packets.{both_caps}
-use Rattle.direct_run.specs.Follows.{is_refusal}
 use Rattle.direct_run.proofs.Headed.{met, no-hello, unmoved}
 
 -- what is done with the device

@@ -10,7 +10,7 @@ use Rattle.redir_host.specs.declared.state.host.Host.{Host}
 use Rattle.redir_host.specs.step.Acts.{Act, Piece}
 use Rattle.redir_host.specs.guest.Guest.{asked}
 use Rattle.redir_host.specs.step.History.{brought as act_brought, history as host_history}
-use Rattle.redir_host.specs.step.Machine.{notes_of as host_notes_of, steps as host_steps, given_by as host_given, all_given as host_all_given}
+use Rattle.redir_host.specs.step.Machine.{is_refusal, notes_of as host_notes_of, steps as host_steps, given_by as host_given, all_given as host_all_given}
 use Rattle.redir_host.specs.write.Output.{host_of}
 use Rattle.gate_history.proofs.lemmas.Lists.{Each}
 use Rattle.redir_host.proofs.lemmas.step.Acts.{act-host, act-gives}
@@ -24,7 +24,7 @@ use Rattle.gate_history.specs.state.State.{State}
 use Rattle.gate_history.proofs.lemmas.step.Runs.{state-run}
 use Rattle.direct_run.specs.declared.item.Item.{Item}
 use Rattle.direct_run.specs.Clients.{IsMove, present, present_outs}
-use Rattle.direct_run.specs.Follows.{Follows, AreMoves, is_refusal}
+use Rattle.direct_run.specs.Follows.{Follows, AreMoves}
 use Rattle.direct_run.specs.Moves.{World, Made, ByClient, HostReads, GateReads, then_made, run}
 use Rattle.direct_run.specs.Noted.{item_of, item_of_host}
 use Rattle.direct_run.specs.Packets.{Found, bare, bares, read_by_host, read_by_gate}

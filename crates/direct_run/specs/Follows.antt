@@ -1,5 +1,5 @@
 -- That a list of moves on packets follows a course of bytes.
-use Rattle.std.specs.Prelude.{◌≡◌, Bool, true, false, List, ◌∷◌, ◌++◌}
+use Rattle.std.specs.Prelude.{◌≡◌, false, List, ◌∷◌, ◌++◌}
 use Rattle.std.specs.List.{list_any, AllByRecursion}
 use Rattle.gate_history.specs.write.All.{all_of}
 use Rattle.gate_history.specs.write.Bytes.{gateway_hello}
@@ -8,10 +8,8 @@ use Rattle.gate_history.specs.write.Output.{to_client}
 use Rattle.gate_history.specs.state.State.{state_of}
 use Rattle.gate_history.specs.client.Submits.{accepted}
 use Rattle.model_device.specs.Meaning.{Meaning}
-use Rattle.redir_host.specs.declared.write.note.HostNote.{HostNote}
-use Rattle.redir_host.specs.declared.write.note.HostNote.TheVariants as host_note
 use Rattle.redir_host.specs.step.History.{history as host_history}
-use Rattle.redir_host.specs.step.Machine.{all_given, notes_of as host_notes_of}
+use Rattle.redir_host.specs.step.Machine.{all_given, is_refusal, notes_of as host_notes_of}
 use Rattle.redir_host.specs.write.Output.{first_packet, host_of}
 use Rattle.direct_run.specs.declared.item.Item.{Item}
 use Rattle.direct_run.specs.Clients.{IsMove, present, present_outs}
@@ -32,10 +30,6 @@ pub record Follows {S : Type 0} (m : Meaning S) (s : S) (c : Course) (items : Li
   pub outs : r.outs ≡ all_of to_client first_id (history first_id c.events)
   pub items-are : r.items ≡ items
   pub accepted-are : r.accepted ≡ accepted (history first_id c.events)
-
-abbrev pub is_refusal : HostNote → Bool
-is_refusal (host_note.Refused place reason) = true
-is_refusal (host_note.Cancelled id) = false
 
 -- there are moves that follow the course and tell these items
 pub record AreMoves {S : Type 0} (m : Meaning S) (s : S) (c : Course) (items : List Item) : Type 0 where

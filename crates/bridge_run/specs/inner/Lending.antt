@@ -1,10 +1,8 @@
 -- What acts make of a lent device's host and of its output, and what is kept of the events.
-use Rattle.std.specs.Prelude.{◌≡◌, ◌⊎◌, ℕ, Bool, true, false, if◌then◌else◌, List, [], ◌++◌}
+use Rattle.std.specs.Prelude.{◌≡◌, ◌⊎◌, ℕ, true, if◌then◌else◌, List, [], ◌++◌}
 use Rattle.usb_base.specs.declared.refusal.Refusal.{Refusal}
 use Rattle.model_device.specs.Meaning.{Meaning}
 use Rattle.redir_host.specs.state.Kept.{HostKept as Core}
-use Rattle.redir_host.specs.declared.write.note.HostNote.{HostNote}
-use Rattle.redir_host.specs.declared.write.note.HostNote.TheVariants as note
 use Rattle.redir_host.specs.step.Acts.{Act}
 use Rattle.redir_host.specs.step.Acts as act
 use Rattle.redir_host.specs.write.Output.{host_out}
@@ -16,10 +14,6 @@ use Rattle.bridge_run.specs.events.Events.{LinkEvent}
 use Rattle.bridge_run.specs.written.Recorded.{has_any}
 use Rattle.bridge_run.specs.served.Lent.{acts_of, has_come}
 use Rattle.bridge_run.specs.served.LentStops.{ActsStop}
-
-abbrev pub is_refusal : HostNote → Bool
-is_refusal (note.Refused place reason) = true
-is_refusal (note.Cancelled id) = false
 
 abbrev pub act_of : Use → ℕ → Act
 act_of Perform ep = act.Perform ep

@@ -3,11 +3,12 @@
 ghost use Rattle.std.specs.Prelude.{◌≡◌, ◌++◌, ◌||◌, [], true, if◌then◌else◌, List as ListOf, OnOk, OnErr, IfOk};
 ghost use Rattle.std.specs.List.{flat_map, list_any};
 ghost use Rattle.redir_host.specs.step.Acts.{Act};
+ghost use Rattle.redir_host.specs.step.Machine.{is_refusal};
 ghost use Rattle.redir_host.specs.step.Stands.{DoesAct, HostStands, Stops};
 ghost use Rattle.usb_base.specs.declared.side.Side.TheVariants.{Client};
 ghost use Rattle.bridge_run.specs.events.Events.{SidePiece, event_of, is_quiet};
 ghost use Rattle.bridge_run.specs.served.Lent.{each, used, acts_behind, is_coming, refused_by, refusal_in};
-ghost use Rattle.bridge_run.specs.inner.Lending.{Acts, StopsIn, Halts, IsLent, act_of, is_refusal};
+ghost use Rattle.bridge_run.specs.inner.Lending.{Acts, StopsIn, Halts, IsLent, act_of};
 ghost use Rattle.bridge_run.specs.written.Recorded.{has_any};
 
 use crate::events::event::LinkEvent;

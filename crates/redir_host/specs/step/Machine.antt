@@ -1,6 +1,6 @@
 -- A host as a machine: a state that steps with each item, what goes to the guest, and what is told. Lists of items have
 -- the latest first.
-use Rattle.std.specs.Prelude.{false, List, [], ◌∷◌, ◌++◌}
+use Rattle.std.specs.Prelude.{Bool, true, false, List, [], ◌∷◌, ◌++◌}
 use Rattle.std.specs.List.{flat_map}
 use Rattle.redir_data.specs.Sent.{sent_packet_bytes}
 use Rattle.redir_data.specs.Streams.{start}
@@ -37,6 +37,10 @@ bytes_of v = flat_map (sent_packet_bytes v.host.guest.caps) v.sent
 
 abbrev pub notes_of : {S : Type 0} → Move S → List HostNote
 notes_of v = v.notes
+
+abbrev pub is_refusal : HostNote → Bool
+is_refusal (note.Refused place reason) = true
+is_refusal _ = false
 
 -- ---- of several items
 

@@ -10,6 +10,7 @@ use Rattle.redir_host.specs.state.Kept.{HostKept as Core}
 use Rattle.redir_host.specs.declared.write.note.HostNote.{HostNote}
 use Rattle.redir_host.specs.declared.write.note.HostNote.TheVariants as note
 use Rattle.redir_host.specs.step.Acts.{Act, Piece}
+use Rattle.redir_host.specs.step.Machine.{is_refusal}
 use Rattle.redir_host.specs.write.Output.{host_out, act_bytes, act_notes}
 use Rattle.redir_host.specs.step.Stands.{HostStands, DoesAct, TakesAct}
 use Rattle.redir_host.proofs.lemmas.step.Acts.{act-out}
@@ -19,7 +20,7 @@ use Rattle.bridge_run.specs.events.Events.{LinkEvent, SidePiece}
 use Rattle.bridge_run.specs.written.Recorded.{has_any}
 use Rattle.bridge_run.specs.served.Lent.{each, used, refusal_in, acts_behind, acts_of, is_coming, has_come, refused_by, lent_refusals, lent_sends}
 use Rattle.bridge_run.specs.inner.Sends.{Sends}
-use Rattle.bridge_run.specs.inner.Lending.{is_refusal, Acts, IsLent}
+use Rattle.bridge_run.specs.inner.Lending.{Acts, IsLent}
 
 -- ---- acts
 

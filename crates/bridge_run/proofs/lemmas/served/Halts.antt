@@ -8,7 +8,7 @@ use Rattle.model_device.specs.Meaning.{Meaning}
 use Rattle.redir_host.specs.state.Kept.{HostKept as Core}
 use Rattle.redir_host.specs.declared.write.note.HostNote.{HostNote}
 use Rattle.redir_host.specs.step.Acts.{Act, Piece}
-use Rattle.redir_host.specs.step.Machine.{bytes_of, given_by, steps}
+use Rattle.redir_host.specs.step.Machine.{bytes_of, given_by, is_refusal, steps}
 use Rattle.redir_host.specs.write.Output.{host_of, host_out, act_bytes, act_notes}
 use Rattle.redir_host.specs.step.Stands.{Stops, TakesAct}
 use Rattle.redir_host.proofs.lemmas.step.Acts.{act-out, given-append}
@@ -25,7 +25,7 @@ use Rattle.bridge_run.specs.served.LentStops.{ActsStop, LentStops}
 use Rattle.bridge_run.specs.log.Log.{IsFront}
 use Rattle.bridge_run.specs.events.RanOut.{RanOutWithin}
 use Rattle.bridge_run.specs.inner.Sends.{SendsPart}
-use Rattle.bridge_run.specs.inner.Lending.{is_refusal, Acts, StopsIn, Halts, IsLent, act_of}
+use Rattle.bridge_run.specs.inner.Lending.{Acts, StopsIn, Halts, IsLent, act_of}
 use Rattle.bridge_run.proofs.lemmas.served.Acts.{Midway, one-act, any-refused, piece-refused, heard-refused, gained-is, handed-is}
 
 -- ---- acts that are left
