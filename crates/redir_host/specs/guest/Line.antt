@@ -15,7 +15,7 @@ use Rattle.control_route.specs.declared.route.Route.TheVariants as route
 use Rattle.model_device.specs.Meaning.{Meaning}
 use Rattle.model_device.specs.Transfer.{is_control}
 use Rattle.redir_host.specs.declared.state.request.Asking.{Asking}
-use Rattle.redir_host.specs.declared.state.request.Asking.TheVariants.{Nothing, Refuses, Asks}
+use Rattle.redir_host.specs.declared.state.request.Asking.TheVariants.{Asks}
 use Rattle.redir_host.specs.declared.state.request.Form.{Form}
 use Rattle.redir_host.specs.declared.state.request.Form.TheVariants as form
 use Rattle.redir_host.specs.declared.state.request.Request.{Request}
@@ -32,9 +32,8 @@ pub data Waiting : Type 0 where
 -- ---- who comes, behind all others
 
 abbrev pub asked_line : ℕ → ℕ → Asking → List Waiting
-asked_line place id Nothing = []
-asked_line place id (Refuses f ep) = []
 asked_line place id (Asks f t) = Waits place id f t ∷ []
+asked_line place id _ = []
 
 abbrev pub plain_line : ℕ → ℕ → RedirControl → List Waiting
 plain_line place id plain.Reset = Reset ∷ []

@@ -1,6 +1,7 @@
 -- What becomes of the guest's requests: each waits in line, is answered, or is dropped with the device. Lists of items
 -- have the latest first, lines and lists of requests and of answers the earliest.
 use Rattle.std.specs.Prelude.{◌≡◌, ◌⊎◌, ℕ, ◌+◌, ◌==◌, ◌&&◌, not, Bool, true, false, if◌then◌else◌, List, [], ◌∷◌, ◌++◌, map, filter, Option, Some, None}
+use Rattle.std.specs.Option.{option_to_list}
 use Rattle.std.specs.List.{find}
 use Rattle.usb_base.specs.Endpoint.{is_in_endpoint}
 use Rattle.usb_base.specs.declared.endpoint.EpTable.{EpTable}
@@ -109,11 +110,6 @@ pub record Became : Type 0 where
 abbrev pub unchanged : List Waiting → Became
 unchanged line = record { line = line; answered = []; dropped = [] }
 
--- the first of these, if there is one
-abbrev pub first_such : {A : Type 0} → (A → Bool) → List A → List A
-first_such test [] = []
-first_such test (x ∷ xs) = if test x then x ∷ [] else first_such test xs
-
 abbrev pub is_in_queue_of : ℕ → Placed → Bool
 is_in_queue_of ep p = queue_of p.ep == queue_of ep
 
@@ -133,7 +129,7 @@ lines_up line new answered = record { line = line ++ new; answered = answered; d
 abbrev pub by_cancel : ℕ → List Waiting → Became
 by_cancel id line = record {
   line = without_cancelled id line;
-  answered = map (ends ByCancel) (first_such (is_cancelled id) (waiting_in line));
+  answered = map (ends ByCancel) (option_to_list (find (is_cancelled id) (waiting_in line)));
   dropped = [];
 }
 
@@ -176,7 +172,7 @@ by_outcome changes ep line None = unchanged line
 by_outcome changes ep line (Some o) = record {
   line = flushed_in changes (without_performed ep line);
   answered = map (ends ByChange) (flushed_of changes (without_performed ep line))
-      ++ map (ends (ByDevice o.0 o.1)) (first_such (is_in_queue_of ep) (waiting_in line));
+      ++ map (ends (ByDevice o.0 o.1)) (option_to_list (find (is_in_queue_of ep) (waiting_in line)));
   dropped = [];
 }
 

@@ -2,6 +2,7 @@
 use Rattle.std.proofs.Common.{◌≡◌, ℕ, ◌+◌, ◌≤◌, ◌==◌, Bool, true, false, cond, not, List, [], ◌∷◌, ◌++◌, length, filter, map, Some, None, refl, sym, ap, ◌∙◌, arith, length-append, inl, inr}
 use Rattle.std.specs.Prelude.{Option}
 use Rattle.std.specs.List.{find}
+use Rattle.std.specs.Option.{option_to_list}
 use Rattle.std.proofs.lemmas.Bool.{cases_Bool, eqb-true, true≢false}
 use Rattle.std.proofs.lemmas.List.{map-append}
 use Rattle.std.proofs.lemmas.List.Elements.{filter-append}
@@ -21,7 +22,7 @@ use Rattle.redir_host.specs.guest.Asking.{asking, asking_of, asking_plain}
 use Rattle.redir_host.specs.guest.Line.{Placed, Waiting, placed, plain_line, asked_line, waiting_in, without_performed, stays_in, flushed_in, all_changes}
 use Rattle.usb_base.specs.Firsts.{without_first}
 use Rattle.redir_host.specs.state.Queues.{is_at}
-use Rattle.redir_host.specs.step.Answered.{Answered, End, ByDevice, ByCancel, ByChange, Became, packets, request_in, requests, ends, unchanged, lines_up, at_once, first_such, is_in_queue_of, is_cancelled, is_placed, by_cancel, by_plain, by_packet, is_flushed, flushed_of, outcome_of, by_outcome, by_perform, becomes, is_gone, line, waiting, answered, dropped, requests_of}
+use Rattle.redir_host.specs.step.Answered.{Answered, End, ByDevice, ByCancel, ByChange, Became, packets, request_in, requests, ends, unchanged, lines_up, at_once, is_in_queue_of, is_cancelled, is_placed, by_cancel, by_plain, by_packet, is_flushed, flushed_of, outcome_of, by_outcome, by_perform, becomes, is_gone, line, waiting, answered, dropped, requests_of}
 use Rattle.redir_host.specs.step.Items.{Item, Asked, Wrong, Performs, Offers, Unplugs}
 use Rattle.redir_host.specs.step.Machine.{run}
 use Rattle.redir_host.proofs.lemmas.guest.Placed.{placed-append, placed-cancelled, placed-left, placed-performed, placed-plain}
@@ -33,13 +34,13 @@ many-append : {A : Type 0} (test : A → Bool) (xs ys : List A) → many test (x
 many-append test xs ys = ap length (filter-append test xs ys) ∙ length-append (filter test xs) (filter test ys)
 
 -- one that is taken, and those that are left, are all
-many-first : {A : Type 0} (test takes : A → Bool) (xs : List A) → many test (first_such takes xs) + many test (without_first takes xs) ≡ many test xs
+many-first : {A : Type 0} (test takes : A → Bool) (xs : List A) → many test (option_to_list (find takes xs)) + many test (without_first takes xs) ≡ many test xs
 many-first test takes [] = refl
 many-first test takes (x ∷ xs) =
     let here = many-append test (x ∷ []) xs in
     let left = many-append test (x ∷ []) (without_first takes xs) in
     let rest = many-first test takes xs in
-    elim (takes x) as (λ (b : Bool). many test (cond b (x ∷ []) (first_such takes xs)) + many test (cond b xs (x ∷ without_first takes xs)) ≡ many test (x ∷ xs)) [
+    elim (takes x) as (λ (b : Bool). many test (option_to_list (cond b (Some x) (find takes xs))) + many test (cond b xs (x ∷ without_first takes xs)) ≡ many test (x ∷ xs)) [
       | true ↦ sym here
       | false ↦ omega (arith, here, left, rest)
     ]
@@ -81,7 +82,7 @@ asked-counts test place id (Asks f t) = omega arith
 
 counts-cancel : (test : Placed → Bool) (id : ℕ) (l : List Waiting) → Counts test (by_cancel id l) l []
 counts-cancel test id l =
-    let taken = ap (many test) (requests-ends ByCancel (first_such (is_cancelled id) (waiting_in l))) in
+    let taken = ap (many test) (requests-ends ByCancel (option_to_list (find (is_cancelled id) (waiting_in l)))) in
     let all = many-first test (is_cancelled id) (waiting_in l) in
     let left = ap (many test) (placed-cancelled id l) in
     omega (arith, taken, all, left)
@@ -112,7 +113,7 @@ counts-outcome test cs ep l None = omega arith
 counts-outcome test cs ep l (Some o) =
     let behind = without_performed ep l in
     let flushed = flushed_of cs behind in
-    let first = first_such (is_in_queue_of ep) (waiting_in l) in
+    let first = option_to_list (find (is_in_queue_of ep) (waiting_in l)) in
     let e : requests_of (map (ends ByChange) flushed ++ map (ends (ByDevice o.0 o.1)) first) ≡ flushed ++ first =
     requests-append (map (ends ByChange) flushed) (map (ends (ByDevice o.0 o.1)) first) ∙ (λ i. requests-ends ByChange flushed i ++ requests-ends (ByDevice o.0 o.1) first i) in
     let told = ap (many test) e in

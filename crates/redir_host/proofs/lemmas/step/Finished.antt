@@ -2,6 +2,7 @@
 use Rattle.std.proofs.Common.{◌≡◌, ℕ, Bool, true, false, cond, not, List, [], ◌∷◌, ◌++◌, filter, map, Some, None, refl, sym, ap, subst, ◌∙◌, append_assoc, append-nil}
 use Rattle.std.specs.Prelude.{Option, option_map}
 use Rattle.std.specs.List.{find, AllZip}
+use Rattle.std.specs.Option.{option_to_list}
 use Rattle.std.proofs.lemmas.List.{map-append}
 use Rattle.std.proofs.lemmas.List.Elements.{filter-append}
 use Rattle.usb_base.specs.Status.{is_success}
@@ -23,7 +24,7 @@ use Rattle.redir_host.specs.guest.Asking.{routed}
 use Rattle.redir_host.specs.guest.Line.{Placed, Waiting, waiting_in, without_performed, stays_in, flushed_in, changes_by, changes_of, request_changes, reset_changes, marked_changes, all_changes}
 use Rattle.usb_base.specs.Firsts.{without_first}
 use Rattle.redir_host.specs.state.Queues.{is_at}
-use Rattle.redir_host.specs.step.Answered.{Answered, ByDevice, ByChange, ends, unchanged, first_such, is_in_queue_of, is_answer, answer_of, is_flushed, flushed_of, came_of, came_behind, came_marked, outcome_of, by_outcome, by_perform}
+use Rattle.redir_host.specs.step.Answered.{Answered, ByDevice, ByChange, ends, unchanged, is_in_queue_of, is_answer, answer_of, is_flushed, flushed_of, came_of, came_behind, came_marked, outcome_of, by_outcome, by_perform}
 use Rattle.redir_host.specs.step.Moves.{Move, behind}
 use Rattle.redir_host.specs.write.Answers.{answer, cancelled}
 use Rattle.redir_host.proofs.lemmas.guest.Lines.{flush-stays, performed-leaves}
@@ -163,7 +164,7 @@ any-finishes {out = out} m h l q answers is =
       | false ↦ does-finishes m h l q (change_of q.form) (m.perform h.gadget q.transfer) answers is
     ]
 
-first-finishes : {S : Type 0} {out : Bool} (h : Host S) (l : List Waiting) (ep : ℕ) (q : Request) (cs : List (Route × EpTable)) (o : Option (ℕ × Outcome)) (v : Option (Move S)) → FirstOf (Some q) (first_such (is_in_queue_of ep) (waiting_in l)) → Tied h out l →
+first-finishes : {S : Type 0} {out : Bool} (h : Host S) (l : List Waiting) (ep : ℕ) (q : Request) (cs : List (Route × EpTable)) (o : Option (ℕ × Outcome)) (v : Option (Move S)) → FirstOf (Some q) (option_to_list (find (is_in_queue_of ep) (waiting_in l))) → Tied h out l →
     Finishes out (without_performed ep l) q cs o v → Gives out (perform_move_by h (with_id q v)) (by_outcome cs ep l o)
 first-finishes h l ep q cs None None first is then = record { tied = is; sent = refl }
 first-finishes h l ep q cs None (Some v) first is then = absurd then
@@ -176,10 +177,10 @@ first-finishes h l ep q cs (Some o) (Some v) first is then =
       sent = then.sent
           ∙ ap (λ (x : ℕ × RedirPacket). told_flushed flushed ++ x ∷ []) (same-answer q first.0 first.1.1 o.0 o.1)
           ∙ ap (λ (ps : List Placed). told_flushed flushed ++ map answer_of (map by ps)) (sym first.1.0)
-          ∙ sym (map-append answer_of (map (ends ByChange) flushed) (map by (first_such (is_in_queue_of ep) (waiting_in l))));
+          ∙ sym (map-append answer_of (map (ends ByChange) flushed) (map by (option_to_list (find (is_in_queue_of ep) (waiting_in l)))));
     }
 
-found-gives : {S : Type 0} {out : Bool} (m : Meaning S) (h : Host S) (l : List Waiting) (ep : ℕ) (o : Option Request) → find (is_at ep) h.queue ≡ o → FirstOf o (first_such (is_in_queue_of ep) (waiting_in l)) → Tied h out l → Gives out (perform_move_by h (first_performed m h ep o)) (by_perform m h.gadget ep l o)
+found-gives : {S : Type 0} {out : Bool} (m : Meaning S) (h : Host S) (l : List Waiting) (ep : ℕ) (o : Option Request) → find (is_at ep) h.queue ≡ o → FirstOf o (option_to_list (find (is_in_queue_of ep) (waiting_in l))) → Tied h out l → Gives out (perform_move_by h (first_performed m h ep o)) (by_perform m h.gadget ep l o)
 found-gives m h l ep None none first is = record { tied = is; sent = refl }
 found-gives {S = S} {out = out} m h l ep (Some q) found first is =
     let g : Host S = record h { queue = without_first (is_at ep) h.queue } in

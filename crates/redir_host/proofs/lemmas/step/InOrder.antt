@@ -2,6 +2,7 @@
 use Rattle.std.proofs.Common.{◌≡◌, ℕ, ◌==◌, Bool, true, false, cond, List, [], ◌∷◌, ◌++◌, filter, map, Some, None, refl, sym, ap, subst, ◌∙◌, append_assoc, append-nil, inl, inr}
 use Rattle.std.specs.Prelude.{Option}
 use Rattle.std.specs.List.{find}
+use Rattle.std.specs.Option.{option_to_list}
 use Rattle.std.proofs.lemmas.Bool.{cases_Bool, eqb-true, true≢false}
 use Rattle.std.proofs.lemmas.List.Elements.{filter-append}
 use Rattle.usb_base.specs.declared.endpoint.EpTable.{EpTable}
@@ -20,7 +21,7 @@ use Rattle.redir_host.specs.guest.Asking.{asking, asking_of, asking_plain}
 use Rattle.redir_host.specs.guest.Line.{Placed, Waiting, Waits, placed, plain_line, asked_line, waiting_in, without_cancelled, without_performed, stays_in, flushed_in, all_changes}
 use Rattle.usb_base.specs.Firsts.{without_first}
 use Rattle.redir_host.specs.state.Queues.{is_at, queue_of}
-use Rattle.redir_host.specs.step.Answered.{IsSublist, Answered, ByDevice, ByCancel, ByChange, Became, packets, request_in, requests, ends, unchanged, lines_up, at_once, first_such, is_in_queue_of, is_cancelled, is_performed, by_cancel, by_plain, by_packet, flushed_of, outcome_of, by_outcome, by_perform, becomes, is_gone, line, waiting, answered, requests_of, performed_of}
+use Rattle.redir_host.specs.step.Answered.{IsSublist, Answered, ByDevice, ByCancel, ByChange, Became, packets, request_in, requests, ends, unchanged, lines_up, at_once, is_in_queue_of, is_cancelled, is_performed, by_cancel, by_plain, by_packet, flushed_of, outcome_of, by_outcome, by_perform, becomes, is_gone, line, waiting, answered, requests_of, performed_of}
 use Rattle.redir_host.specs.step.Items.{Item, Asked, Wrong, Performs, Offers, Unplugs}
 use Rattle.redir_host.specs.step.Machine.{run}
 use Rattle.redir_host.proofs.lemmas.guest.Placed.{is_left, placed-append, placed-cancelled, placed-left, placed-performed, placed-plain}
@@ -91,19 +92,19 @@ sub-first takes (x ∷ xs) =
 -- ---- the first of a queue, before those behind it
 
 -- no other queue's first is of this one
-none-first : (e ep : ℕ) (ws : List Placed) → ((queue_of ep == queue_of e) ≡ false) → filter (is_in_queue_of e) (first_such (is_in_queue_of ep) ws) ≡ []
+none-first : (e ep : ℕ) (ws : List Placed) → ((queue_of ep == queue_of e) ≡ false) → filter (is_in_queue_of e) (option_to_list (find (is_in_queue_of ep) ws)) ≡ []
 none-first e ep [] other = refl
 none-first e ep (w ∷ ws) other = by (none-first e ep ws other) (is_in_queue_of ep w) refl
   where
-    by : filter (is_in_queue_of e) (first_such (is_in_queue_of ep) ws) ≡ [] → (b : Bool) → is_in_queue_of ep w ≡ b → filter (is_in_queue_of e) (cond b (w ∷ []) (first_such (is_in_queue_of ep) ws)) ≡ []
+    by : filter (is_in_queue_of e) (option_to_list (find (is_in_queue_of ep) ws)) ≡ [] → (b : Bool) → is_in_queue_of ep w ≡ b → filter (is_in_queue_of e) (option_to_list (cond b (Some w) (find (is_in_queue_of ep) ws))) ≡ []
     by rest true is =
         let same = eqb-true (queue_of w.ep) (queue_of ep) is in
         ap (λ (b : Bool). cond b (w ∷ []) []) ((λ i. same i == queue_of e) ∙ other)
     by rest false is = rest
 
 -- where it is not of the performed queue itself
-one-behind : (e ep : ℕ) (w : Placed) (ws : List Placed) → is_in_queue_of ep w ≡ false → IsSublist (filter (is_in_queue_of e) (first_such (is_in_queue_of ep) ws) ++ filter (is_in_queue_of e) (without_first (is_in_queue_of ep) ws)) (filter (is_in_queue_of e) ws) →
-    (b : Bool) → is_in_queue_of e w ≡ b → IsSublist (filter (is_in_queue_of e) (first_such (is_in_queue_of ep) ws) ++ cond b (w ∷ filter (is_in_queue_of e) (without_first (is_in_queue_of ep) ws)) (filter (is_in_queue_of e) (without_first (is_in_queue_of ep) ws))) (cond b (w ∷ filter (is_in_queue_of e) ws) (filter (is_in_queue_of e) ws))
+one-behind : (e ep : ℕ) (w : Placed) (ws : List Placed) → is_in_queue_of ep w ≡ false → IsSublist (filter (is_in_queue_of e) (option_to_list (find (is_in_queue_of ep) ws)) ++ filter (is_in_queue_of e) (without_first (is_in_queue_of ep) ws)) (filter (is_in_queue_of e) ws) →
+    (b : Bool) → is_in_queue_of e w ≡ b → IsSublist (filter (is_in_queue_of e) (option_to_list (find (is_in_queue_of ep) ws)) ++ cond b (w ∷ filter (is_in_queue_of e) (without_first (is_in_queue_of ep) ws)) (filter (is_in_queue_of e) (without_first (is_in_queue_of ep) ws))) (cond b (w ∷ filter (is_in_queue_of e) ws) (filter (is_in_queue_of e) ws))
 one-behind e ep w ws not_first rest false is = rest
 one-behind e ep w ws not_first rest true is =
     let same = eqb-true (queue_of w.ep) (queue_of e) is in
@@ -119,12 +120,12 @@ one-behind e ep w ws not_first rest true is =
     subst (λ (ps : List Placed). IsSublist (ps ++ w ∷ left) (w ∷ all)) (sym none)
     (inl (refl, subst (λ (ps : List Placed). IsSublist (ps ++ left) all) none rest))
 
-first-before : (e ep : ℕ) (ws : List Placed) → IsSublist (filter (is_in_queue_of e) (first_such (is_in_queue_of ep) ws) ++ filter (is_in_queue_of e) (without_first (is_in_queue_of ep) ws)) (filter (is_in_queue_of e) ws)
+first-before : (e ep : ℕ) (ws : List Placed) → IsSublist (filter (is_in_queue_of e) (option_to_list (find (is_in_queue_of ep) ws)) ++ filter (is_in_queue_of e) (without_first (is_in_queue_of ep) ws)) (filter (is_in_queue_of e) ws)
 first-before e ep [] = tt
 first-before e ep (w ∷ ws) = by (first-before e ep ws) (is_in_queue_of ep w) refl
   where
-    by : IsSublist (filter (is_in_queue_of e) (first_such (is_in_queue_of ep) ws) ++ filter (is_in_queue_of e) (without_first (is_in_queue_of ep) ws)) (filter (is_in_queue_of e) ws) → (b : Bool) → is_in_queue_of ep w ≡ b →
-        IsSublist (filter (is_in_queue_of e) (cond b (w ∷ []) (first_such (is_in_queue_of ep) ws)) ++ filter (is_in_queue_of e) (cond b ws (w ∷ without_first (is_in_queue_of ep) ws))) (filter (is_in_queue_of e) (w ∷ ws))
+    by : IsSublist (filter (is_in_queue_of e) (option_to_list (find (is_in_queue_of ep) ws)) ++ filter (is_in_queue_of e) (without_first (is_in_queue_of ep) ws)) (filter (is_in_queue_of e) ws) → (b : Bool) → is_in_queue_of ep w ≡ b →
+        IsSublist (filter (is_in_queue_of e) (option_to_list (cond b (Some w) (find (is_in_queue_of ep) ws))) ++ filter (is_in_queue_of e) (cond b ws (w ∷ without_first (is_in_queue_of ep) ws))) (filter (is_in_queue_of e) (w ∷ ws))
     by rest true is =
         let all = filter (is_in_queue_of e) ws in
         elim (is_in_queue_of e w) as (λ (c : Bool). IsSublist (cond c (w ∷ []) [] ++ all) (cond c (w ∷ all) all)) [ true ↦ sub-all (w ∷ all) | false ↦ sub-all all ]
@@ -174,7 +175,7 @@ keeps-cancel e id l =
     let left = filter (is_in_queue_of e) (waiting_in (without_cancelled id l)) in
     let all = filter (is_in_queue_of e) (waiting_in l) in
     let fewer = subst (λ (ps : List Placed). IsSublist (filter (is_in_queue_of e) ps) all) (sym (placed-cancelled id l)) (sub-tested (is_in_queue_of e) _ _ (sub-first (is_cancelled id) (waiting_in l))) in
-    subst (λ (ps : List Placed). IsSublist (filter (is_in_queue_of e) ps ++ left) (all ++ [])) (sym (by-cancel-none (first_such (is_cancelled id) (waiting_in l))))
+    subst (λ (ps : List Placed). IsSublist (filter (is_in_queue_of e) ps ++ left) (all ++ [])) (sym (by-cancel-none (option_to_list (find (is_cancelled id) (waiting_in l)))))
     (sub-more left all [] fewer)
 
 keeps-plain : (e place id : ℕ) (p : RedirControl) (l : List Waiting) → Keeps e (by_plain place id p l) l (request_in place id (asking_plain p))
@@ -196,7 +197,7 @@ sub-left e (c ∷ cs) l =
 keeps-outcome : (e : ℕ) (cs : List (Route × EpTable)) (ep : ℕ) (l : List Waiting) (o : Option (ℕ × Outcome)) → Keeps e (by_outcome cs ep l o) l []
 keeps-outcome e cs ep l None = keeps-same e l []
 keeps-outcome e cs ep l (Some o) =
-    let first = first_such (is_in_queue_of ep) (waiting_in l) in
+    let first = option_to_list (find (is_in_queue_of ep) (waiting_in l)) in
     let behind = without_performed ep l in
     let all = filter (is_in_queue_of e) (waiting_in l) in
     let here = filter (is_in_queue_of e) first in

@@ -2,6 +2,7 @@
 use Rattle.std.proofs.Common.{◌≡◌, ℕ, ◌==◌, Bool, true, false, cond, ◌&&◌, List, [], ◌∷◌, ◌++◌, filter, map, Some, None, refl, ap, subst, ◌∙◌}
 use Rattle.std.specs.Prelude.{Option}
 use Rattle.std.specs.List.{find, AllZip, AllByRecursion as Each}
+use Rattle.std.specs.Option.{option_to_list}
 use Rattle.usb_base.specs.Endpoint.{is_in_endpoint}
 use Rattle.usb_base.specs.declared.endpoint.EpTable.{EpTable}
 use Rattle.usb_base.specs.declared.status.UsbStatus.TheVariants as status
@@ -16,7 +17,7 @@ use Rattle.redir_host.specs.device.Changes.{is_touched, touched}
 use Rattle.redir_host.specs.guest.Line.{Placed, Waiting, queue_in, reset_in, waiting_in}
 use Rattle.usb_base.specs.Firsts.{without_first}
 use Rattle.redir_host.specs.state.Queues.{after_cancel, is_at, is_cancelled_by, is_data, is_first_queue, queue_of, with_first_marked}
-use Rattle.redir_host.specs.step.Answered.{ByChange, Became, ends, first_such, is_in_queue_of, is_answer, is_cancelled, answer_of, is_flushed, told_request, told_placed}
+use Rattle.redir_host.specs.step.Answered.{ByChange, Became, ends, is_in_queue_of, is_answer, is_cancelled, answer_of, is_flushed, told_request, told_placed}
 use Rattle.redir_host.specs.step.Moves.{Move}
 use Rattle.chapter9.specs.Standard.{ended}
 use Rattle.redir_host.specs.write.Answers.{answer, answer_by, cancelled}
@@ -105,11 +106,11 @@ abbrev pub FirstOf : Option Request → List Placed → Type 0
 FirstOf None ps = ps ≡ []
 FirstOf (Some q) ps = (p : Placed) × ((ps ≡ p ∷ []) × Same q p)
 
-pub zip-first : (test : Request → Bool) (of : Placed → Bool) → Agree test of → (qs : List Request) (ws : List Placed) → AllZip Same qs ws → FirstOf (find test qs) (first_such of ws)
+pub zip-first : (test : Request → Bool) (of : Placed → Bool) → Agree test of → (qs : List Request) (ws : List Placed) → AllZip Same qs ws → FirstOf (find test qs) (option_to_list (find of ws))
 zip-first test of agree =
-    zip-all (λ qs ws. FirstOf (find test qs) (first_such of ws)) refl
-    (λ q qs p ws same zip rest. subst (λ (c : Bool). FirstOf (find test (q ∷ qs)) (cond c (p ∷ []) (first_such of ws))) (agree q p same)
-    (elim (test q) as (λ (b : Bool). FirstOf (cond b (Some q) (find test qs)) (cond b (p ∷ []) (first_such of ws))) [ true ↦ (p, (refl, same)) | false ↦ rest ]))
+    zip-all (λ qs ws. FirstOf (find test qs) (option_to_list (find of ws))) refl
+    (λ q qs p ws same zip rest. subst (λ (c : Bool). FirstOf (find test (q ∷ qs)) (option_to_list (cond c (Some p) (find of ws)))) (agree q p same)
+    (elim (test q) as (λ (b : Bool). FirstOf (cond b (Some q) (find test qs)) (option_to_list (cond b (Some p) (find of ws)))) [ true ↦ (p, (refl, same)) | false ↦ rest ]))
 
 pub zip-without : (test : Request → Bool) (of : Placed → Bool) → Agree test of → (qs : List Request) (ws : List Placed) → AllZip Same qs ws → AllZip Same (without_first test qs) (without_first of ws)
 zip-without test of agree =

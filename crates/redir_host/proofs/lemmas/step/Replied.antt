@@ -2,6 +2,7 @@
 use Rattle.std.proofs.Common.{◌≡◌, ℕ, ◌==◌, Bool, true, false, cond, not, ◌&&◌, ◌||◌, List, [], ◌∷◌, ◌++◌, filter, map, Some, None, refl, sym, ap, subst, ◌∙◌, append-nil}
 use Rattle.std.specs.Prelude.{Option, nat_lt, nat_le}
 use Rattle.std.specs.List.{find, AllZip}
+use Rattle.std.specs.Option.{option_to_list}
 use Rattle.std.proofs.lemmas.Bool.{eqb-true}
 use Rattle.std.proofs.lemmas.List.{map-append}
 use Rattle.std.proofs.lemmas.List.Elements.{filter-append}
@@ -35,7 +36,7 @@ use Rattle.redir_host.specs.guest.Asking.{asking, asking_of, asking_plain, asked
 use Rattle.redir_host.specs.guest.Line.{Placed, Waiting, Reset, Waits, placed, asked_line, waiting_in, without_cancelled}
 use Rattle.redir_host.specs.guest.Packets.{can_start, cancel_move, data_move, packet_move_by, queued, runs_at, start_move, stop_move, stopped}
 use Rattle.redir_host.specs.state.Queues.{after_cancel, is_at, is_cancelled_by, is_first_queue, leaves_mark}
-use Rattle.redir_host.specs.step.Answered.{ByCancel, packets, request_in, ends, unchanged, lines_up, at_once, first_such, is_answer, is_cancelled, answer_of, answers_sent, by_cancel, by_plain, by_packet, by_perform, becomes, is_gone, line, waiting, answered, told_request, told_placed}
+use Rattle.redir_host.specs.step.Answered.{ByCancel, packets, request_in, ends, unchanged, lines_up, at_once, is_answer, is_cancelled, answer_of, answers_sent, by_cancel, by_plain, by_packet, by_perform, becomes, is_gone, line, waiting, answered, told_request, told_placed}
 use Rattle.redir_host.specs.step.Items.{Item, Asked, Wrong, Performs, Offers, Unplugs}
 use Rattle.redir_host.specs.step.Machine.{move, run, all_given}
 use Rattle.redir_host.specs.step.Moves.{quiet}
@@ -113,13 +114,13 @@ cancel-line h l id (Some q) some is = record {
   reset = (λ k. leaves_mark id (is.queue k) || is.reset k) ∙ sym (reset-cancelled id false l);
 }
 
-cancel-gives : {S : Type 0} {out : Bool} (h : Host S) (l : List Waiting) (id : ℕ) (o : Option Request) → find (is_cancelled_by id) h.queue ≡ o → FirstOf o (first_such (is_cancelled id) (waiting_in l)) → Tied h out l → Gives out (cancel_move h id o) (by_cancel id l)
+cancel-gives : {S : Type 0} {out : Bool} (h : Host S) (l : List Waiting) (id : ℕ) (o : Option Request) → find (is_cancelled_by id) h.queue ≡ o → FirstOf o (option_to_list (find (is_cancelled id) (waiting_in l))) → Tied h out l → Gives out (cancel_move h id o) (by_cancel id l)
 cancel-gives {out = out} h l id o e first is = by o e first
   where
     left : AllZip Same (after_cancel id h.queue) (waiting_in (without_cancelled id l))
     left = subst (λ (ps : List Placed). AllZip Same (after_cancel id h.queue) ps) (sym (placed-cancelled id l)) (zip-cancelled id h.queue (waiting_in l) is.queue)
 
-    by : (o : Option Request) → find (is_cancelled_by id) h.queue ≡ o → FirstOf o (first_such (is_cancelled id) (waiting_in l)) → Gives out (cancel_move h id o) (by_cancel id l)
+    by : (o : Option Request) → find (is_cancelled_by id) h.queue ≡ o → FirstOf o (option_to_list (find (is_cancelled id) (waiting_in l))) → Gives out (cancel_move h id o) (by_cancel id l)
     by None none first = record {
       tied = record { queue = subst (λ (qs : List Request). AllZip Same qs (waiting_in (without_cancelled id l))) (nothing-cancelled id h.queue none).0 left; running = is.running; gone = is.gone; in_line = cancel-line h l id None none is.in_line };
       sent = sym (ap (λ (ps : List Placed). map answer_of (map (ends ByCancel) ps)) first);
