@@ -1,6 +1,6 @@
 //! The keys of a queue.
 
-ghost use Rattle.std.specs.Prelude.{◌≡◌, ◌++◌, ◌∷◌, [], filter, is_some, not, ◌==◌, nat_le, IsSome, IfSome, OnOk, OnErr};
+ghost use Rattle.std.specs.Prelude.{◌≡◌, ◌++◌, ◌∷◌, [], filter, is_some, not, ◌==◌, nat_le, IfSome, OnOk, OnErr};
 ghost use Rattle.std.specs.List.{find, slice_get};
 ghost use Rattle.slab.specs.Slab.{get};
 

@@ -1,6 +1,6 @@
 //! The streams that run.
 
-ghost use Rattle.std.specs.Prelude.{◌≡◌, [], ◌∷◌, ◌++◌, filter, OnOk, OnErr};
+ghost use Rattle.std.specs.Prelude.{◌≡◌, [], filter, OnOk, OnErr};
 ghost use Rattle.std.specs.List.{find};
 ghost use Rattle.redir_host.specs.guest.Packets.{runs_at, started, stopped};
 ghost use Rattle.redir_host.specs.device.Changes.{runs_on};
