@@ -1,7 +1,6 @@
 -- The client's moves: their packets are those that its bytes can spell. And what the present client is sent, by moves.
 use Rattle.std.proofs.Common.{◌≡◌, ℕ, List, [], ◌∷◌, ◌++◌, length, map, drop, Option, None, Some, refl, sym, ap, ◌∙◌, append-nil, append_assoc, lit<}
 use Rattle.std.specs.List.{flat_map}
-use Rattle.std.specs.Prelude.{zero, suc}
 use Rattle.usb_base.specs.Number.{AreBytes}
 use Rattle.usb_base.specs.declared.reason.Reason.{Reason}
 use Rattle.usb_base.proofs.Numbers.{AreBytes-left, AreBytes-right, AreBytes-append}
@@ -21,6 +20,7 @@ use Rattle.gate_history.specs.step.Streams.{client_start}
 use Rattle.direct_run.specs.Moves.{Move, ByClient, move, run}
 use Rattle.direct_run.specs.Clients.{IsMove, then_sent, present_outs}
 use Rattle.gate_history.specs.write.Readable.{piece_bytes}
+use Rattle.direct_run.proofs.Comes.{each-drop}
 use Rattle.direct_run.proofs.Several.{made_by, moves_onto}
 
 -- ---- what a piece of a client brings
@@ -43,11 +43,6 @@ items-fit : (ps : List (ℕ × ClientPacket)) (wrong : Option (ℕ × Reason)) �
 items-fit [] None h = tt
 items-fit [] (Some w) h = (tt, tt)
 items-fit (p ∷ ps) wrong h = (h.0, items-fit ps wrong h.1)
-
-each-drop : {A : Type 0} (P : A → Type 0) (n : ℕ) (xs : List A) → Each P xs → Each P (drop n xs)
-each-drop P zero xs h = h
-each-drop P (suc n) [] h = tt
-each-drop P (suc n) (x ∷ xs) h = each-drop P n xs h.1
 
 client-bytes : (events : List Event) → AreBytes (flat_map piece_bytes events) → AreBytes (client_bytes events)
 client-bytes [] h = h

@@ -1,6 +1,7 @@
 -- The packets that a piece makes whole, on either wire: the hello is the first of all, and those behind it have the headers that
 -- are spelled with the capabilities of both. So far have the sides met.
-use Rattle.std.proofs.Common.{◌≡◌, ℕ, List, [], ◌∷◌, ◌++◌, map, sym, ap, ◌∙◌, subst}
+use Rattle.std.proofs.Common.{◌≡◌, ℕ, List, [], ◌∷◌, ◌++◌, drop, map, sym, ap, ◌∙◌, subst}
+use Rattle.std.specs.Prelude.{zero, suc}
 use Rattle.packet_stream.specs.Split.{Position, past}
 use Rattle.redir_wire.specs.declared.packet.Header.{Header}
 use Rattle.redir_wire.specs.declared.packet.Way.{Way}
@@ -51,6 +52,11 @@ each-front P (x ∷ xs) ys h = (h.0, each-front P xs ys h.1)
 each-back : {A : Type 0} (P : A → Type 0) (xs ys : List A) → Each P (xs ++ ys) → Each P ys
 each-back P [] ys h = h
 each-back P (x ∷ xs) ys h = each-back P xs ys h.1
+
+pub each-drop : {A : Type 0} (P : A → Type 0) (n : ℕ) (xs : List A) → Each P xs → Each P (drop n xs)
+each-drop P zero xs h = h
+each-drop P (suc n) [] h = tt
+each-drop P (suc n) (x ∷ xs) h = each-drop P n xs h.1
 
 behind-each : (way : Way) (a : Position RedirState) (ps : List (ℕ × RedirPacket)) → Each (CanBeRead way both_caps) ps → Each (IsBehind way) (placed (stream_format way) after a (map (headed both_caps) ps))
 behind-each way a [] h = tt

@@ -1,6 +1,5 @@
 -- What one step more makes of what flows on the wires.
 use Rattle.std.proofs.Common.{◌≡◌, ℕ, List, [], ◌∷◌, ◌++◌, length, take, drop, map, Option, Some, None, refl, sym, ap, ◌∙◌, subst, append-nil, append_assoc}
-use Rattle.std.specs.Prelude.{zero, suc}
 use Rattle.std.proofs.lemmas.List.{map-append}
 use Rattle.usb_base.specs.Number.{AreBytes}
 use Rattle.usb_base.specs.declared.reason.Reason.{Reason}
@@ -37,7 +36,7 @@ use Rattle.packet_stream.proofs.Spelled.{placed, reads-all, placed-are}
 use Rattle.direct_run.proofs.Headed.{bare-headed, bare-all, sound, empty, on_wire}
 use Rattle.direct_run.proofs.Meeting.{IsClients, unmet-first}
 use Rattle.direct_run.proofs.Heard.{IsOwn, silent-first, silent-own, heard-own}
-use Rattle.direct_run.proofs.Comes.{told_item, Comes, comes, Meets, meets-told, meets-client, Listens, listens-asked}
+use Rattle.direct_run.proofs.Comes.{told_item, Comes, comes, each-drop, Meets, meets-told, meets-client, Listens, listens-asked}
 use Rattle.direct_run.proofs.Flows.{Flows, fed-by, cut-fed, cut-asked, cut-told, guest-added}
 
 -- ---- packets without headers and places
@@ -96,11 +95,6 @@ flows-act m s c a rest f fed listens right = record {
 }
 
 -- ---- the client's
-
-each-drop : {A : Type 0} (P : A → Type 0) (n : ℕ) (xs : List A) → Each P xs → Each P (drop n xs)
-each-drop P zero xs h = h
-each-drop P (suc n) [] h = tt
-each-drop P (suc n) (x ∷ xs) h = each-drop P n xs h.1
 
 of-client : (ps : List (ℕ × ClientPacket)) (wrong : Option (ℕ × Reason)) → Each IsClients (map (λ (p : ℕ × ClientPacket). Asked p.0 p.1) ps ++ wrong_items ClientWrong wrong)
 of-client [] None = tt

@@ -2,6 +2,7 @@
 use Rattle.std.proofs.Common.{◌≡◌, ◌&&◌, not, Bool, true, false, List, [], ◌∷◌, ◌++◌, map, filter, Option, Some, None, refl, sym, ap, ◌∙◌, append-nil}
 use Rattle.std.specs.List.{flat_map}
 use Rattle.std.proofs.lemmas.Grind.{flat_map-append}
+use Rattle.std.proofs.lemmas.List.{map-append}
 use Rattle.usb_base.specs.declared.refusal.Refusal.{Refusal}
 use Rattle.gate_history.specs.declared.note.Note.{Note}
 use Rattle.gate_history.specs.declared.note.Note.TheVariants as note
@@ -17,7 +18,6 @@ use Rattle.direct_run.specs.Noted.{item_of}
 use Rattle.direct_device.specs.Acting.{Deed, Answer, Gone, ClientGone}
 use Rattle.direct_device.specs.Legal.{item_of as deed_item}
 use Rattle.direct_proof.specs.Moves.{import_deeds, submit_deeds, unlink_deeds, arrive_deeds, answer_deeds, deeds_of, when as when_deed}
-use Rattle.direct_proof.proofs.shared.Traces.{map-append}
 
 flat-ones : {X : Type 0} (f : X → Note) (g : X → Item) → ((x : X) → item_of (f x) ≡ g x ∷ []) → (xs : List X) → flat_map item_of (map f xs) ≡ map g xs
 flat-ones f g h [] = refl

@@ -2,6 +2,7 @@
 use Rattle.std.proofs.Common.{◌≡◌, ℕ, Bool, true, false, cond, List, [], ◌∷◌, ◌++◌, map, refl, sym, ◌∙◌, subst}
 use Rattle.std.specs.List.{flat_map}
 use Rattle.std.proofs.lemmas.Grind.{flat_map-append}
+use Rattle.std.proofs.lemmas.List.{map-append}
 use Rattle.redir_data.specs.declared.packet.RedirPacket.{RedirPacket}
 use Rattle.redir_data.specs.Sent.{sent_header}
 use Rattle.model_device.specs.Meaning.{Meaning}
@@ -20,7 +21,6 @@ use Rattle.direct_proof.specs.Moves.{Made, move, quiet, then_made, gate_made, ga
 use Rattle.direct_proof.specs.Runs.{runs_from}
 use Rattle.direct_proof.proofs.deeds.Carried.{request, host-items, perform-items, offer-items, mark-requests, host-requests, perform-requests, offer-requests}
 use Rattle.direct_proof.proofs.deeds.Noted.{told-deeds}
-use Rattle.direct_proof.proofs.shared.Traces.{map-append}
 
 pub record Tells {S : Type 0} (made : Made S) (told_as : told.Made S) : Type 0 where
   pub world : made.world ≡ told_as.world

@@ -3,6 +3,7 @@ use Rattle.std.proofs.Common.{◌≡◌, ℕ, ◌||◌, Bool, true, false, cond,
 use Rattle.std.specs.List.{AllByRecursion as Each}
 use Rattle.std.proofs.lemmas.Bool.{both_ways}
 use Rattle.std.proofs.lemmas.List.Folds.{list_any-append}
+use Rattle.std.proofs.lemmas.List.{map-append}
 use Rattle.usb_base.specs.declared.transfer.Transfer.{Transfer}
 use Rattle.redir_data.specs.declared.packet.RedirPacket.{RedirPacket}
 use Rattle.redir_data.specs.Streams.{advanced}
@@ -31,7 +32,6 @@ use Rattle.direct_proof.specs.StreamIds.{Fenced, Controls}
 use Rattle.direct_proof.proofs.shared.Folds.{Next, next-line}
 use Rattle.direct_proof.proofs.shared.Streaming.{IsQuiet, controls-heard, fenced-heard}
 use Rattle.direct_proof.proofs.heard.Hears.{not-greeting, form_changes, change-form, joined}
-use Rattle.direct_proof.proofs.shared.Traces.{map-append}
 use Rattle.direct_proof.proofs.shared.Keeps.{Keeps, keeps-quiet}
 
 -- only its hello is read before the hello

@@ -21,7 +21,6 @@ use Rattle.direct_proof.proofs.shared.Asked.{cancels-asking, cancels-line, cance
 use Rattle.direct_proof.proofs.shared.Folds.{lines-append}
 use Rattle.direct_proof.proofs.shared.Fits.{fits-map, fits-nil}
 use Rattle.direct_proof.proofs.shared.Streaming.{IsQuiet, streams-quiet-in, starts-append, starts-more, controls-more, quits-more, trails-more}
-use Rattle.direct_proof.proofs.shared.Traces.{map-append}
 use Rattle.direct_proof.proofs.streams.changes.ChangeFree.{stops-asking}
 use Rattle.direct_proof.proofs.streams.changes.ChangeTail.{starts-none}
 use Rattle.direct_proof.proofs.streams.changes.Stops.{StopsOne, stops-in, stops-lines}
@@ -31,6 +30,7 @@ use Rattle.direct_proof.proofs.leaving.LeftLists.{asked_all, asked-fits, no-star
 use Rattle.redir_host.specs.declared.state.request.Request.{Request as HostRequest}
 use Rattle.std.specs.List.{last_or, AllByRecursion as Each}
 use Rattle.std.proofs.lemmas.Bool.{both_ways, or_right}
+use Rattle.std.proofs.lemmas.List.{map-append}
 use Rattle.gate_history.specs.state.StreamIds.{stream_ids_after}
 use Rattle.gate_history.specs.step.Marks.{Submission}
 use Rattle.gate_history.specs.state.Ids.{holds}

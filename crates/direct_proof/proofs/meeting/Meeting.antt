@@ -3,6 +3,7 @@ use Rattle.std.proofs.Common.{◌≡◌, ℕ, ◌||◌, Bool, true, false, cond,
 use Rattle.std.specs.List.{list_any, AllByRecursion as Each}
 use Rattle.std.proofs.lemmas.Bool.{both_ways, or_right}
 use Rattle.std.proofs.lemmas.List.Folds.{list_any-append}
+use Rattle.std.proofs.lemmas.List.{map-append}
 use Rattle.redir_data.specs.declared.packet.RedirPacket.{RedirPacket}
 use Rattle.model_device.specs.Meaning.{Meaning}
 use Rattle.redir_host.specs.declared.state.host.Host.{Host}
@@ -29,7 +30,6 @@ use Rattle.direct_proof.specs.Stale.{Clean}
 use Rattle.direct_proof.specs.Cancels.{any_change}
 use Rattle.direct_proof.specs.StreamIds.{Controls, Fenced, StatusIsKept, statuses_on}
 use Rattle.direct_proof.proofs.shared.WireBack.{runs_in-append, packets_in-append}
-use Rattle.direct_proof.proofs.shared.Traces.{map-append}
 use Rattle.direct_proof.proofs.shared.Streaming.{controls-heard, fenced-heard, controls-sent, fenced-sent}
 use Rattle.direct_proof.proofs.shared.Backs.{told-append}
 use Rattle.direct_proof.proofs.shared.Sending.{no-bye, none-more}

@@ -2,6 +2,7 @@
 use Rattle.std.proofs.Common.{◌≡◌, ℕ, ◌||◌, Bool, true, false, cond, List, [], ◌∷◌, ◌++◌, map, Option, Some, None, is_some, refl, sym, ap, ◌∙◌, subst, append-nil, inl, inr, ◌⊎◌, true≢false}
 use Rattle.std.specs.List.{list_any, AllByRecursion as Each}
 use Rattle.std.proofs.lemmas.Bool.{both_ways, or_left, or_parts}
+use Rattle.std.proofs.lemmas.List.{map-append}
 use Rattle.redir_wire.specs.declared.packet.RedirControl.TheVariants as plain
 use Rattle.redir_data.specs.declared.packet.RedirPacket.{RedirPacket}
 use Rattle.redir_data.specs.declared.packet.RedirPacket.TheVariants.{Plain}
@@ -26,7 +27,6 @@ use Rattle.direct_proof.specs.Meets.{ByeLast, is_plug, is_greeting, is_bye}
 use Rattle.direct_proof.specs.Session.{down_in, runs}
 use Rattle.direct_proof.specs.Cancels.{any_change}
 use Rattle.direct_proof.proofs.shared.WireBack.{runs_in-append, packets_in-append}
-use Rattle.direct_proof.proofs.shared.Traces.{map-append}
 use Rattle.direct_proof.proofs.shared.Streaming.{controls-sent, fenced-sent}
 use Rattle.direct_proof.proofs.shared.Backs.{told-append, clean-append}
 use Rattle.direct_proof.proofs.performs.Flushes.{quits-low}

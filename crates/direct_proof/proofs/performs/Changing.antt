@@ -4,6 +4,7 @@ use Rattle.std.specs.Prelude.{IfSome}
 use Rattle.std.specs.List.{find, list_any, AllByRecursion as Each}
 use Rattle.std.proofs.lemmas.Bool.{or_left, or_right}
 use Rattle.std.proofs.lemmas.List.Folds.{list_any-append}
+use Rattle.std.proofs.lemmas.List.{map-append}
 use Rattle.usb_base.specs.Status.{is_success}
 use Rattle.usb_base.specs.declared.transfer.Outcome.{Outcome}
 use Rattle.usb_base.specs.declared.endpoint.EpTable.{EpTable}
@@ -60,7 +61,6 @@ use Rattle.redir_host.specs.device.Changes.{is_touched}
 use Rattle.chapter9.specs.Standard.{ended}
 use Rattle.gate_history.proofs.lemmas.Lists.{filter-map, Each-append, Each-filter}
 use Rattle.direct_proof.proofs.shared.WireBack.{packets_in-append, runs_in-append}
-use Rattle.direct_proof.proofs.shared.Traces.{map-append}
 use Rattle.direct_proof.proofs.heard.Taken.{wire-seen}
 use Rattle.direct_proof.proofs.shared.Keeps.{Keeps, keeps-deed, not-lost, not-gone}
 

@@ -1,6 +1,7 @@
 -- What the host owes, and which of the gateway's submits an answer is for.
 use Rattle.std.proofs.Common.{◌≡◌, ℕ, suc, ◌+◌, ◌≤◌, ◌==◌, ◌&&◌, not, Bool, true, false, cond, List, [], ◌∷◌, ◌++◌, map, filter, length, Some, refl, sym, ap, ◌∙◌, arith}
 use Rattle.std.specs.List.{find}
+use Rattle.std.proofs.lemmas.List.{map-append}
 use Rattle.usb_base.specs.declared.transfer.Transfer.{Transfer}
 use Rattle.gate_history.specs.declared.verdict.Verdict.{Verdict}
 use Rattle.gate_history.specs.declared.verdict.Verdict.TheVariants.{Wire, Routed}
@@ -20,7 +21,6 @@ use Rattle.direct_proof.proofs.lists.Counts.{same_test, itself}
 use Rattle.direct_proof.proofs.shared.Owed.{IsOwed, owed}
 use Rattle.direct_proof.proofs.answers.Answering.{one, pending_has, AreOne}
 use Rattle.direct_proof.proofs.shared.Found.{one-mapped, find-only}
-use Rattle.direct_proof.proofs.shared.Traces.{map-append}
 use Rattle.direct_proof.proofs.shared.Asked.{debt_from}
 
 -- ---- what is known of one that goes by an id

@@ -4,6 +4,7 @@ use Rattle.std.specs.List.{list_any, AllByRecursion as Each}
 use Rattle.std.proofs.lemmas.Bool.{both_ways, or_parts}
 use Rattle.std.proofs.Math.Bool.{or-false}
 use Rattle.std.proofs.lemmas.List.Folds.{list_any-append}
+use Rattle.std.proofs.lemmas.List.{map-append}
 use Rattle.usb_base.specs.Status.{status_byte}
 use Rattle.redir_data.specs.declared.packet.RedirPacket.{RedirPacket}
 use Rattle.model_device.specs.Meaning.{Meaning}
@@ -31,7 +32,6 @@ use Rattle.direct_proof.specs.Meets.{is_bye, is_greeting, is_plug, PlugOnce, Bye
 use Rattle.gate_history.specs.state.StreamIds.{StreamIds}
 use Rattle.direct_proof.specs.StreamIds.{status_id, statuses_on, StatusIsKept}
 use Rattle.direct_proof.proofs.shared.WireBack.{runs_in-append}
-use Rattle.direct_proof.proofs.shared.Traces.{map-append}
 use Rattle.direct_proof.proofs.shared.Fits.{fits-each}
 use Rattle.direct_proof.proofs.shared.Streaming.{controls-sent, fenced-sent}
 

@@ -1,5 +1,5 @@
 -- Traces one behind the other: what they do, whether they are allowed, and what they answer.
-use Rattle.std.proofs.Common.{◌≡◌, List, [], ◌∷◌, ◌++◌, map, refl, sym, ap, ◌∙◌, append_assoc}
+use Rattle.std.proofs.Common.{◌≡◌, List, [], ◌∷◌, ◌++◌, refl, sym, ap, ◌∙◌, append_assoc}
 use Rattle.usbip_urb.specs.declared.packet.UrbPacket.{UrbPacket}
 use Rattle.model_device.specs.Meaning.{Meaning}
 use Rattle.direct_device.specs.Direct.{Direct}
@@ -17,7 +17,3 @@ allowed-append m (x ∷ xs) ys d h k = (h.0, allowed-append m xs ys (act m d x) 
 pub answers-append : {S : Type 0} (m : Meaning S) (xs ys : List Deed) (d : Direct S) → all_answers m d (xs ++ ys) ≡ all_answers m d xs ++ all_answers m (acts m d xs) ys
 answers-append m [] ys d = refl
 answers-append m (x ∷ xs) ys d = ap (λ (l : List UrbPacket). answers m d x ++ l) (answers-append m xs ys (act m d x)) ∙ sym (append_assoc (answers m d x) (all_answers m (act m d x) xs) (all_answers m (acts m (act m d x) xs) ys))
-
-pub map-append : {X Y : Type 0} (f : X → Y) (xs ys : List X) → map f (xs ++ ys) ≡ map f xs ++ map f ys
-map-append f [] ys = refl
-map-append {Y = Y} f (x ∷ xs) ys = ap (λ (l : List Y). f x ∷ l) (map-append f xs ys)

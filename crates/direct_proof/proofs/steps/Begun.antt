@@ -4,6 +4,7 @@ use Rattle.std.specs.List.{flat_map, list_any}
 use Rattle.std.proofs.lemmas.Grind.{flat_map-append}
 use Rattle.std.proofs.lemmas.List.Folds.{list_any-append}
 use Rattle.std.proofs.lemmas.Bool.{or_right}
+use Rattle.std.proofs.lemmas.List.{map-append}
 use Rattle.usbip_op.specs.declared.packet.OpPacket.{OpPacket}
 use Rattle.usbip_urb.specs.declared.client.ClientPacket.{ClientPacket}
 use Rattle.usbip_urb.specs.declared.client.ClientPacket.TheVariants.{Op, Urb}
@@ -23,7 +24,6 @@ use Rattle.direct_proof.specs.Moves.{deeds_of}
 use Rattle.direct_proof.specs.Runs.{urb_in}
 use Rattle.direct_proof.specs.Simulates.{is_import, since_import}
 use Rattle.direct_proof.proofs.shared.Keeps.{urbs-mapped}
-use Rattle.direct_proof.proofs.shared.Traces.{map-append}
 use Rattle.direct_proof.proofs.steps.Replying.{Replying}
 use Rattle.direct_proof.proofs.steps.Since.{mark-imports, mark-since}
 

@@ -1,6 +1,7 @@
 -- What the deeds of a move make of the device attached directly, whether it allows them, and what it answers to them.
 use Rattle.std.proofs.Common.{◌≡◌, List, [], ◌++◌, map, refl, sym, ap, ◌∙◌, subst}
 use Rattle.std.specs.List.{flat_map}
+use Rattle.std.proofs.lemmas.List.{map-append}
 use Rattle.usbip_urb.specs.declared.client.ClientPacket.{ClientPacket}
 use Rattle.usbip_urb.specs.declared.client.ClientPacket.TheVariants.{Urb}
 use Rattle.model_device.specs.Meaning.{Meaning}
@@ -12,7 +13,7 @@ use Rattle.direct_proof.specs.Moves.{Made}
 use Rattle.direct_proof.specs.Shared.{Shared, view}
 use Rattle.direct_proof.specs.Related.{Related}
 use Rattle.direct_proof.specs.Runs.{urb_in}
-use Rattle.direct_proof.proofs.shared.Traces.{acts-append, allowed-append, answers-append, map-append}
+use Rattle.direct_proof.proofs.shared.Traces.{acts-append, allowed-append, answers-append}
 use Rattle.direct_proof.proofs.shared.Keeps.{Keeps, urbs-mapped}
 
 pub record Does {S : Type 0} (m : Meaning S) (d : Direct S) (deeds : List Deed) (new : Direct S) (outs : List ClientPacket) : Type 0 where

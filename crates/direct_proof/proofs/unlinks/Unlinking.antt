@@ -2,6 +2,7 @@
 use Rattle.std.proofs.Common.{◌≡◌, ℕ, ◌≤◌, ◌==◌, ◌||◌, ◌&&◌, not, Bool, true, false, cond, suc, List, [], ◌∷◌, ◌++◌, map, filter, length, None, refl, sym, ap, ◌∙◌, subst, arith, append-nil}
 use Rattle.std.specs.List.{AllByRecursion as Each}
 use Rattle.std.proofs.lemmas.Bool.{both_ways}
+use Rattle.std.proofs.lemmas.List.{map-append}
 use Rattle.usb_base.specs.declared.side.Side.TheVariants.{Client}
 use Rattle.usb_base.specs.declared.reason.Reason.TheVariants.{NotImported}
 use Rattle.usbip_urb.specs.declared.packet.Unlink.{Unlink as UrbUnlink}
@@ -44,7 +45,6 @@ use Rattle.direct_proof.proofs.shared.Fits.{fits-nil, fits-map}
 use Rattle.direct_proof.proofs.shared.Streaming.{IsQuiet, quits-more, trails-more, starts-more, controls-more, fenced-more, streams-quiet-in}
 use Rattle.direct_proof.proofs.shared.Asked.{ask_entry, ids-ask, changes-ask, behind-ask, line-ask, cancels-line, cancels-quiet, cancels-asking, cancels-fit, entries-of}
 use Rattle.direct_proof.proofs.unlinks.Unlinks.{live-same, debts-unlinked, unlink-done, unlink-named, unlink-sent, unlink-answers}
-use Rattle.direct_proof.proofs.shared.Traces.{map-append}
 use Rattle.direct_proof.proofs.shared.Keeps.{Keeps, keeps-quiet, keeps-deed}
 use Rattle.direct_proof.proofs.unlinks.AskedBack.{what, still-asked, asked-of}
 

@@ -2,7 +2,7 @@
 use Rattle.direct_proof.proofs.streams.changes.ChangeLists.{past, setup-alone, debts-changer, new-debts, new-numbers, holds-front, zero-route, behind-more, clean-true, before-all, by_id}
 use Rattle.std.proofs.Common.{◌≡◌, ℕ, ◌==◌, ◌||◌, not, true, false, cond, List, [], ◌∷◌, ◌++◌, map, filter, Option, Some, None, is_some, refl, sym, ap, ◌∙◌, subst, append-nil, append_assoc}
 use Rattle.std.specs.List.{list_any, AllByRecursion as Each}
-use Rattle.std.proofs.lemmas.List.{length-map}
+use Rattle.std.proofs.lemmas.List.{length-map, map-append}
 use Rattle.std.proofs.lemmas.Bool.{both_ways, or_left, or_right}
 use Rattle.std.proofs.lemmas.List.Folds.{list_any-append}
 use Rattle.usb_base.specs.declared.setup.Setup.{Setup}
@@ -48,10 +48,8 @@ use Rattle.direct_proof.specs.Cancels.{Behind, is_change as is_changing, any_cha
 use Rattle.direct_proof.specs.StreamIds.{Fenced}
 use Rattle.direct_proof.specs.Kinds.{StartOfKind}
 use Rattle.direct_proof.specs.Running.{started_kind}
-use Rattle.direct_proof.proofs.shared.Traces.{map-append}
 use Rattle.direct_proof.proofs.shared.Owed.{IsNewNumber, ids-submit}
 use Rattle.direct_proof.proofs.shared.Fits.{fits-append}
-use Rattle.direct_proof.proofs.streams.wires.Folds.{starts-append}
 use Rattle.direct_proof.proofs.shared.Keeps.{Keeps}
 use Rattle.direct_proof.proofs.streams.Keeping.{Does, keeps-made}
 use Rattle.direct_proof.proofs.submits.Submitting.{by-routed}
@@ -61,6 +59,7 @@ use Rattle.direct_proof.proofs.streams.changes.ChangeTail.{entry_of, starts-none
 use Rattle.direct_proof.proofs.streams.changes.Changed.{new-controls, change-id}
 use Rattle.direct_proof.proofs.streams.changes.ChangeWire.{IsChanging, new-quits, new-trails, none-started, new-line, new-streams-in}
 use Rattle.direct_proof.proofs.streams.changes.ChangeFree.{asks-free, change-free, uncancelled-free}
+use Rattle.direct_proof.proofs.shared.Streaming.{starts-append}
 
 -- ---- what is kept
 

@@ -3,6 +3,7 @@ use Rattle.std.proofs.Common.{◌≡◌, ℕ, ◌||◌, Bool, true, false, cond,
 use Rattle.std.specs.Prelude.{IfSome}
 use Rattle.std.specs.List.{find}
 use Rattle.std.proofs.lemmas.Bool.{both_ways, or_left}
+use Rattle.std.proofs.lemmas.List.{map-append}
 use Rattle.usb_base.specs.declared.endpoint.EpTable.{EpTable}
 use Rattle.usb_base.specs.declared.transfer.StreamPacket.{StreamPacket}
 use Rattle.redir_wire.specs.EpTable.{table_of}
@@ -31,7 +32,6 @@ use Rattle.direct_proof.specs.Kinds.{IsIn, OfKind, TaggedOfKind}
 use Rattle.direct_proof.specs.Meets.{is_announced}
 use Rattle.direct_proof.specs.Cancels.{any_change}
 use Rattle.direct_proof.specs.Running.{StartsFit, Quits}
-use Rattle.direct_proof.proofs.shared.Traces.{map-append}
 use Rattle.direct_proof.proofs.shared.Keeps.{Keeps, keeps-quiet}
 use Rattle.direct_proof.proofs.streams.Keeping.{Does, keeps-made}
 use Rattle.direct_proof.proofs.shared.Backs.{clean-append}

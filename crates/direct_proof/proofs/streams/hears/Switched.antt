@@ -20,6 +20,7 @@ use Rattle.direct_proof.proofs.streams.hears.SwitchedFence.{switched_world, swit
 use Rattle.std.specs.List.{list_any, AllByRecursion as Each}
 use Rattle.std.proofs.lemmas.Bool.{both_ways, or_left, or_right}
 use Rattle.std.proofs.Math.Bool.{or-false}
+use Rattle.std.proofs.lemmas.List.{map-append}
 use Rattle.redir_data.specs.Streams.{advanced}
 use Rattle.redir_host.specs.declared.state.running.Running.{Running}
 use Rattle.redir_host.specs.guest.Packets.{runs_at}
@@ -32,7 +33,6 @@ use Rattle.direct_proof.specs.Tagged.{Tagged, Stated, on_wire, told}
 use Rattle.direct_proof.specs.Requests.{ran_of}
 use Rattle.direct_proof.specs.Ids.{Ids}
 use Rattle.direct_proof.specs.Stale.{asks, is_fence}
-use Rattle.direct_proof.proofs.shared.Traces.{map-append}
 use Rattle.direct_proof.proofs.shared.Keeps.{Keeps, keeps-quiet}
 use Rattle.direct_proof.proofs.streams.wires.SortsMore.{switch-stays}
 use Rattle.direct_proof.proofs.streams.wires.Folds.{or-either, quits-off}

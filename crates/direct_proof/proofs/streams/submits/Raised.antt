@@ -31,8 +31,8 @@ use Rattle.direct_proof.specs.Stale.{is_stale, asks}
 use Rattle.direct_proof.proofs.streams.fills.FillLists.{weight}
 use Rattle.direct_proof.proofs.streams.submits.Still.{IsStill}
 use Rattle.direct_proof.proofs.shared.Folds.{lines-append}
-use Rattle.direct_proof.proofs.shared.Streaming.{stream_ids-append, trails-append}
-use Rattle.direct_proof.proofs.streams.wires.Folds.{clean-weaker, quits-more, trails-weaker, starts-append, cancels-more}
+use Rattle.direct_proof.proofs.shared.Streaming.{stream_ids-append, trails-append, starts-append}
+use Rattle.direct_proof.proofs.streams.wires.Folds.{clean-weaker, quits-more, trails-weaker, cancels-more}
 use Rattle.direct_proof.proofs.streams.wires.Sorts.{is_for_endpoint as is_at}
 use Rattle.direct_proof.proofs.streams.wires.UpRows.{fits-set}
 use Rattle.direct_proof.proofs.streams.submits.Starting.{can-start, kept-new, kept-other, no-stream_id, no-statuses}

@@ -4,6 +4,7 @@ use Rattle.std.proofs.Common.{◌≡◌, ℕ, suc, ◌+◌, not, true, false, co
 use Rattle.std.specs.Prelude.{zip}
 use Rattle.std.specs.List.{flat_map, list_any}
 use Rattle.std.proofs.lemmas.List.Elements.{filter-append}
+use Rattle.std.proofs.lemmas.List.{map-append}
 use Rattle.usb_base.specs.declared.endpoint.EpRow.{EpRow}
 use Rattle.usb_base.specs.declared.side.Side.TheVariants.{Client}
 use Rattle.usb_base.specs.declared.reason.Reason.TheVariants.{NotImported, DuplicateSeq}
@@ -57,10 +58,6 @@ with_waiter st r row = st.live ++ fresh (waiter st r row) ∷ []
 
 abbrev pub fill_for : State → Request → EpRow → Fill
 fill_for st r row = fill row.max_packet (asking_at r.transfer.ep (with_waiter st r row)) (held_of (stream_at st.streams r.transfer.ep))
-
-map-append : {X Y : Type 0} (f : X → Y) (xs ys : List X) → map f (xs ++ ys) ≡ map f xs ++ map f ys
-map-append f [] ys = refl
-map-append {Y = Y} f (x ∷ xs) ys = ap (λ (l : List Y). f x ∷ l) (map-append f xs ys)
 
 waiting-with : (st : State) (r : Request) (row : EpRow) → waiting st r.transfer.ep ++ r ∷ [] ≡ asking_at r.transfer.ep (with_waiter st r row)
 waiting-with st r row =

@@ -2,7 +2,7 @@
 use Rattle.std.proofs.Common.{◌≡◌, ℕ, inl, true, false, cond, List, [], ◌∷◌, ◌++◌, length, map, Option, Some, None, refl, sym, ap, ◌∙◌, subst, append-nil}
 use Rattle.std.specs.Prelude.{slice_set, zip, is_some}
 use Rattle.std.specs.List.{list_any}
-use Rattle.std.proofs.lemmas.List.{length-map}
+use Rattle.std.proofs.lemmas.List.{length-map, map-append}
 use Rattle.usb_base.specs.Endpoint.{endpoint_index, row_of}
 use Rattle.usb_base.specs.declared.endpoint.EpRow.{EpRow}
 use Rattle.usb_base.specs.declared.endpoint.EpTable.{EpTable}
@@ -37,7 +37,6 @@ use Rattle.direct_proof.specs.Shared.{Shared, way_of, view}
 use Rattle.direct_proof.specs.Requests.{live_of}
 use Rattle.direct_proof.specs.Related.{Related}
 use Rattle.direct_proof.specs.Kinds.{IsIn}
-use Rattle.direct_proof.proofs.shared.Traces.{map-append}
 use Rattle.direct_proof.proofs.shared.Keeps.{Keeps}
 use Rattle.direct_proof.proofs.streams.Keeping.{Does, does-then, keeps-made}
 use Rattle.direct_proof.proofs.shared.UpsFound.{in-place, by-address}

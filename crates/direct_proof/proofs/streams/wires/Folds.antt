@@ -1,18 +1,16 @@
 -- The folds over the wires: how they grow at the end and lose their first, and what they say where no change is under way.
-use Rattle.std.proofs.Common.{◌≡◌, ℕ, ◌||◌, ◌⊎◌, inl, inr, Bool, true, false, List, [], ◌∷◌, ◌++◌, Option, Some, None, refl, sym, ap, ◌∙◌, subst, true≢false}
+use Rattle.std.proofs.Common.{◌≡◌, ℕ, ◌||◌, ◌⊎◌, inl, inr, Bool, true, false, List, [], ◌∷◌, ◌++◌, Option, Some, None, refl, sym, ap, ◌∙◌, true≢false}
 use Rattle.std.specs.List.{list_any, AllByRecursion as Each}
 use Rattle.std.proofs.lemmas.List.Folds.{list_any-append}
 use Rattle.std.proofs.lemmas.Bool.{both_ways, or_left, or_parts}
-use Rattle.std.proofs.Math.Bool.{or-false}
-use Rattle.usb_base.specs.declared.endpoint.EpTable.{EpTable}
 use Rattle.redir_data.specs.declared.packet.RedirPacket.{RedirPacket}
 use Rattle.direct_proof.specs.Requests.{Entry}
 use Rattle.direct_proof.specs.Tagged.{Tagged}
 use Rattle.direct_proof.specs.Stale.{Clean, asks, ends, is_stale}
-use Rattle.direct_proof.specs.Running.{Quits, Trails, StartsFit, runs_after, stream_endpoint, passes}
+use Rattle.direct_proof.specs.Running.{Quits, Trails, runs_after, stream_endpoint, passes}
 use Rattle.direct_proof.specs.Cancels.{CancelsFit, moved, left, begins, is_cancel}
 use Rattle.direct_proof.proofs.streams.wires.Sorts.{runs-less, runs-same, is_for_endpoint}
-use Rattle.direct_proof.proofs.shared.Folds.{or-assoc}
+use Rattle.direct_proof.proofs.lists.Counts.{list_any-same}
 
 -- ---- tests
 
@@ -35,13 +33,9 @@ silent fence down (b ∷ bs) c e = let parts = or_parts (ends fence b) (list_any
     go none true h = absurd (both_ways (list_any (ends fence) (b ∷ bs)) none (c.0 h))
     go none false h = refl
 
-any-same : {X : Type 0} (p q : X → Bool) (xs : List X) → Each (λ x. p x ≡ q x) xs → list_any p xs ≡ list_any q xs
-any-same p q [] h = refl
-any-same p q (x ∷ xs) h = λ t. h.0 t || any-same p q xs h.1 t
-
 pub clean-fence : (a b : Option ℕ) (down : ℕ → Bool) (p : Bool) (bs : List Tagged) → Each (λ c. ends a c ≡ ends b c) bs → Clean a down p bs → Clean b down p bs
 clean-fence a b down p [] h k = tt
-clean-fence a b down p (c ∷ bs) h k = ((λ e. ap (λ (z : Bool). p || z) (sym (any-same (ends a) (ends b) (c ∷ bs) h)) ∙ k.0 e), clean-fence a b down p bs h.1 k.1)
+clean-fence a b down p (c ∷ bs) h k = ((λ e. ap (λ (z : Bool). p || z) (sym (list_any-same (ends a) (ends b) (c ∷ bs) h)) ∙ k.0 e), clean-fence a b down p bs h.1 k.1)
 
 -- ---- streams that run
 
@@ -74,7 +68,7 @@ quits-runs fence ep (p ∷ ps) h = h.0 refl
 
 pub quits-fence : (a b : Option ℕ) (ep : ℕ) (r : Bool) (ps : List (ℕ × RedirPacket)) → Each (λ p. asks a p ≡ asks b p) ps → Quits a ep r ps → Quits b ep r ps
 quits-fence a b ep r [] h k = k
-quits-fence a b ep r (p ∷ ps) h k = ((λ e. sym (any-same (asks a) (asks b) (p ∷ ps) h) ∙ k.0 e), quits-fence a b ep (runs_after ep p.1 r) ps h.1 k.1)
+quits-fence a b ep r (p ∷ ps) h k = ((λ e. sym (list_any-same (asks a) (asks b) (p ∷ ps) h) ∙ k.0 e), quits-fence a b ep (runs_after ep p.1 r) ps h.1 k.1)
 
 -- ---- starts and stops of streams that are down
 
@@ -88,7 +82,7 @@ trails-weaker fence down down' w (p ∷ ps) h = ((λ e. h.0 (passes-less down do
 
 pub trails-fence : (a b : Option ℕ) (down : ℕ → Bool) (ps : List (ℕ × RedirPacket)) → Each (λ p. asks a p ≡ asks b p) ps → Trails a down ps → Trails b down ps
 trails-fence a b down [] h k = tt
-trails-fence a b down (p ∷ ps) h k = ((λ e. sym (any-same (asks a) (asks b) (p ∷ ps) h) ∙ k.0 e), trails-fence a b down ps h.1 k.1)
+trails-fence a b down (p ∷ ps) h k = ((λ e. sym (list_any-same (asks a) (asks b) (p ∷ ps) h) ∙ k.0 e), trails-fence a b down ps h.1 k.1)
 
 pub no-trails : (fence : Option ℕ) (down : ℕ → Bool) (ps : List (ℕ × RedirPacket)) → list_any (asks fence) ps ≡ false → Trails fence down ps → Each (λ (p : ℕ × RedirPacket). passes down (stream_endpoint p.1) ≡ false) ps
 no-trails fence down [] h k = tt
@@ -99,10 +93,6 @@ no-trails fence down (p ∷ ps) h k = (go (passes down (stream_endpoint p.1)) re
     go false e = refl
 
 -- ---- starts
-
-pub starts-append : (t : EpTable) (c : Bool) (ps qs : List (ℕ × RedirPacket)) → StartsFit t c ps → StartsFit t (c || list_any (asks None) ps) qs → StartsFit t c (ps ++ qs)
-starts-append t c [] qs h k = subst (λ (b : Bool). StartsFit t b qs) (or-false c) k
-starts-append t c (p ∷ ps) qs h k = (h.0, starts-append t (c || asks None p) ps qs h.1 (subst (λ (b : Bool). StartsFit t b qs) (or-assoc c (asks None p) (list_any (asks None) ps)) k))
 
 -- ---- cancels
 

@@ -9,6 +9,7 @@ use Rattle.std.specs.Ordering.{nat_cmp}
 use Rattle.std.proofs.lemmas.List.{set-get_or}
 use Rattle.std.proofs.lemmas.Bool.{cases_eq}
 use Rattle.slab.specs.Slab.{Slab, get, Updates}
+use Rattle.usb_base.proofs.Firsts.{first_passing}
 use Rattle.usb_base.specs.Endpoint.{IsEndpoint}
 use Rattle.usb_base.specs.declared.endpoint.TheConstants.{ENDPOINTS}
 use Rattle.redir_host.specs.declared.state.request.Request.{Request}
@@ -21,7 +22,7 @@ use Rattle.redir_host.proofs.lemmas.state.Each.{each_appended}
 use Rattle.redir_host.proofs.lemmas.state.Numbered.{Below, Sorted, all_below, apart, at, below_removed, inserted, removed_here}
 use Rattle.redir_host.proofs.lemmas.state.Listed.{listed_front, listed_last, listed_taken}
 use Rattle.redir_host.proofs.lemmas.state.Places.{queue_read, queues_kept, queues_put, queues_taken}
-use Rattle.redir_host.proofs.lemmas.state.Queued.{first_kept, found_from}
+use Rattle.redir_host.proofs.lemmas.state.Queued.{found_from}
 
 -- in order they stand with their requests, too
 pub sorted : (w : Waiting) → IsIndexed w → Sorted (numbered w)
@@ -32,7 +33,7 @@ pub queue_at : (w : Waiting) (ep place : ℕ) (x : List (ℕ × ℕ)) → IsInde
 queue_at w ep place x i is same within = queue_read w.queues w.requests w.order.entries ep place x i.queues is same (omega (arith, within, i.places))
 
 pub first_at : (w : Waiting) (ep place : ℕ) (x : List (ℕ × ℕ)) → IsIndexed w → IsEndpoint ep → place ≡ place_of ep → place < ENDPOINTS → slice_get (get_or w.queues place x) 0 ≡ find (is_key_of (is_at ep) w.requests) w.order.entries
-first_at w ep place x i is same within = ap (λ l. slice_get l 0) (queue_at w ep place x i is same within) ∙ first_kept (is_key_of (is_at ep) w.requests) w.order.entries
+first_at w ep place x i is same within = ap (λ l. slice_get l 0) (queue_at w ep place x i is same within) ∙ first_passing (is_key_of (is_at ep) w.requests) w.order.entries
 
 -- and the first of endpoint 0's from a number on
 pub from_at : (w : Waiting) (number : ℕ) (x : List (ℕ × ℕ)) → IsIndexed w → find (λ (e : ℕ × ℕ). nat_le number e.0) (get_or w.queues 0 x) ≡ find (is_entry_of (is_from 0 number) w.requests) w.order.entries

@@ -1,7 +1,7 @@
 -- The keys of a queue, as the requests change.
 use Rattle.std.proofs.Common.{◌≡◌, ◌<◌, ◌-◌, ◌==◌, ◌&&◌, ℕ, Bool, true, false, cond, not, filter, List, [], ◌∷◌, Some, None, refl, sym, ap, subst, ◌∙◌, arith, inl, inr}
 use Rattle.std.specs.Prelude.{Option, nat_le, nat_lt}
-use Rattle.std.specs.List.{find, slice_get}
+use Rattle.std.specs.List.{find}
 use Rattle.std.specs.Map.{lookup, remove_entry}
 use Rattle.std.proofs.lemmas.Bool.{cases_Bool, cases_eq, eq-eqb, ltb-false, ltb-true, ne_eqb}
 use Rattle.slab.specs.Slab.{Slab, get}
@@ -37,10 +37,6 @@ pub place_tells : (a b : ℕ) → IsEndpoint a → IsEndpoint b → place_of a �
 place_tells a b here there same = index_tells (queue_of a) (queue_of b) (queue_endpoint a here) (queue_endpoint b there) same
 
 -- ---- searches
-
-pub first_kept : {X : Type 0} (p : X → Bool) (xs : List X) → slice_get (filter p xs) 0 ≡ find p xs
-first_kept p [] = refl
-first_kept p (x ∷ xs) = elim (p x) as (λ (b : Bool). slice_get (cond b (x ∷ filter p xs) (filter p xs)) 0 ≡ cond b (Some x) (find p xs)) [ true ↦ refl | false ↦ first_kept p xs ]
 
 -- of endpoint 0's queue from a number on
 pub found_from : (number : ℕ) (s : Slab Request) (es : List (ℕ × ℕ)) → find (λ (e : ℕ × ℕ). nat_le number e.0) (filter (is_key_of (is_at 0) s) es) ≡ find (is_entry_of (is_from 0 number) s) es
