@@ -210,28 +210,6 @@ impl Lives {
         unlink(&mut self.table, target, by)
     }
 
-    /// The live request with a number.
-    pub fn find_number(&self, seqnum: u32) -> Option<&Live>
-        ensures { option_copied result ≡ find (has_number seqnum) self.now.live }
-    {
-        if self.client_gone {
-            return None;
-        }
-        self.table.numbered(seqnum)
-    }
-
-    /// Takes it out.
-    pub fn finish_number(&mut self, seqnum: u32) -> Option<Live>
-        ensures found { result ≡ find (has_number seqnum) self.old.live }
-        ensures rest { self.new ≡ record self.old { live = without_first (has_number seqnum) self.old.live } }
-    {
-        if self.client_gone {
-            return None;
-        }
-        let place = self.table.place_of_number(seqnum);
-        self.table.take(place)
-    }
-
     /// The live wire or route request with an id.
     pub fn find(&self, id: u64) -> Option<&Live>
         ensures { option_copied result ≡ find (has_id id) self.now.live }

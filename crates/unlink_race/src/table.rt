@@ -162,13 +162,6 @@ impl Table {
         place_numbered(&self.arena, &self.keys, entry.0)
     }
 
-    /// The first request with this number.
-    pub fn numbered(&self, seqnum: u32) -> Option<&Live>
-        ensures { option_copied result ≡ find (has_number seqnum) self.now }
-    {
-        self.found(By::Number, u64::from(seqnum))
-    }
-
     /// The first request that flies with this id.
     pub fn flying(&self, id: u64) -> Option<&Live>
         ensures { option_copied result ≡ find (has_id id) self.now }

@@ -105,7 +105,7 @@ fn a_number_gives_the_place_of_its_request(rt: HostRuntime) -> Result<(), Fail> 
     let mut lives = three_requests(rt.alloc())?;
     let place = lives.place_of_number(3).ok_or("no place")?;
     lives.mark_at(place, 9);
-    let live = lives.find_number(3).ok_or("no request")?;
+    let live = lives.at(place).ok_or("no request")?;
     assert!(rt; place == 2 && live.unlinker == Some(9));
     Ok(())
 }
