@@ -9,7 +9,7 @@ pub const PACKETS_PER_URB: u8 = 8;
 pub const STREAM_URBS: u8 = 4;
 
 /// A law: the numbers that definitions name are these.
-pub fn stream_start()
+pub fn iso_start_numbers()
     ensures packets { PACKETS_PER_URB ≡ 8 }
     ensures urbs { STREAM_URBS ≡ 4 }
 {}

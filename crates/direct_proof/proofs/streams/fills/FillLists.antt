@@ -40,4 +40,3 @@ others p xs x ys few k =
 
 pub apart-middle : (xs : List Live) (x : Live) (ys : List Live) → AreApart (xs ++ x ∷ ys) → AreApart (xs ++ ys)
 apart-middle xs x ys h = λ n. let p : Live → Bool = λ l. is_number n l.load in let few = h n in omega (arith, few, count-append p xs (x ∷ ys), count-append p xs ys)
-
