@@ -130,26 +130,20 @@ impl<G: Gadget> Host<G> {
     }
 
     /// Starts a stream, where the endpoint can have it.
-    fn start(
-        &mut self,
-        id: u64,
-        kind: StreamKind,
-        endpoint: u8,
-        out: &mut Bytes,
-    ) -> Result<(), Memory>
+    fn start(&mut self, id: u64, kind: StreamKind, ep: u8, out: &mut Bytes) -> Result<(), Memory>
         requires { IdFits (is_wide false self.old.guest.caps) id }
-        ensures ok { OnOk result (Makes (start_move (can_start (G.meaning.table self.old.gadget) kind endpoint) self.old id kind endpoint) self.new out.old out.new) }
-        ensures wants { OnErr result (GivesSome self.old (start_move (can_start (G.meaning.table self.old.gadget) kind endpoint) self.old id kind endpoint)) }
+        ensures ok { OnOk result (Makes (start_move (can_start (G.meaning.table self.old.gadget) kind ep) self.old id kind ep) self.new out.old out.new) }
+        ensures wants { OnErr result (GivesSome self.old (start_move (can_start (G.meaning.table self.old.gadget) kind ep) self.old id kind ep)) }
         ensures err { OnErr result (Begins out.old out.new) }
     {
-        let status = match stream_endpoint(&self.gadget.table(), kind, endpoint) {
-            Some(ep) => {
-                self.running.start(kind, ep)?;
+        let status = match stream_endpoint(&self.gadget.table(), kind, ep) {
+            Some(source) => {
+                self.running.start(kind, source)?;
                 UsbStatus::Success
             }
             None => UsbStatus::Inval,
         };
-        write(&status_of(kind, status, endpoint), id, self.guest.caps, out)
+        write(&status_of(kind, status, ep), id, self.guest.caps, out)
     }
 }
 
@@ -195,19 +189,13 @@ impl<G> Host<G> {
     }
 
     /// Stops a stream, of whatever type.
-    fn stop(
-        &mut self,
-        id: u64,
-        kind: StreamKind,
-        endpoint: u8,
-        out: &mut Bytes,
-    ) -> Result<(), Memory>
+    fn stop(&mut self, id: u64, kind: StreamKind, ep: u8, out: &mut Bytes) -> Result<(), Memory>
         requires { IdFits (is_wide false self.old.guest.caps) id }
-        ensures ok { OnOk result (Makes (stop_move self.old id kind endpoint) self.new out.old out.new) }
+        ensures ok { OnOk result (Makes (stop_move self.old id kind ep) self.new out.old out.new) }
         ensures err { OnErr result (Begins out.old out.new) }
     {
-        self.running.stop(endpoint);
-        let status = status_of(kind, UsbStatus::Success, endpoint);
+        self.running.stop(ep);
+        let status = status_of(kind, UsbStatus::Success, ep);
         write(&status, id, self.guest.caps, out)
     }
 
