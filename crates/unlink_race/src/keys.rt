@@ -11,7 +11,7 @@ use urb_arena::Key;
 use usbip_urb::MAX_LIVE;
 
 // 512 more than there are keys at most: between two moves of all keys, no fewer come than that.
-const ROOM: usize = 4608;
+const ROOM: usize = MAX_LIVE + 512;
 
 /// At most 4,096 keys; contracts see their list.
 #[derive(Drop)]
