@@ -1,6 +1,7 @@
 //! What changes in a device by its requests on endpoint 0.
 
 ghost use Rattle.std.specs.Prelude.{◌≡◌, ◌<◌, ◌^◌};
+ghost use Rattle.usb_base.specs.declared.endpoint.TheConstants.{ENDPOINTS};
 ghost use Rattle.chapter9.specs.State.{cleared, halted_bit, is_configured, is_halted, unconfigured, with_halt};
 
 use usb_base::EpAddr;
@@ -65,7 +66,7 @@ impl DevState {
 }
 
 fn bit(index: usize) -> u32
-    requires { index < 32 }
+    requires { index < ENDPOINTS }
     ensures { result ≡ 2 ^ index }
 {
     1 << index
