@@ -1,4 +1,4 @@
-use Rattle.std.proofs.Common.{◌≡◌, ◌++◌, ◌∙◌, map, refl, sym, ap, subst}
+use Rattle.std.proofs.Common.{◌≡◌, ◌++◌, ◌∙◌, Bool, map, refl, sym, ap, subst}
 use Rattle.std.specs.List.{flat_map}
 use Rattle.std.proofs.lemmas.Result.{on_ok_weaker, IfOk-weaker}
 use Rattle.unlink_race.specs.declared.ending.Ending.{Ending}
