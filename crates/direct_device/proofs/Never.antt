@@ -16,7 +16,8 @@ use Rattle.chapter9.specs.Requests.{request_of}
 use Rattle.chapter9.specs.Standard.{given_by, changed_by, read_outcome, write_outcome, outcome_by, stall, success}
 use Rattle.model_device.specs.Device.{Device, control, device_parts, is_running, with_kept, perform, meaning_of}
 use Rattle.model_device.specs.Keyboard.{keyboard}
-use Rattle.model_device.specs.Loopback.{loopback, limit, taken_in, given_back}
+use Rattle.model_device.specs.declared.loopback.TheConstants.{MOST_HELD}
+use Rattle.model_device.specs.Loopback.{loopback, taken_in, given_back}
 use Rattle.model_device.specs.Tone.{tone}
 use Rattle.disk_gadget.specs.declared.class_request.ClassRequest.{ClassRequest}
 use Rattle.disk_gadget.specs.declared.class_request.ClassRequest.TheVariants.{Reset, MaxLun}
@@ -90,7 +91,7 @@ unfolding tone
 tone-never = never-by tone (λ x t. refl)
 
 taken-done : (held body : List ℕ) → AllDone (taken_in held body)
-taken-done held body = go (nat_lt limit (length body)) (nat_lt limit (length held + length body))
+taken-done held body = go (nat_lt MOST_HELD (length body)) (nat_lt MOST_HELD (length held + length body))
   where
     go : (a b : Bool) → AllDone (cond a (Some (held, stall)) (cond b None (Some (held ++ body, record { status = Success; done = length body; body = [] }))))
     go true b = refl

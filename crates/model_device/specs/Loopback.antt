@@ -4,17 +4,14 @@ use Rattle.usb_base.specs.Endpoint.{is_in_endpoint}
 use Rattle.usb_base.specs.declared.speed.Speed.TheVariants.{High}
 use Rattle.usb_base.specs.declared.transfer.Outcome.{Outcome}
 use Rattle.chapter9.specs.Standard.{stall, success, taken}
+use Rattle.model_device.specs.declared.loopback.TheConstants.{MOST_HELD}
 use Rattle.model_device.specs.Device.{Device, set_of}
-
--- how many bytes it holds at most
-abbrev pub limit : ℕ
-limit = 1048576
 
 -- more than it can ever hold is refused, and more than it has room for waits
 abbrev pub taken_in : List ℕ → List ℕ → Option (List ℕ × Outcome)
 taken_in held body =
-    if nat_lt limit (length body) then Some (held, stall)
-    else if nat_lt limit (length held + length body) then None
+    if nat_lt MOST_HELD (length body) then Some (held, stall)
+    else if nat_lt MOST_HELD (length held + length body) then None
     else Some (held ++ body, taken (length body))
 
 -- where it holds nothing, a transfer that wants some bytes waits

@@ -17,7 +17,7 @@ pub use framework::{Framework, is_done_change};
 pub use function::Function;
 pub use gadget::{Gadget, MAX_STREAM_PACKET, stream_packet_limit};
 pub use keyboard::{Keyboard, NextKey};
-pub use loopback::{Held, Loopback};
+pub use loopback::{Held, Loopback, loopback_limit};
 pub use product::Product;
 pub use submit::submits_ask_transfers;
 pub use tone::{NextSample, Tone};

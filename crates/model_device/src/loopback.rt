@@ -2,7 +2,7 @@
 #![tactic(auto, unfolding(crate::specs::Loopback::loopback))]
 
 ghost use Rattle.std.specs.Prelude.{◌≡◌, ◌≤◌, IfOk, IsSome, OnOk, OnErr, length};
-ghost use Rattle.model_device.specs.Loopback.{given_back, limit, taken_in};
+ghost use Rattle.model_device.specs.Loopback.{given_back, taken_in};
 ghost use Rattle.model_device.specs.Meaning.{given_in, state_in};
 
 use crate::device::Device;
@@ -28,7 +28,12 @@ const PRODUCT: Product = Product {
 };
 
 /// How many bytes it holds at most.
-const LIMIT: usize = 1_048_576;
+pub const MOST_HELD: usize = 1_048_576;
+
+/// A law: the number that definitions name is this.
+pub fn loopback_limit()
+    ensures { MOST_HELD ≡ 1048576 }
+{}
 
 /// A high-speed device with a bulk endpoint each way: bytes that come on one are given back on the other, in
 /// order, however they are cut. A change that succeeds drops what it holds.
@@ -42,13 +47,13 @@ pub struct Held {
 
 impl Model for Held {
     ghost use Rattle.std.specs.Prelude.{ℕ, ◌≤◌, List, length};
-    ghost use Rattle.model_device.specs.Loopback.{limit};
+    ghost use Rattle.model_device.specs.declared.loopback.TheConstants.{MOST_HELD};
 
     ghost Value = { List ℕ };
 
     ghost view = { λ h. h.bytes };
 
-    ghost invariant = { λ h. length h.bytes ≤ limit };
+    ghost invariant = { λ h. length h.bytes ≤ MOST_HELD };
 }
 
 impl Function for Held {
@@ -84,17 +89,17 @@ impl Function for Held {
 
 // Takes bytes in, or answers None where there is no room for them yet.
 fn take_in(alloc: Global, held: &mut Bytes, body: &[u8]) -> Result<Option<Outcome>, Memory>
-    requires { length held.old ≤ limit }
-    ensures within { length held.new ≤ limit }
+    requires { length held.old ≤ MOST_HELD }
+    ensures within { length held.new ≤ MOST_HELD }
     ensures outcome { IfOk result (λ outcome. outcome ≡ given_in (taken_in held.old body.now)) }
     ensures held { OnOk result (held.new ≡ state_in held.old (taken_in held.old body.now)) }
     ensures err { OnErr result (held.new ≡ held.old) }
     ensures thrifty { OnErr result (IsSome (taken_in held.old body.now)) }
 {
-    if body.len() > LIMIT {
+    if body.len() > MOST_HELD {
         return Ok(Some(stall(alloc)));
     }
-    if body.len() > LIMIT - held.len() {
+    if body.len() > MOST_HELD - held.len() {
         return Ok(None);
     }
     held.append(body)?;

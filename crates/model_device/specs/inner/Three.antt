@@ -14,7 +14,8 @@ use Rattle.model_device.specs.Gadget.{IsNamed}
 use Rattle.model_device.specs.Function.{IsFunction, no_iso_out}
 use Rattle.model_device.specs.InTurn.{in_turn}
 use Rattle.model_device.specs.Keyboard.{key_count, keyboard, report}
-use Rattle.model_device.specs.Loopback.{given_back, limit, loopback, taken_in}
+use Rattle.model_device.specs.declared.loopback.TheConstants.{MOST_HELD}
+use Rattle.model_device.specs.Loopback.{given_back, loopback, taken_in}
 use Rattle.model_device.specs.Tone.{packet_length, samples, tone}
 use Rattle.model_device.specs.inner.Lawful.{stall_outcome}
 
@@ -39,8 +40,8 @@ given_back_outcome held t e =
 
 taken_in_outcome : (held : List ℕ) (t : Transfer) → IsTransfer t → is_in_endpoint t.ep ≡ false → IfSome (taken_in held t.body) (λ done. IsOutcome t done.1)
 taken_in_outcome held t it e =
-    cond_both (nat_lt limit (length t.body)) _ _ (λ o. IfSome o (λ done. IsOutcome t done.1)) (λ w. stall_outcome t)
-    (λ w. cond_both (nat_lt limit (length held + length t.body)) None _ (λ o. IfSome o (λ done. IsOutcome t done.1)) (λ v. tt)
+    cond_both (nat_lt MOST_HELD (length t.body)) _ _ (λ o. IfSome o (λ done. IsOutcome t done.1)) (λ w. stall_outcome t)
+    (λ w. cond_both (nat_lt MOST_HELD (length held + length t.body)) None _ (λ o. IfSome o (λ done. IsOutcome t done.1)) (λ v. tt)
     (λ v. let wants = it.to_device e in record { done = omega arith; from_device = λ f. absurd (false≢true (sym e ∙ f)); to_device = λ f. refl }))
 
 loop_outcomes : (held : List ℕ) (t : Transfer) → IsTransfer t → IfSome (loopback.transfer held t) (λ done. IsOutcome t done.1)
@@ -54,8 +55,8 @@ given_back_named held wanted = cond_both (length held == 0 && not (wanted == 0))
 
 taken_in_named : (held body : List ℕ) → IfSome (taken_in held body) (λ done. IsNamed done.1.status)
 taken_in_named held body =
-    cond_both (nat_lt limit (length body)) _ _ (λ o. IfSome o (λ done. IsNamed done.1.status)) (λ w. refl)
-    (λ w. cond_both (nat_lt limit (length held + length body)) None _ (λ o. IfSome o (λ done. IsNamed done.1.status)) (λ v. tt) (λ v. refl))
+    cond_both (nat_lt MOST_HELD (length body)) _ _ (λ o. IfSome o (λ done. IsNamed done.1.status)) (λ w. refl)
+    (λ w. cond_both (nat_lt MOST_HELD (length held + length body)) None _ (λ o. IfSome o (λ done. IsNamed done.1.status)) (λ v. tt) (λ v. refl))
 
 loop_named : (held : List ℕ) (t : Transfer) → IfSome (loopback.transfer held t) (λ done. IsNamed done.1.status)
 unfolding loopback
