@@ -5,6 +5,7 @@ use Rattle.std.specs.List.{list_all}
 use Rattle.std.proofs.lemmas.Bool.{and_parts, and_from, ltb-false, false≢true, cases_eq, cases_lt, cases_Bool, cond_both}
 use Rattle.std.proofs.lemmas.List.{get_or-replicate, set_past}
 use Rattle.usb_base.specs.Endpoint.{endpoint_index, is_in_endpoint, no_endpoint, no_endpoints, is_iso}
+use Rattle.usb_base.specs.declared.endpoint.TheConstants.{ENDPOINTS}
 use Rattle.usb_base.specs.declared.endpoint.EpRow.{EpRow}
 use Rattle.usb_base.specs.declared.endpoint.EpKind.{EpKind}
 use Rattle.usb_base.specs.declared.endpoint.EpKind.TheVariants.{Iso, Invalid}
@@ -74,7 +75,7 @@ endpoints_fine alt before (part ∷ parts) f =
     endpoint_rows_fine before part (endpoints_after alt (interface_after alt before part) parts) both.0 (endpoints_fine alt (interface_after alt before part) parts both.1)
 
 none_fine : Fine no_endpoints.rows
-none_fine i lt e = not_iso Invalid refl (sym (ap (λ (r : EpRow). r.kind) (get_or-replicate 32 i no_endpoint no_endpoint (omega arith))) ∙ e)
+none_fine i lt e = not_iso Invalid refl (sym (ap (λ (r : EpRow). r.kind) (get_or-replicate ENDPOINTS i no_endpoint no_endpoint (omega arith))) ∙ e)
 
 control_fine : Fine control_rows
 control_fine = set_fine (set no_endpoints.rows control_out control_row) control_in control_row (λ lt e. cc) (set_fine no_endpoints.rows control_out control_row (λ lt e. cc) none_fine)
