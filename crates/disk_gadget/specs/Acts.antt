@@ -12,7 +12,8 @@ use Rattle.disk_gadget.specs.declared.sense.Sense.{Sense}
 use Rattle.disk_gadget.specs.declared.sense.Sense.TheVariants.{InvalidCommand, OutOfRange, InvalidField}
 use Rattle.disk_gadget.specs.declared.stage.Answer.{Answer}
 use Rattle.disk_gadget.specs.declared.stage.Answer.TheVariants.{Text, Blocks}
-use Rattle.disk_gadget.specs.Accesses.{Access, ReadOf, WriteOf, block_size}
+use Rattle.disk_gadget.specs.declared.medium.TheConstants.{BLOCK_SIZE}
+use Rattle.disk_gadget.specs.Accesses.{Access, ReadOf, WriteOf}
 use Rattle.disk_gadget.specs.Reports.{sense_bytes}
 
 -- how a command ends, what it answers, the sense after it, and the access that it is if it passes
@@ -42,13 +43,13 @@ abbrev pub command_act : ℕ → Option Sense → ℕ → List ℕ → Command �
 command_act blocks sense len bytes TestUnitReady = answered sense []
 command_act blocks sense len bytes (RequestSense most) = answered None (take most (sense_bytes sense))
 command_act blocks sense len bytes (Inquiry vital most) = if vital then failed InvalidField else answered sense (take most inquiry_bytes)
-command_act blocks sense len bytes ReadCapacity = answered sense (be w32 (blocks - 1) ++ be w32 block_size)
+command_act blocks sense len bytes ReadCapacity = answered sense (be w32 (blocks - 1) ++ be w32 BLOCK_SIZE)
 command_act blocks sense len bytes (Read e) =
     if is_past_end blocks e then failed OutOfRange
-    else record { status = Passed; answer = Blocks e.block 0 (block_size * e.count); sense = sense; access = Some (ReadOf e.block e.count) }
+    else record { status = Passed; answer = Blocks e.block 0 (BLOCK_SIZE * e.count); sense = sense; access = Some (ReadOf e.block e.count) }
 command_act blocks sense len bytes (Write e) =
     if is_past_end blocks e then failed OutOfRange
-    else if len == block_size * e.count then record { status = Passed; answer = Text []; sense = sense; access = Some (WriteOf e.block bytes) }
+    else if len == BLOCK_SIZE * e.count then record { status = Passed; answer = Text []; sense = sense; access = Some (WriteOf e.block bytes) }
     else failed InvalidField
 command_act blocks sense len bytes Unknown = failed InvalidCommand
 

@@ -16,7 +16,8 @@ use Rattle.disk_gadget.specs.declared.class_request.ClassRequest.{ClassRequest}
 use Rattle.disk_gadget.specs.declared.class_request.ClassRequest.TheVariants.{Reset, MaxLun}
 use Rattle.disk_gadget.specs.declared.stage.Course.{Course}
 use Rattle.disk_gadget.specs.declared.stage.Stage.TheVariants.{Waits}
-use Rattle.disk_gadget.specs.Accesses.{Access, block_size, blocks_after, count_of}
+use Rattle.disk_gadget.specs.declared.medium.TheConstants.{BLOCK_SIZE}
+use Rattle.disk_gadget.specs.Accesses.{Access, blocks_after, count_of}
 use Rattle.disk_gadget.specs.Descriptors.{described, fresh}
 use Rattle.disk_gadget.specs.Turns.{Reply, Plain, OfBlocks, Turn, given_by, taken_by}
 
@@ -70,7 +71,7 @@ pub record DiskState : Type 0 where
 
 abbrev pub outcome_in : List ℕ → Reply → Outcome
 outcome_in blocks (Plain outcome) = outcome
-outcome_in blocks (OfBlocks block given count) = success (part (block_size * block + given) count blocks)
+outcome_in blocks (OfBlocks block given count) = success (part (BLOCK_SIZE * block + given) count blocks)
 
 abbrev pub on_blocks : List ℕ → Option Step → Option (DiskState × Outcome)
 on_blocks blocks done = option_map (λ s. (record { state = s.state; blocks = blocks_after blocks s.access }, outcome_in blocks s.reply)) done
@@ -90,4 +91,4 @@ disk = record {
 
 -- plugged in, with so many blocks of zeros
 unfoldable pub first_disk : ℕ → DiskState
-first_disk blocks = record { state = record { device = unconfigured; kept = fresh }; blocks = replicate (block_size * blocks) 0 }
+first_disk blocks = record { state = record { device = unconfigured; kept = fresh }; blocks = replicate (BLOCK_SIZE * blocks) 0 }

@@ -4,7 +4,7 @@ use Rattle.disk_gadget.specs.declared.stage.Answer.{Answer}
 use Rattle.disk_gadget.specs.declared.stage.Answer.TheVariants.{Text, Blocks}
 use Rattle.disk_gadget.specs.declared.stage.Stage.{Stage}
 use Rattle.disk_gadget.specs.declared.stage.Stage.TheVariants.{Waits, Gathers, Gives, Reports}
-use Rattle.disk_gadget.specs.Accesses.{block_size}
+use Rattle.disk_gadget.specs.declared.medium.TheConstants.{BLOCK_SIZE}
 use Rattle.disk_gadget.specs.Turns.{left_of}
 
 -- what was given and what is left of it are counted in 32 bits
@@ -15,7 +15,7 @@ GivenFits (Blocks block given left) = given + left < 2 ^ 32
 -- it stands within a disk of so many bytes
 abbrev pub PlaceWithin : ℕ → Answer → Type 0
 PlaceWithin size (Text rest) = Unit {0}
-PlaceWithin size (Blocks block given left) = block_size * block + given + left ≤ size
+PlaceWithin size (Blocks block given left) = BLOCK_SIZE * block + given + left ≤ size
 
 pub record AnswerWithin (size residue : ℕ) (answer : Answer) : Type 0 where
   pub moved : left_of answer ≤ residue

@@ -7,7 +7,8 @@ use Rattle.chapter9.specs.State.{unconfigured}
 use Rattle.model_device.specs.Device.{State}
 use Rattle.model_device.specs.Meaning.{state_in}
 use Rattle.disk_gadget.specs.declared.stage.Course.{Course}
-use Rattle.disk_gadget.specs.Accesses.{Access, ReadOf, WriteOf, block_size}
+use Rattle.disk_gadget.specs.declared.medium.TheConstants.{BLOCK_SIZE}
+use Rattle.disk_gadget.specs.Accesses.{Access, ReadOf, WriteOf}
 use Rattle.disk_gadget.specs.Descriptors.{fresh}
 use Rattle.disk_gadget.specs.DiskStep.{DiskState, Step, disk_step, first_disk, step}
 use Rattle.disk_gadget.specs.Turns.{Reply, Plain, OfBlocks}
@@ -43,19 +44,19 @@ passed blocks (t ∷ past) = with_passed (step blocks (course_after blocks past)
 -- ---- what was written
 
 abbrev pub covers : ℕ → List ℕ → ℕ → Bool
-covers first bytes block = not (nat_lt block first) && nat_lt (block_size * block) (block_size * first + length bytes)
+covers first bytes block = not (nat_lt block first) && nat_lt (BLOCK_SIZE * block) (BLOCK_SIZE * first + length bytes)
 
 -- what the last write that covers a block gave it, else zeros
 abbrev pub last_written : List Access → ℕ → List ℕ
-last_written [] block = replicate block_size 0
+last_written [] block = replicate BLOCK_SIZE 0
 last_written (ReadOf first count ∷ older) block = last_written older block
-last_written (WriteOf first bytes ∷ older) block = if covers first bytes block then part (block_size * (block - first)) block_size bytes else last_written older block
+last_written (WriteOf first bytes ∷ older) block = if covers first bytes block then part (BLOCK_SIZE * (block - first)) BLOCK_SIZE bytes else last_written older block
 
 -- ---- the law: a transfer that gives bytes of a read gives of each block what was written to it last
 
 abbrev pub GivesWritten : List Access → ℕ → ℕ → List ℕ → Type 0
 GivesWritten accesses first given bytes =
-    (block place i : ℕ) → place < block_size → i < length bytes → block_size * first + given + i ≡ block_size * block + place
+    (block place i : ℕ) → place < BLOCK_SIZE → i < length bytes → BLOCK_SIZE * first + given + i ≡ BLOCK_SIZE * block + place
     → get_or bytes i 0 ≡ get_or (last_written accesses block) place 0
 
 abbrev pub ReplyIsWritten : ℕ → List Transfer → Transfer → Reply → Type 0

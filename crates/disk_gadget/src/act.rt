@@ -3,14 +3,14 @@
 ghost use Rattle.std.specs.Prelude.{◌≡◌, ◌≤◌, ◌++◌, ◌+◌, ◌-◌, [], length, take, IfOk, OnOk, OnErr};
 ghost use Rattle.std.specs.Int.{w32};
 ghost use Rattle.usb_base.specs.Number.{be};
-ghost use Rattle.disk_gadget.specs.Accesses.{block_size, blocks_after, count_of};
+ghost use Rattle.disk_gadget.specs.Accesses.{blocks_after, count_of};
 ghost use Rattle.disk_gadget.specs.Acts.{act_of, command_act, is_crossed, is_past_end};
 ghost use Rattle.disk_gadget.specs.declared.command.Command.TheVariants.{Read as ReadCommand, Write as WriteCommand};
 ghost use Rattle.disk_gadget.specs.declared.report.Status.TheVariants.{Failed, Passed};
 ghost use Rattle.disk_gadget.specs.declared.stage.Answer.TheVariants.{Text};
 
 use crate::command::{Command, Extent};
-use crate::medium::{BLOCK, Medium};
+use crate::medium::{BLOCK_SIZE, Medium};
 use crate::report::Status;
 use crate::sense::{Sense, sense_bytes};
 use crate::stage::Answer;
@@ -126,11 +126,11 @@ fn text(alloc: Global, bytes: &[u8], most: usize) -> Result<Acted, Memory>
 
 // READ CAPACITY (10): the last block, and the bytes of a block (SBC-3, 5.15).
 fn capacity(alloc: Global, blocks: u32) -> Result<Acted, Memory>
-    ensures { IfOk result (λ act. act ≡ record { status = Passed; answer = Text (be w32 (blocks - 1) ++ be w32 block_size) }) }
+    ensures { IfOk result (λ act. act ≡ record { status = Passed; answer = Text (be w32 (blocks - 1) ++ be w32 BLOCK_SIZE) }) }
 {
     let mut rest = Bytes::new(alloc);
     push_be_u32(&mut rest, blocks.saturating_sub(1))?;
-    push_be_u32(&mut rest, BLOCK as u32)?;
+    push_be_u32(&mut rest, BLOCK_SIZE as u32)?;
     Ok(Acted {
         status: Status::Passed,
         answer: Answer::Text(rest),
@@ -151,7 +151,7 @@ fn read(alloc: Global, sense: &mut Option<Sense>, blocks: u32, extent: Extent) -
         answer: Answer::Blocks {
             block: extent.block,
             given: 0,
-            left: BLOCK as u32 * u32::from(extent.count),
+            left: BLOCK_SIZE as u32 * u32::from(extent.count),
         },
     }
 }
@@ -174,9 +174,9 @@ fn write(
     if is_past_end(medium.count(), extent) {
         return fail(alloc, sense, Sense::OutOfRange);
     }
-    if moved != BLOCK as u32 * u32::from(extent.count) {
+    if moved != BLOCK_SIZE as u32 * u32::from(extent.count) {
         return fail(alloc, sense, Sense::InvalidField);
     }
-    medium.put(BLOCK * extent.block as usize, bytes);
+    medium.put(BLOCK_SIZE * extent.block as usize, bytes);
     nothing(alloc, Status::Passed)
 }

@@ -14,5 +14,5 @@ mod stage;
 mod wrapper;
 
 pub use disk::Disk;
-pub use laws::disk_reads_what_was_written;
+pub use laws::{disk_numbers, disk_reads_what_was_written};
 pub use medium::MAX_BLOCKS;

@@ -2,14 +2,14 @@
 
 ghost use Rattle.std.specs.Prelude.{◌≡◌, ◌≤◌, ◌+◌, ◌*◌, length, replicate, IfOk};
 ghost use Rattle.usb_base.specs.Number.{part};
-ghost use Rattle.disk_gadget.specs.Accesses.{block_size, count_of, put};
+ghost use Rattle.disk_gadget.specs.Accesses.{count_of, put};
 
 use std::alloc::Global;
 use std::marker::Model;
 use usb_base::Memory;
 
 /// How many bytes a block has.
-pub const BLOCK: usize = 512;
+pub const BLOCK_SIZE: usize = 512;
 
 /// How many blocks a disk has at most.
 pub const MAX_BLOCKS: u32 = 4_096;
@@ -22,23 +22,22 @@ pub struct Medium {
 
 impl Model for Medium {
     ghost use Rattle.std.specs.Prelude.{ℕ, ◌≤◌, ◌*◌, List, length};
-    ghost use Rattle.disk_gadget.specs.Accesses.{block_size};
-    ghost use Rattle.disk_gadget.specs.declared.medium.TheConstants.{MAX_BLOCKS};
+    ghost use Rattle.disk_gadget.specs.declared.medium.TheConstants.{BLOCK_SIZE, MAX_BLOCKS};
 
     ghost Value = { List ℕ };
 
     ghost view = { λ m. m.bytes.items };
 
-    ghost invariant = { λ m. length m.bytes.items ≤ block_size * MAX_BLOCKS };
+    ghost invariant = { λ m. length m.bytes.items ≤ BLOCK_SIZE * MAX_BLOCKS };
 }
 
 impl Medium {
     /// So many blocks of zeros.
     pub fn zeros(alloc: Global, blocks: u32) -> Result<Medium, Memory>
         requires { blocks ≤ MAX_BLOCKS }
-        ensures { IfOk result (λ made. made ≡ replicate (block_size * blocks) 0) }
+        ensures { IfOk result (λ made. made ≡ replicate (BLOCK_SIZE * blocks) 0) }
     {
-        let bytes = vec![in alloc; 0; BLOCK * blocks as usize]?;
+        let bytes = vec![in alloc; 0; BLOCK_SIZE * blocks as usize]?;
         Ok(Medium { bytes })
     }
 
@@ -47,7 +46,7 @@ impl Medium {
         ensures count { result ≡ count_of self.now }
         ensures few { result ≤ MAX_BLOCKS }
     {
-        (self.bytes.len() / BLOCK) as u32
+        (self.bytes.len() / BLOCK_SIZE) as u32
     }
 
     /// Some of the bytes.

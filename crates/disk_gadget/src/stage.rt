@@ -7,7 +7,7 @@ ghost use Rattle.disk_gadget.specs.DiskStep.{outcome_in};
 ghost use Rattle.disk_gadget.specs.Turns.{cut_answer, given_of, left_of, rest_of};
 ghost use Rattle.disk_gadget.specs.Within.{GivenFits, PlaceWithin};
 
-use crate::medium::{BLOCK, Medium};
+use crate::medium::{BLOCK_SIZE, Medium};
 use crate::report::Report;
 use crate::sense::Sense;
 use crate::wrapper::Wrapper;
@@ -44,7 +44,10 @@ impl Answer {
         let piece = match self {
             Answer::Text(rest) => &rest.as_slice()[..count as usize],
             Answer::Blocks { block, given, .. } => {
-                medium.part(BLOCK * *block as usize + *given as usize, count as usize)
+                medium.part(
+                    BLOCK_SIZE * *block as usize + *given as usize,
+                    count as usize,
+                )
             }
         };
         let mut bytes = Bytes::new(alloc);

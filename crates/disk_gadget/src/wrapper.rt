@@ -9,16 +9,16 @@ use crate::report::{Report, Status};
 use usb_base::{array_at, le_u32_at};
 
 /// How many bytes a wrapper has.
-const LENGTH: usize = 31;
+pub const WRAPPER_SIZE: usize = 31;
 
 /// How many bytes a command block has at most.
-const MOST_COMMAND: u8 = 16;
+pub const MOST_COMMAND: u8 = 16;
 
 /// dCBWSignature, `USBC`.
 const SIGNATURE: u32 = 0x4342_5355;
 
 /// How many bytes a command may move at most.
-const MOST_MOVED: u32 = 1_048_576;
+pub const MOST_MOVED: u32 = 1_048_576;
 
 /// A command, and what the host expects of it.
 #[derive(Clone, Copy)]
@@ -37,7 +37,7 @@ impl Wrapper {
     pub fn read(bytes: &[u8]) -> Option<Wrapper>
         ensures { result ≡ wrapper_of bytes.now }
     {
-        if bytes.len() != LENGTH || le_u32_at(bytes, 0) != SIGNATURE {
+        if bytes.len() != WRAPPER_SIZE || le_u32_at(bytes, 0) != SIGNATURE {
             return None;
         }
         let length = le_u32_at(bytes, 8);

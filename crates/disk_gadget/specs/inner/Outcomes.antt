@@ -17,7 +17,8 @@ use Rattle.disk_gadget.specs.declared.stage.Answer.TheVariants.{Text, Blocks}
 use Rattle.disk_gadget.specs.declared.stage.Stage.{Stage}
 use Rattle.disk_gadget.specs.declared.stage.Stage.TheVariants.{Waits, Gathers, Gives, Reports}
 use Rattle.disk_gadget.specs.declared.wrapper.Wrapper.{Wrapper}
-use Rattle.disk_gadget.specs.Accesses.{block_size, count_of}
+use Rattle.disk_gadget.specs.declared.medium.TheConstants.{BLOCK_SIZE}
+use Rattle.disk_gadget.specs.Accesses.{count_of}
 use Rattle.disk_gadget.specs.DiskStep.{DiskState, bulk_turn, on_blocks, outcome_in, turned}
 use Rattle.disk_gadget.specs.Reports.{status_bytes, status_size}
 use Rattle.disk_gadget.specs.Turns.{Turn, acted, answering, begun, gathered, gathering, given_by, given_of, left_of, refused, reported, taken_by}
@@ -55,7 +56,7 @@ given_fine t bytes e h = record { done = h; from_device = λ f. refl; to_device 
 
 answer_fine : (blocks : List ℕ) (t : Transfer) (answer : Answer) (n : ℕ) → is_in_endpoint t.ep ≡ true → n ≤ t.wanted → IsOutcome t (outcome_in blocks (given_of n answer))
 answer_fine blocks t (Text rest) n e h = given_fine t (take n rest) e (omega (arith, length-take n rest))
-answer_fine blocks t (Blocks block given left) n e h = given_fine t (part (block_size * block + given) n blocks) e (omega (arith, length-take n (drop (block_size * block + given) blocks)))
+answer_fine blocks t (Blocks block given left) n e h = given_fine t (part (BLOCK_SIZE * block + given) n blocks) e (omega (arith, length-take n (drop (BLOCK_SIZE * block + given) blocks)))
 
 reported_fine : (blocks : List ℕ) (sense : Option Sense) (t : Transfer) (r : Report) → is_in_endpoint t.ep ≡ true → IsOutcome t (outcome_in blocks (reported sense t.wanted r).reply)
 reported_fine blocks sense t r e =
