@@ -3,7 +3,7 @@ use Rattle.std.specs.Prelude.{ℕ, ◌+◌, ◌*◌, ◌≤◌, ◌<◌, ◌^◌
 use Rattle.disk_gadget.specs.declared.stage.Answer.{Answer}
 use Rattle.disk_gadget.specs.declared.stage.Answer.TheVariants.{Text, Blocks}
 use Rattle.disk_gadget.specs.declared.stage.Stage.{Stage}
-use Rattle.disk_gadget.specs.declared.stage.Stage.TheVariants.{Waits, Gathers, Gives, Reports}
+use Rattle.disk_gadget.specs.declared.stage.Stage.TheVariants.{Gathers, Gives}
 use Rattle.disk_gadget.specs.declared.medium.TheConstants.{BLOCK_SIZE}
 use Rattle.disk_gadget.specs.Turns.{left_of}
 
@@ -23,7 +23,6 @@ pub record AnswerWithin (size residue : ℕ) (answer : Answer) : Type 0 where
   pub place : PlaceWithin size answer
 
 abbrev pub IsWithin : ℕ → Stage → Type 0
-IsWithin size Waits = Unit {0}
 IsWithin size (Gathers w bytes) = length bytes ≤ w.length
 IsWithin size (Gives answer r) = AnswerWithin size r.residue answer
-IsWithin size (Reports r) = Unit {0}
+IsWithin size _ = Unit {0}

@@ -2,7 +2,7 @@
 use Rattle.std.specs.Prelude.{◌≡◌, ℕ, suc, Bool, true, false, List, [], ◌∷◌, ◌++◌, Option, Some, Result}
 use Rattle.std.specs.declared.io.Error.{Error}
 use Rattle.gate_sockets.specs.declared.step.Step.{Step}
-use Rattle.gate_sockets.specs.declared.step.Step.TheVariants.{Moved, Blocked, Cut, Broken}
+use Rattle.gate_sockets.specs.declared.step.Step.TheVariants.{Broken}
 use Rattle.gate_sockets.specs.Step.{step_for, moved_of}
 
 pub record Call : Type 0 where
@@ -58,10 +58,8 @@ tries [] n = n
 tries (call ∷ calls) n = tries_by call.reads (tries calls n)
 
 abbrev pub broken_by : Step → Bool → Bool
-broken_by (Moved n) before = before
-broken_by Blocked before = before
-broken_by Cut before = before
 broken_by (Broken e) before = true
+broken_by _ before = before
 
 -- it had broken before, or one of these calls told so
 abbrev pub broken : List Call → Bool → Bool

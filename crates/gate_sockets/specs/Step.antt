@@ -10,9 +10,7 @@ use Rattle.gate_sockets.specs.declared.step.Step.TheVariants.{Moved, Blocked, Cu
 -- what was moved fits in a buffer of this length
 abbrev pub IsStepWithin : ℕ → Step → Type 0
 IsStepWithin limit (Moved n) = n ≤ limit
-IsStepWithin limit Blocked = Unit {0}
-IsStepWithin limit Cut = Unit {0}
-IsStepWithin limit (Broken e) = Unit {0}
+IsStepWithin limit _ = Unit {0}
 
 -- nothing to move now is no failure, and want of memory passes. Any other error ends the link: a reset, a broken pipe,
 -- a timeout of the system, a peer that can't be reached.
@@ -29,6 +27,4 @@ step_for (Err e) = step_at (error_kind e) e
 -- the bytes that were moved to the front of a buffer, or from the front of a piece
 abbrev pub moved_of : Step → List ℕ → List ℕ
 moved_of (Moved n) bytes = take n bytes
-moved_of Blocked bytes = []
-moved_of Cut bytes = []
-moved_of (Broken e) bytes = []
+moved_of _ bytes = []
