@@ -1,6 +1,6 @@
 //! The commands that the disk knows (SPC-4, 6; SBC-3, 5).
 
-ghost use Rattle.std.specs.Prelude.{◌≡◌, ◌≤◌, length};
+ghost use Rattle.std.specs.Prelude.{◌≡◌};
 ghost use Rattle.disk_gadget.specs.Commands.{command_of, extent_of};
 
 use usb_base::{be_u16_at, be_u32_at};

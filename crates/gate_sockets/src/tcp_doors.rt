@@ -1,6 +1,6 @@
 //! The doors over TCP.
 
-ghost use Rattle.std.specs.Prelude.{◌≡◌, ◌<◌, Bool, length, None, IfOk, IsOkAnd, IsTrue, is_ok};
+ghost use Rattle.std.specs.Prelude.{◌≡◌, ◌<◌, length, None, IfOk, IsOkAnd, IsTrue, is_ok};
 ghost use Rattle.gate_sockets.specs.Door.{CameOnce, Came, DialledBy, MadeBy};
 ghost use Rattle.gate_sockets.specs.State.{fresh, faulted, state_of, link_of, door_of};
 ghost use Rattle.gate_sockets.specs.Writing.{ReadOn, WroteOnce};

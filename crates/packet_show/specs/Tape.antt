@@ -2,7 +2,7 @@
 -- `c HEX` and `h HEX`, pieces of the client's and the host's stream, and `c.` and `h.`, their ends. A tape for a
 -- modelled host has `c HEX` and `c.`, `g N` and `h N`, bytes that go to the host and to the gateway, `p EP` and `o EP`,
 -- a transfer that is performed and a packet that is offered, and `x`, the unplugging.
-use Rattle.std.specs.Prelude.{ℕ, ◌%◌, ◌==◌, nat_lt, Bool, true, false, if◌then◌else◌, List, [], ◌∷◌, Option, Some, None, option_map, Result, Ok, Err, codes}
+use Rattle.std.specs.Prelude.{ℕ, ◌%◌, ◌==◌, nat_lt, Bool, true, false, if◌then◌else◌, List, [], ◌∷◌, Option, Some, None, option_map, Result, Ok, codes}
 use Rattle.hex.specs.Hex.{decode_of, decode_sized}
 use Rattle.usb_base.specs.declared.memory.Memory.{Memory}
 use Rattle.hex.specs.declared.error.FromHexError.{FromHexError}

@@ -1,9 +1,9 @@
 //! A tape in a file.
 
-ghost use Rattle.std.specs.Prelude.{◌≡◌, ◌<◌, ◌↔◌, ◌⊎◌, true, false, IsTrue, None, is_some, OnOk, OnErr};
+ghost use Rattle.std.specs.Prelude.{◌≡◌, ◌<◌, ◌↔◌, ◌⊎◌, true, IsTrue, None, is_some, OnOk, OnErr};
 ghost use Rattle.std.specs.Fs.{asks_create_new, asks_write};
 ghost use Rattle.std.specs.Io.KnownBytes.{append_known};
-ghost use Rattle.session_tape.specs.Tapes.{counts, HasReason, CountsFault, GrowsInPart, GoesTo, told_by};
+ghost use Rattle.session_tape.specs.Tapes.{counts, CountsFault, GrowsInPart, GoesTo, told_by};
 
 use crate::tape::{MakeTape, Tape, Unmade};
 use crate::telling::Telling;

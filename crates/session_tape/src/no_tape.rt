@@ -1,9 +1,5 @@
 //! A session that isn't recorded.
 
-ghost use Rattle.std.specs.Prelude.{◌≡◌, false, None, OnOk, OnErr};
-ghost use Rattle.std.specs.Io.KnownBytes.{append_known};
-ghost use Rattle.session_tape.specs.Tapes.{CountsFault, GrowsInPart};
-
 use crate::tape::Tape;
 use gate_outside::Failed;
 

@@ -1,7 +1,5 @@
 //! A writer that says why it has failed.
 
-ghost use Rattle.std.specs.Prelude.{OnOk, OnErr};
-
 use std::io;
 use std::io::Write;
 

@@ -1,8 +1,6 @@
 //! A tape in memory.
 
-ghost use Rattle.std.specs.Prelude.{◌≡◌, [], ℕ, List, true, false, Option, Some, None, IfSome, IfOk, OnOk, OnErr};
-ghost use Rattle.std.specs.Io.KnownBytes.{append_known};
-ghost use Rattle.session_tape.specs.Tapes.{HasReason, CountsFault, GrowsInPart};
+ghost use Rattle.std.specs.Prelude.{◌≡◌, [], true, false, IfOk};
 ghost use Rattle.session_tape.specs.Text.{told};
 
 use crate::tape::{MakeTape, Tape, Unmade};
