@@ -1,6 +1,6 @@
 -- A host as a machine: a state that steps with each item, what goes to the guest, and what is told. Lists of items have
 -- the latest first.
-use Rattle.std.specs.Prelude.{Bool, true, false, List, [], ◌∷◌, ◌++◌}
+use Rattle.std.specs.Prelude.{ℕ, Bool, true, false, List, [], ◌∷◌, ◌++◌}
 use Rattle.std.specs.List.{flat_map}
 use Rattle.redir_data.specs.Sent.{sent_packet_bytes}
 use Rattle.redir_data.specs.Streams.{start}
