@@ -4,6 +4,7 @@ ghost use Rattle.std.specs.Prelude.{◌≡◌, ◌<◌, ◌∷◌, [], true, fal
 ghost use Rattle.bridge_run.specs.declared.course.serve_end.ServeEnd.{ServeEnd as End};
 ghost use Rattle.bridge_run.specs.events.Events.{LinkEvent as PastEvent};
 ghost use Rattle.bridge_run.specs.events.Prescribed.{Prescribed, gained};
+ghost use Rattle.bridge_run.specs.declared.course.serving.TheConstants.{POLL_LIMIT};
 ghost use Rattle.bridge_run.specs.declared.written.recording.TheConstants.{WAITING_LIMIT};
 ghost use Rattle.bridge_run.specs.written.Recorded.{sends_any};
 ghost use Rattle.bridge_run.specs.course.Course.{Setting, Course, Next};
@@ -30,4 +31,10 @@ pub fn clients_get_their_own()
     ensures joined { (calls : List Call) → joined (got_by calls) ≡ went Client calls }
     ensures each { (terms : Terms) (p : Prescribed) (calls : List Call) → Settled terms p calls → IsWritten terms p (events_of calls) calls → got_by calls ≡ sent_to_each p (events_of calls) }
     ensures earlier { (terms : Terms) (p : Prescribed) (calls : List Call) → Settled terms p calls → (got_by calls).earlier ≡ (sent_to_each p (events_of calls)).earlier }
+{}
+
+/// A law: the numbers of bytes that definitions name are these.
+pub fn round_limits()
+    ensures polled { POLL_LIMIT ≡ 65536 }
+    ensures waiting { WAITING_LIMIT ≡ 65536 }
 {}
