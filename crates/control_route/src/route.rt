@@ -1,6 +1,6 @@
 //! The route of a setup.
 
-ghost use Rattle.std.specs.Prelude.{◌≡◌, ◌==◌, ◌&&◌, if◌then◌else◌};
+ghost use Rattle.std.specs.Prelude.{◌≡◌, ◌&&◌, if◌then◌else◌};
 ghost use Rattle.control_route.specs.Routes.{route_of, has_no_data, is_byte};
 
 use usb_base::Setup;

@@ -1,7 +1,7 @@
 //! The disk.
 #![tactic(auto, unfolding(crate::specs::Descriptors::described))]
 
-ghost use Rattle.std.specs.Prelude.{◌≡◌, ◌≤◌, ◌<◌, IfOk, OnOk, OnErr, length};
+ghost use Rattle.std.specs.Prelude.{◌≡◌, ◌≤◌, IfOk, OnOk, OnErr, length};
 ghost use Rattle.model_device.specs.Inside.{HasSet};
 ghost use Rattle.disk_gadget.specs.Descriptors.{disk_set};
 ghost use Rattle.disk_gadget.specs.DiskStep.{disk, first_disk};

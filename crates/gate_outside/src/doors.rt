@@ -1,6 +1,6 @@
 //! The sockets of both sides.
 
-ghost use Rattle.std.specs.Prelude.{◌≡◌, ◌<◌, IsTrue, false, true, length};
+ghost use Rattle.std.specs.Prelude.{◌≡◌, ◌<◌, IsTrue, false, length};
 
 use crate::fault::Failed;
 use crate::turn::Polled;

@@ -90,7 +90,6 @@ impl ScriptDoors {
 }
 
 impl Doors for ScriptDoors {
-    ghost use Rattle.usb_base.specs.declared.side.Side.TheVariants.{Client, Host};
     ghost use Rattle.gate_outside.specs.Link.{other};
     ghost use Rattle.gate_outside.specs.Doors.{TookWithin};
     ghost use Rattle.gate_outside.specs.Script.{shown, shown_door, closed_side, Counted, Opened, Began, PolledScript, WroteScript, ScriptGives};

@@ -1,6 +1,6 @@
 //! Where bytes go to.
 
-ghost use Rattle.std.specs.Prelude.{◌<◌, ◌≤◌, List, ℕ, length, Option, Result, OnOk, OnErr, IfOk};
+ghost use Rattle.std.specs.Prelude.{◌<◌, List, ℕ, length, Option, Result, OnOk, OnErr, IfOk};
 ghost use Rattle.std.specs.Io.{WritesAtMost};
 ghost use Rattle.std.specs.Io.KnownBytes.{WriteAppends, Appends};
 ghost use Rattle.gate_outside.specs.Faults.{HasCause};

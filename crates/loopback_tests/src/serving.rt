@@ -12,7 +12,6 @@ use gate_outside::{Doors, TextSink};
 use gate_sockets::TcpDoors;
 use session_tape::NoTape;
 use std::alloc::Global;
-use std::io;
 use std::net::{Net, TcpListener, TcpStream};
 use std::rt::Clock;
 use usb_base::Memory;

@@ -1,5 +1,5 @@
 -- What holds of every function.
-use Rattle.std.specs.Prelude.{◌≡◌, ℕ, ◌≤◌, ◌||◌, not, Bool, true, false, List, length, None, IfSome}
+use Rattle.std.specs.Prelude.{◌≡◌, ℕ, ◌≤◌, ◌||◌, not, Bool, true, List, length, None, IfSome}
 use Rattle.std.specs.List.{list_all}
 use Rattle.usb_base.specs.Endpoint.{is_in_endpoint, is_iso}
 use Rattle.usb_base.specs.declared.endpoint.EpKind.{EpKind}

@@ -1,9 +1,8 @@
 -- The transfers that a device is asked for, and what may come of one.
-use Rattle.std.specs.Prelude.{◌≡◌, ℕ, ◌≤◌, ◌%◌, ◌==◌, nat_lt, not, Bool, true, false, [], length, is_some, IfSome}
+use Rattle.std.specs.Prelude.{◌≡◌, ℕ, ◌≤◌, ◌%◌, ◌==◌, Bool, true, false, [], length, is_some, IfSome}
 use Rattle.std.specs.Option.{option_map_or}
 use Rattle.usb_base.specs.Endpoint.{IsEndpoint, is_in_endpoint}
 use Rattle.usb_base.specs.Setup.{is_in_setup}
-use Rattle.usb_base.specs.declared.setup.Setup.{Setup}
 use Rattle.usb_base.specs.declared.transfer.Transfer.{Transfer}
 use Rattle.usb_base.specs.declared.transfer.Outcome.{Outcome}
 use Rattle.control_route.specs.Routes.{route_of}

@@ -1,6 +1,6 @@
 //! Reads what stands behind the header of a packet that moves data.
 
-ghost use Rattle.std.specs.Prelude.{◌≡◌, ◌+◌, ◌≤◌, length, drop, true, false};
+ghost use Rattle.std.specs.Prelude.{◌≡◌, ◌≤◌, length, drop, true, false};
 ghost use Rattle.packet_stream.specs.Format.{reading};
 ghost use Rattle.redir_wire.specs.Header.{is_its_length};
 ghost use Rattle.redir_wire.specs.Bodies.{behind};

@@ -1,7 +1,7 @@
 //! Headers.
 
 ghost use Rattle.std.specs.Prelude.{◌≡◌, ◌+◌, ◌≤◌, length};
-ghost use Rattle.std.specs.Int.{w32, w64};
+ghost use Rattle.std.specs.Int.{w64};
 ghost use Rattle.usb_base.specs.Number.{le_at};
 ghost use Rattle.packet_stream.specs.Format.{StandsAtFront, reading};
 ghost use Rattle.packet_stream.specs.Reads.{Answers, IfTold};

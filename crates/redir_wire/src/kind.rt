@@ -1,6 +1,6 @@
 //! The types of packets, and what the protocol says of each: its number, its way, its capability, its length.
 
-ghost use Rattle.std.specs.Prelude.{◌≡◌, ◌<◌, ◌≤◌, IfSome};
+ghost use Rattle.std.specs.Prelude.{◌≡◌, ◌<◌};
 ghost use Rattle.redir_wire.specs.Table.{of_type, with, plain_row, data_row, row_of, plain_numbered, data_numbered, kind_numbered, goes, has_wanted, has_more, is_longer, plain_name, data_name, fixed_length, has_length, is_left_out};
 ghost use Rattle.redir_wire.specs.Small.{IsSmall};
 

@@ -1,6 +1,6 @@
 //! The lines of a tape.
 
-ghost use Rattle.std.specs.Prelude.{◌≡◌, ◌++◌, IfOk, OnOk, Result, Ok, string_bytes};
+ghost use Rattle.std.specs.Prelude.{◌≡◌, ◌++◌, IfOk, OnOk, string_bytes};
 ghost use Rattle.session_tape.specs.Lines.{letter_of, piece_line, end_line, refusal_comment, first_comment};
 
 use std::alloc::Global;

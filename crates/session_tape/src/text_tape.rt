@@ -1,6 +1,6 @@
 //! A tape in memory.
 
-ghost use Rattle.std.specs.Prelude.{◌≡◌, [], true, false, IfOk};
+ghost use Rattle.std.specs.Prelude.{◌≡◌, [], false, IfOk};
 ghost use Rattle.session_tape.specs.Text.{told};
 
 use crate::tape::{MakeTape, Tape, Unmade};

@@ -1,7 +1,6 @@
 //! Cells change their place in the rings.
 ghost use Rattle.std.specs.Prelude.{◌≡◌, ◌<◌, length};
 ghost use Rattle.urb_arena.specs.Inner.Turns.{Sound, link_at, with_next, with_prev, with_link, moved};
-ghost use Rattle.urb_arena.specs.declared.cells.Links.{Links};
 
 use crate::cells::{Base, Block, Links};
 

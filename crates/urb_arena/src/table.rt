@@ -1,6 +1,5 @@
 //! The table: its block, and the rings of its lanes and of the free cells.
 ghost use Rattle.std.specs.Prelude.{◌≡◌, ◌<◌, ◌≤◌, ◌+◌, ◌++◌, ◌∷◌, [], length, map, get_or, slice_set, replicate, IfOk, IfErr, IsTrue, ◌↔◌, MatchOption, None, Some, option_copied};
-ghost use Rattle.std.specs.Borrow.{sem};
 ghost use Rattle.urb_arena.specs.Inner.Turns.{ring_of, start};
 ghost use Rattle.urb_arena.specs.Lanes.{find_in, without, first_key, key_after_in, count, ByKey};
 ghost use Rattle.urb_arena.specs.Inner.Tables.{IsTable, lanes_of};

@@ -1,6 +1,6 @@
 //! How a transfer ended, in both protocols.
 
-ghost use Rattle.std.specs.Prelude.{◌≡◌, ℕ, ◌<◌};
+ghost use Rattle.std.specs.Prelude.{◌≡◌, ℕ};
 ghost use Rattle.usb_base.specs.Status.{status_of, status_byte, errno_of, is_success};
 
 use crate::errno;

@@ -1,9 +1,9 @@
 //! Replies read.
 
-ghost use Rattle.std.specs.Prelude.{◌≡◌, ◌+◌, ◌*◌, ◌≤◌, ◌<◌, length, drop, map, OnErr, IfOk, Option, Some, None};
+ghost use Rattle.std.specs.Prelude.{◌≡◌, ◌+◌, ◌*◌, ◌≤◌, ◌<◌, length, map, OnErr, IfOk, Some};
 ghost use Rattle.usb_base.specs.Number.{byte_at, be_at};
 ghost use Rattle.packet_stream.specs.Format.{reading};
-ghost use Rattle.std.specs.Int.{w16, w32};
+ghost use Rattle.std.specs.Int.{w16};
 ghost use Rattle.usbip_op.specs.Rows.{rows_at, rows_size, IsRowsSize};
 ghost use Rattle.usbip_op.specs.Devices.{device_at, interface_at, listed_at, listed_form};
 ghost use Rattle.usbip_op.specs.Replies.{replies};

@@ -1,8 +1,6 @@
 //! Packets written.
 
 ghost use Rattle.std.specs.Prelude.{◌≡◌, ◌++◌, ℕ, List, length, flat_map};
-ghost use Rattle.std.specs.Int.{w16, w32};
-ghost use Rattle.usb_base.specs.Number.{be};
 ghost use Rattle.usbip_op.specs.Spelling.{spelling, device_bytes, listed_bytes, interface_bytes, numbers_bytes, classes_bytes, head_bytes};
 ghost use Rattle.usbip_op.specs.Ranges.{IsInRange, IsWritable, way_of};
 ghost use Rattle.packet_stream.specs.Format.{reading, Whole};

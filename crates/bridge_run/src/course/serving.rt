@@ -1,6 +1,6 @@
 //! The gateway between a host that is dialled and clients that come to a door.
 
-ghost use Rattle.std.specs.Prelude.{◌≡◌, ◌≤◌, ℕ, Bool, [], false, true, Some, OnOk, IfErr};
+ghost use Rattle.std.specs.Prelude.{◌≡◌, ◌≤◌, ℕ, Bool, [], false, Some, OnOk, IfErr};
 ghost use Rattle.usb_base.specs.declared.side.Side.TheVariants.{Client, Host};
 ghost use Rattle.bridge_run.specs.events.Prescribed.{Prescribed};
 ghost use Rattle.bridge_run.specs.course.Course.{Course, Making};

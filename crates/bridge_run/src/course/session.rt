@@ -1,7 +1,7 @@
 //! Serving, once both sides can come.
 
 ghost use Rattle.std.specs.Prelude.{◌≡◌, ℕ, ◌<◌, ◌||◌, List, [], ◌∷◌, not, true, false, Option, OnOk, OnErr, IfOk, IfErr, length};
-ghost use Rattle.bridge_run.specs.events.Events.{LinkEvent as PastEvent, ClientComes, event_of, is_quiet};
+ghost use Rattle.bridge_run.specs.events.Events.{LinkEvent as PastEvent, event_of, is_quiet};
 ghost use Rattle.bridge_run.specs.course.Course.{Course, Next};
 ghost use Rattle.bridge_run.specs.course.Course.{AtDoor, AtClient, Takes};
 ghost use Rattle.bridge_run.specs.course.Calls.{Goes, put, quiet};

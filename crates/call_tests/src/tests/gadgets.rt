@@ -1,6 +1,6 @@
 //! Each device over a short life. What a life is asks for a gadget alone, so it is a function of any gadget.
 
-ghost use Rattle.std.specs.Prelude.{◌≡◌, ◌<◌, IfOk};
+ghost use Rattle.std.specs.Prelude.{◌≡◌, IfOk};
 ghost use Rattle.model_device.specs.Transfer.{IsTransfer};
 
 use crate::tests::laid_out::{GoesByRows, bytes, goes_by, setup};

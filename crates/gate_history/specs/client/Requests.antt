@@ -1,7 +1,6 @@
 -- What a submit asks for, beside the bytes that it is written in.
-use Rattle.std.specs.Prelude.{ℕ, ◌+◌, ◌==◌, nat_lt, Bool, not, if◌then◌else◌, Some, None}
+use Rattle.std.specs.Prelude.{ℕ, ◌+◌, ◌==◌, Bool, not, if◌then◌else◌, Some, None}
 use Rattle.usb_base.specs.Setup.{is_in_setup, setup_at}
-use Rattle.usb_base.specs.declared.setup.Setup.{Setup}
 use Rattle.usb_base.specs.declared.transfer.Transfer.{Transfer}
 use Rattle.usbip_urb.specs.declared.packet.Submit.{Submit}
 use Rattle.usbip_urb.specs.Sizes.{is_out}

@@ -1,6 +1,6 @@
 //! The answers of requests.
 
-ghost use Rattle.std.specs.Prelude.{◌≡◌, ◌<◌, ◌++◌, false, OnOk, OnErr};
+ghost use Rattle.std.specs.Prelude.{◌≡◌, ◌++◌, false, OnOk, OnErr};
 ghost use Rattle.std.specs.List.{AllByRecursion};
 ghost use Rattle.packet_stream.specs.Writes.{Begins};
 ghost use Rattle.redir_wire.specs.Header.{IdFits, is_wide};
