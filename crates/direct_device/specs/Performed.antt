@@ -60,8 +60,8 @@ pub record FitsPerform {S : Type 0} (d : Direct S) (performed n : ℕ) : Type 0 
   pub first : performed ≡ 0
   pub live : d.imported ≡ true → list_any (λ (l : Live). is_number n l.load) d.live ≡ true
 
--- none was performed that an unlink takes back at once, or that the device's loss ends; and where the device never answers
--- cancelled, none that is answered as taken back
+-- none was performed that an unlink takes back at once, or that the device's loss ends; and where the device never
+-- answers cancelled, none that is answered as taken back
 abbrev pub Fits : {S : Type 0} → Meaning S → Direct S → (ℕ → ℕ) → Deed → Type 0
 Fits m d performed (Perform ep n) = FitsPerform d (performed n) n
 Fits m d performed (Unlink by target) = list_any is_won (answers m d (Unlink by target)) ≡ true → performed target ≡ 0

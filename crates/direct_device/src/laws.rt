@@ -11,8 +11,8 @@ use model_device::Gadget;
 
 /// A law of legal traces alone, whatever device they are of: no submit is performed twice, nor, in a session, after its
 /// end; none is whose unlink takes it back at once or that the device's loss ends. Where the device never answers
-/// cancelled, one whose unlink is answered -104 wasn't performed either, and one that the host was asked for by an id and
-/// that is answered 0 was performed once.
+/// cancelled, one whose unlink is answered -104 wasn't performed either, and one that the host was asked for by an id
+/// and that is answered 0 was performed once.
 pub fn performed_at_most_once<G: Gadget>()
     ensures { ItemsFit G.meaning }
 {}

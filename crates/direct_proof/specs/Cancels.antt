@@ -1,5 +1,5 @@
--- What the gateway asks of its host: nothing that it refuses; a cancel names only what was asked back; behind a change only
--- requests of endpoint 0 wait.
+-- What the gateway asks of its host: nothing that it refuses; a cancel names only what was asked back; behind a change
+-- only requests of endpoint 0 wait.
 use Rattle.std.specs.Prelude.{◌≡◌, ℕ, ◌==◌, Bool, true, false, List, [], ◌∷◌, ◌++◌}
 use Rattle.std.specs.List.{list_any, AllByRecursion}
 use Rattle.redir_wire.specs.declared.packet.RedirControl.TheVariants as plain

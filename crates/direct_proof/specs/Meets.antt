@@ -44,7 +44,8 @@ Early w j = record {
   running : w.host.running ≡ [];
 }
 
--- how far the two have met: the host has read the gateway's hello, the gateway the host's, and it was told of the device
+-- how far the two have met: the host has read the gateway's hello, the gateway the host's, and it was told of the
+-- device
 abbrev pub Meets : {S : Type 0} → World S → Shared → Type 0
 Meets w j = record {
   host : w.host.guest.first ≡ false → w.host.guest.caps ≡ both_caps;

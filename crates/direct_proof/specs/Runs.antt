@@ -1,5 +1,5 @@
--- Lists of moves from a world on, and that what they do is what the device attached directly does. Lists of moves have the latest
--- first.
+-- Lists of moves from a world on, and that what they do is what the device attached directly does. Lists of moves have
+-- the latest first.
 use Rattle.std.specs.Prelude.{◌≡◌, List, [], ◌∷◌}
 use Rattle.std.specs.List.{flat_map}
 use Rattle.usbip_urb.specs.declared.client.ClientPacket.{ClientPacket}

@@ -1,4 +1,5 @@
--- The simulation: what a gateway and a modelled device do between two wires of bytes is what the device attached directly does.
+-- The simulation: what a gateway and a modelled device do between two wires of bytes is what the device attached
+-- directly does.
 use Rattle.std.specs.Prelude.{◌≡◌, not, Bool, true, false, if◌then◌else◌, List, [], ◌∷◌, ◌++◌, map, Some}
 use Rattle.std.specs.List.{flat_map, list_any}
 use Rattle.usb_base.specs.declared.refusal.Refusal.{Refusal}
@@ -38,8 +39,8 @@ since_import m d said [] = said
 since_import m d said (Import ∷ xs) = since_import m (act m d Import) [] xs
 since_import m d said (x ∷ xs) = since_import m (act m d x) (said ++ answers m d x) xs
 
--- replies to its list and import requests, and then the answers that the items behind its import give; without an import its
--- replies alone
+-- replies to its list and import requests, and then the answers that the items behind its import give; without an
+-- import its replies alone
 pub record RepliesFirst {S : Type 0} (m : Meaning S) (s : S) (deeds : List Deed) (packets : List ClientPacket) : Type 0 where
   pub replies : List OpPacket
   pub answers : List UrbPacket

@@ -23,7 +23,7 @@ requests_of c = map (λ (t : Submission). t.request) (accepted (history first_id
 abbrev pub answers_of : Course → List UrbPacket
 answers_of c = flat_map urb_in (all_of to_client first_id (history first_id c.events))
 
--- the items that these steps told are a legal trace of the device attached directly, with these requests, and the answers that
--- clients were sent are its answers
+-- the items that these steps told are a legal trace of the device attached directly, with these requests, and the
+-- answers that clients were sent are its answers
 abbrev pub AreDirectSteps : {S : Type 0} → Meaning S → S → List Step → Type 0
 AreDirectSteps m s steps = IsDirect m s (requests_of (course m s steps)) (trace m s steps) (answers_of (course m s steps))

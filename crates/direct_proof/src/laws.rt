@@ -1,4 +1,5 @@
-//! Laws of the relation between the machines and the device attached directly, as contracts of functions that do nothing.
+//! Laws of the relation between the machines and the device attached directly, as contracts of functions that do
+//! nothing.
 
 ghost use Rattle.std.specs.Prelude.{◌≡◌, List};
 ghost use Rattle.std.specs.List.{flat_map, AllByRecursion};
@@ -19,10 +20,11 @@ ghost use Rattle.direct_proof.specs.Steps.{answers_of, requests_of};
 
 use model_device::Gadget;
 
-/// A law: under every schedule of moves that bytes can make, what happens is a legal trace of the device attached directly,
-/// and the client gets just its answers. Clients list, import, submit, unlink, are refused and leave, one after another;
-/// packets get to either side; the device performs, sends packets of its streams, and is taken away. From any moment on at
-/// which gateway and host stand for the device attached directly, they still do afterwards; at the first moment they do.
+/// A law: under every schedule of moves that bytes can make, what happens is a legal trace of the device attached
+/// directly, and the client gets just its answers. Clients list, import, submit, unlink, are refused and leave, one
+/// after another; packets get to either side; the device performs, sends packets of its streams, and is taken away.
+/// From any moment on at which gateway and host stand for the device attached directly, they still do afterwards; at
+/// the first moment they do.
 pub fn moves_are_direct<G: Gadget>()
     ensures kept { (world : World G) (shared : Shared) (moves : List Move) → Related G.meaning world shared → IsRun world.gate
         → AllByRecursion IsMove moves → AreDirectly G.meaning world shared moves }
@@ -32,18 +34,18 @@ pub fn moves_are_direct<G: Gadget>()
         → flat_map urb_in (runs_from G.meaning (first_world first) moves).outs ≡ all_answers G.meaning (first_direct first) (runs_from G.meaning (first_world first) moves).deeds }
 {}
 
-/// A law: the simulation. For every device that meets *Gadget*, and every list of steps on bytes whose course is known, as that
-/// of a system is: the items that they told are a legal trace of the device attached directly, with the requests of the
-/// submits that were accepted; what clients were sent, list and import replies aside, is just its answers, and each client
-/// got its replies before its answers; and neither gateway nor host refuses the other.
+/// A law: the simulation. For every device that meets *Gadget*, and every list of steps on bytes whose course is known,
+/// as that of a system is: the items that they told are a legal trace of the device attached directly, with the
+/// requests of the submits that were accepted; what clients were sent, list and import replies aside, is just its
+/// answers, and each client got its replies before its answers; and neither gateway nor host refuses the other.
 pub fn simulation<G: Gadget>()
     ensures { (first : G) (steps : List PastStep) → IsKnown G.meaning first (course G.meaning first steps)
         → Simulates G.meaning first steps }
 {}
 
-/// A law: the simulation, of a system that stands for steps, with no premise beyond that. The trace that it keeps is a legal
-/// trace of the device attached directly, with the requests of the submits that were accepted, and what clients were sent,
-/// list and import replies aside, is just its answers.
+/// A law: the simulation, of a system that stands for steps, with no premise beyond that. The trace that it keeps is a
+/// legal trace of the device attached directly, with the requests of the submits that were accepted, and what clients
+/// were sent, list and import replies aside, is just its answers.
 pub fn systems_are_direct<G: Gadget>()
     ensures direct { (first : G) (kept : SystemKept G) (steps : List PastStep) → SystemStands G.meaning first kept steps
         → IsDirect G.meaning first (requests_of (course G.meaning first steps)) kept.trace (answers_of (course G.meaning first steps)) }

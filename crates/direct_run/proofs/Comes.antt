@@ -1,5 +1,5 @@
--- The packets that a piece makes whole, on either wire: the hello is the first of all, and those behind it have the headers that
--- are spelled with the capabilities of both. So far have the sides met.
+-- The packets that a piece makes whole, on either wire: the hello is the first of all, and those behind it have the
+-- headers that are spelled with the capabilities of both. So far have the sides met.
 use Rattle.std.proofs.Common.{◌≡◌, ℕ, List, [], ◌∷◌, ◌++◌, drop, map, sym, ap, ◌∙◌, subst}
 use Rattle.std.specs.Prelude.{zero, suc}
 use Rattle.packet_stream.specs.Split.{Position, past}

@@ -1,5 +1,5 @@
--- A course on the wires of bytes: what has come to either side is a front of what was sent to it, and is read as a front of the
--- packets that were sent.
+-- A course on the wires of bytes: what has come to either side is a front of what was sent to it, and is read as a
+-- front of the packets that were sent.
 use Rattle.std.proofs.Common.{◌≡◌, ℕ, List, [], ◌∷◌, ◌++◌, length, take, drop, map, None, refl, sym, ap, ◌∙◌, subst, append-nil, append_assoc}
 use Rattle.std.specs.List.{flat_map}
 use Rattle.std.proofs.lemmas.List.{drop_at, map-append, take-append-drop}

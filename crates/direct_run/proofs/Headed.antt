@@ -1,5 +1,5 @@
--- What stands on a wire: a hello, and behind it packets that are spelled with the same capabilities. Each has the header that it
--- is read with.
+-- What stands on a wire: a hello, and behind it packets that are spelled with the same capabilities. Each has the
+-- header that it is read with.
 use Rattle.std.proofs.Common.{◌≡◌, ℕ, ◌==◌, not, Bool, true, false, List, [], ◌∷◌, ◌++◌, map, Option, Some, None, refl, sym, ap, ◌∙◌, subst, lit<, arith}
 use Rattle.std.specs.List.{flat_map}
 use Rattle.packet_stream.specs.Format.{IsSound, wrong_at}

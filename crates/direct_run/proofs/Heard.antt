@@ -1,5 +1,5 @@
--- How far the host has heard its guest: before the gateway's hello it sends nothing behind its own, and from then on it spells
--- and reads by the capabilities that both have. Lists of items have the latest first.
+-- How far the host has heard its guest: before the gateway's hello it sends nothing behind its own, and from then on it
+-- spells and reads by the capabilities that both have. Lists of items have the latest first.
 use Rattle.std.proofs.Common.{◌≡◌, ℕ, Bool, true, false, cond, ◌||◌, List, [], ◌∷◌, ◌++◌, Option, Some, None, refl, sym, ap, ◌∙◌, subst}
 use Rattle.std.specs.List.{find, flat_map, list_any}
 use Rattle.std.proofs.lemmas.List.Folds.{list_any-append}

@@ -1,5 +1,5 @@
--- What a system knows of its course with an event or an act more: by its gateway, that the pieces are bytes, and by its host, that
--- what it sent can be read.
+-- What a system knows of its course with an event or an act more: by its gateway, that the pieces are bytes, and by its
+-- host, that what it sent can be read.
 use Rattle.std.proofs.Common.{List, [], ◌∷◌, sym, subst, lit<}
 use Rattle.std.specs.List.{flat_map}
 use Rattle.usb_base.specs.Number.{AreBytes}

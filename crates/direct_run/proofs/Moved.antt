@@ -1,5 +1,5 @@
--- How a course goes on where a list of moves follows it: an event's items, and the packets that a piece has brought to either side,
--- are one move each.
+-- How a course goes on where a list of moves follows it: an event's items, and the packets that a piece has brought to
+-- either side, are one move each.
 use Rattle.std.proofs.Common.{◌≡◌, ℕ, ◌||◌, false, List, [], ◌∷◌, ◌++◌, map, take, refl, sym, ap, ◌∙◌, subst, append-nil, append_assoc}
 use Rattle.std.specs.List.{flat_map, list_any}
 use Rattle.std.proofs.lemmas.List.Folds.{list_any-append}

@@ -1,4 +1,5 @@
--- What a step makes of a system: it stands for it too, knows of it what it has to know, and told what it sends and tells.
+-- What a step makes of a system: it stands for it too, knows of it what it has to know, and told what it sends and
+-- tells.
 use Rattle.std.proofs.Common.{◌≡◌, ℕ, ◌≤◌, List, ◌∷◌, ◌++◌, length, drop, sym, ap, ◌∙◌, subst}
 use Rattle.std.specs.List.{flat_map}
 use Rattle.usb_base.specs.Number.{AreBytes}

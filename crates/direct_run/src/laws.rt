@@ -35,8 +35,8 @@ pub fn wires_lose_nothing<G: Gadget>()
 {}
 
 /// A law: what steps do with bytes in pieces, moves do with packets. Behind every list of steps whose course is known,
-/// as that of a system is, there are moves that leave both sides the same, have the same packets on the wires and to the
-/// clients, and tell the same; and the host has refused nothing of what the gateway sent it.
+/// as that of a system is, there are moves that leave both sides the same, have the same packets on the wires and to
+/// the clients, and tell the same; and the host has refused nothing of what the gateway sent it.
 pub fn steps_are_moves<G: Gadget>()
     ensures { (first : G) (steps : List PastStep) → IsKnown G.meaning first (course G.meaning first steps)
         → AreMoves G.meaning first (course G.meaning first steps) (trace_of G.meaning first steps) }

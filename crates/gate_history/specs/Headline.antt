@@ -1,8 +1,9 @@
--- The gateway in a page: what it sends to each side and tells, whatever comes, and however it is cut. An event is a piece of
--- a side's stream, or its end (Events.antt); lists of events have the latest first. Their history (History.antt) is what
--- came, in the order in which packets became whole: each packet, each wrong place and each end, as what it means behind
--- those before it (Past.antt, Meaning.antt). All that is sent, told and counted is what each mark of the history gives, one
--- after another (All.antt): packets to the clients and to the host (Output.antt), and notes (Notes.antt).
+-- The gateway in a page: what it sends to each side and tells, whatever comes, and however it is cut. An event is a
+-- piece of a side's stream, or its end (Events.antt); lists of events have the latest first. Their history
+-- (History.antt) is what came, in the order in which packets became whole: each packet, each wrong place and each end,
+-- as what it means behind those before it (Past.antt, Meaning.antt). All that is sent, told and counted is what each
+-- mark of the history gives, one after another (All.antt): packets to the clients and to the host (Output.antt), and
+-- notes (Notes.antt).
 use Rattle.std.specs.Prelude.{ℕ, List, ◌≡◌, ◌++◌}
 use Rattle.gate_history.specs.declared.note.Note.{Note}
 use Rattle.gate_history.specs.declared.note.Counts.{Counts}

@@ -36,8 +36,8 @@ use packet_stream::splits_well;
 use redir_data::FromHost;
 use usbip_urb::ClientFormat;
 
-/// A law: the stream of each side is its packets and a rest in one way, and the splitting that the history is made of is
-/// that way. Whoever reads the history may take `IsSplitting` for `split`.
+/// A law: the stream of each side is its packets and a rest in one way, and the splitting that the history is made of
+/// is that way. Whoever reads the history may take `IsSplitting` for `split`.
 pub fn streams_split_one_way()
     ensures client { SplitsWell (λ s. client_packets) (λ s p. s) client_start }
     ensures host { SplitsWell (stream_format ToGuest) after stream_start }
@@ -93,8 +93,8 @@ pub fn states_are_sound()
 {}
 
 /// A law: no id is in flight twice. The ids that an item draws, but for a submit with more descriptors than any that
-/// is read, are in range and in flight nowhere, and no two are one. So are those of every item that events bring. A drawn
-/// id is the first after the last one that isn't in flight.
+/// is read, are in range and in flight nowhere, and no two are one. So are those of every item that events bring. A
+/// drawn id is the first after the last one that isn't in flight.
 pub fn ids_fly_once()
     ensures once { (first : ℕ) (items : List Item) → Once (in_flight (past first items)) }
     ensures fresh { (first : ℕ) (items : List Item) (item : Item) → HasFewPackets item
@@ -125,8 +125,8 @@ pub fn streams_hold_few()
     ensures { (first : ℕ) (items : List Item) → AllByRecursion (λ o. length (held_of o) ≤ MAX_HELD) (streams (past first items)) }
 {}
 
-/// A law: where the bytes of events are bytes, the host can read all packets that it was sent for them, spelled with the
-/// capabilities that are agreed behind them.
+/// A law: where the bytes of events are bytes, the host can read all packets that it was sent for them, spelled with
+/// the capabilities that are agreed behind them.
 pub fn sent_can_be_read()
     ensures { SentCanBeRead }
 {}

@@ -17,8 +17,8 @@ pub trait Source {
     /// How often it has failed. The count stands still at `u64::MAX`.
     ghost faults: { Self → ℕ };
 
-    /// What a read does: the source before it, the buffer after it, the answer, and the source after it. Only a call can
-    /// show it.
+    /// What a read does: the source before it, the buffer after it, the answer, and the source after it. Only a call
+    /// can show it.
     ghost read_gives: { Self → List ℕ → Result ℕ Fault → Self → Type 0 };
 
     /// Reads the next bytes into the front of `buf`, and returns how many: none exactly at the end. A call

@@ -11,8 +11,8 @@ use crate::sink::Sink;
 use crate::source::Source;
 use crate::writer::Writer;
 
-/// A reader of std, as `rt.reader()`, or a writer, as `io::writer(&rt)`, whose faults are counted. It reads straight into
-/// the caller's buffer, and writes straight through: write big pieces. It tells the bytes left, or held, where its
+/// A reader of std, as `rt.reader()`, or a writer, as `io::writer(&rt)`, whose faults are counted. It reads straight
+/// into the caller's buffer, and writes straight through: write big pieces. It tells the bytes left, or held, where its
 /// reader or writer does, and standard input and output don't.
 #[derive(Drop)]
 pub struct StdStream<T> {

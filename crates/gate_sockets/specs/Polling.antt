@@ -9,8 +9,8 @@ use Rattle.gate_sockets.specs.declared.step.Step.TheVariants.{Moved, Blocked, Cu
 use Rattle.gate_sockets.specs.State.{State, closed, idled}
 use Rattle.gate_sockets.specs.Step.{step_for}
 
--- how many polls pass a link over of which a read has taken all that was there, or had to wait, where the system tells of
--- nothing before
+-- how many polls pass a link over of which a read has taken all that was there, or had to wait, where the system tells
+-- of nothing before
 abbrev pub most_rests : ℕ
 most_rests = RESTS
 
@@ -27,8 +27,8 @@ Waits false polled old new = (polled ≡ NotYet) × (new ≡ idled (record old {
 abbrev pub took : {S : Type 0} → ℕ → ℕ → State S → State S
 took n room state = if nat_lt n room then record state { rests = most_rests } else state
 
--- what a read means that had so much room: the bytes that it gave, an end, or nothing yet. It never fails: where the link
--- has broken, it has ended.
+-- what a read means that had so much room: the bytes that it gave, an end, or nothing yet. It never fails: where the
+-- link has broken, it has ended.
 abbrev pub Hears : {S : Type 0} → Step → ℕ → Polled → State S → State S → Type 0
 Hears (Moved n) room polled old new = (n ≡ 0 → (polled ≡ Ended) × (new ≡ closed old)) × (0 < n → (polled ≡ Took n) × (new ≡ took n room old))
 Hears Blocked room polled old new = Waits old.broken polled old new

@@ -165,9 +165,9 @@ impl<S: Connection> Socket<S> {
         self.hear(step, limit)
     }
 
-    /// Whether the poll passes the link over, after a moment. Where a read had to wait, or took all that was there, the next
-    /// polls do so, until the system tells of something; but not for long, since nobody waits for what it tells while the
-    /// other side never rests. A link that has broken is read to its end.
+    /// Whether the poll passes the link over, after a moment. Where a read had to wait, or took all that was there, the
+    /// next polls do so, until the system tells of something; but not for long, since nobody waits for what it tells
+    /// while the other side never rests. A link that has broken is read to its end.
     fn passes_over<N: Network>(&mut self, ready: &mut Ready, network: &N) -> bool
         ensures over { IsTrue result → PassesOver self.old self.new }
         ensures reads { result ≡ false → self.new ≡ record self.old { rests = self.new.rests } }

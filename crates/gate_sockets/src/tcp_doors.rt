@@ -184,9 +184,9 @@ impl<'rt, N: Network + Eprint> TcpDoors<'rt, N> {
         }
     }
 
-    /// Waits for a moment where a write is blocked, which was tried so often before. Where it may not go on then, and has
-    /// waited some moments, both links are read ahead: a peer that writes before it reads may be what it waits for. What
-    /// is read ahead is copied more often than what a poll reads.
+    /// Waits for a moment where a write is blocked, which was tried so often before. Where it may not go on then, and
+    /// has waited some moments, both links are read ahead: a peer that writes before it reads may be what it waits for.
+    /// What is read ahead is copied more often than what a poll reads.
     fn wait_to_write(&mut self, tried: u32)
         ensures client { ReadOn N.Stream.read_gives N.Stream.write_gives self.old.client self.new.client }
         ensures host { ReadOn N.Stream.read_gives N.Stream.write_gives self.old.host self.new.host }

@@ -1,5 +1,5 @@
-//! What the doors say on standard error: a line for each link that comes or goes, and for each fault. Where a line can't
-//! be written, nothing else changes.
+//! What the doors say on standard error: a line for each link that comes or goes, and for each fault. Where a line
+//! can't be written, nothing else changes.
 
 use gate_outside::Side;
 use std::net::SocketAddr;

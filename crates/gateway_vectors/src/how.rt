@@ -19,7 +19,8 @@ pub struct How {
     pub write_fails: Option<u64>,
     pub host_fails: Option<u64>,
     pub client_fails: Option<u64>,
-    /// How many bytes the file to record in can have, the write to it that fails, and that it is there or can't be made.
+    /// How many bytes the file to record in can have, the write to it that fails, and that it is there or can't be
+    /// made.
     pub tape_room: usize,
     pub tape_fails: Option<u64>,
     pub there: Option<u64>,

@@ -1,5 +1,5 @@
--- The packets of a made tape's client ("usbip_protocol", OP_REQ_IMPORT, USBIP_CMD_SUBMIT and USBIP_CMD_UNLINK). Its submits
--- have no flags and no isochronous packets.
+-- The packets of a made tape's client ("usbip_protocol", OP_REQ_IMPORT, USBIP_CMD_SUBMIT and USBIP_CMD_UNLINK). Its
+-- submits have no flags and no isochronous packets.
 use Rattle.std.specs.Prelude.{ℕ, ◌+◌, ◌*◌, ◌%◌, List, [], ◌∷◌, replicate}
 use Rattle.usb_base.specs.Text.{padded}
 use Rattle.usbip_op.specs.declared.exported.TheConstants.{BUS_ID}

@@ -1,5 +1,5 @@
--- The lines of the tape that a number stands for. Each round has a number, made of the one before it, which says how many
--- bytes it moves, and in which of four orders.
+-- The lines of the tape that a number stands for. Each round has a number, made of the one before it, which says how
+-- many bytes it moves, and in which of four orders.
 use Rattle.std.specs.Prelude.{ℕ, zero, suc, ◌+◌, ◌*◌, ◌/◌, ◌%◌, ◌^◌, ◌==◌, if◌then◌else◌, List, [], ◌∷◌, ◌++◌, map}
 use Rattle.packet_show.specs.declared.tape.TapeLine.{TapeLine}
 use Rattle.packet_show.specs.declared.tape.TapeLine.TheVariants.{Client, ToHost, ToGate, Perform}

@@ -10,8 +10,8 @@ use crate::product::Product;
 use std::alloc::Global;
 use usb_base::{EpAddr, Memory, Outcome, StreamPacket, Transfer};
 
-/// The function that a device has for its host: what it tells of itself, and what its own endpoints do. Its value is what it
-/// keeps beside the state that requests of endpoint 0 change.
+/// The function that a device has for its host: what it tells of itself, and what its own endpoints do. Its value is
+/// what it keeps beside the state that requests of endpoint 0 change.
 pub trait Function: Drop {
     ghost described: { Device Self };
 

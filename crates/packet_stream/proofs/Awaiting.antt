@@ -146,7 +146,8 @@ none_yet (c ∷ cs) k b more size steady idle none less =
 
 -- ---- formats whose packets can be awaited
 
--- checks that see only their bytes, need rising numbers of them, and pass where they aren't tried; a size that no later byte makes less
+-- checks that see only their bytes, need rising numbers of them, and pass where they aren't tried; a size that no later
+-- byte makes less
 pub record IsPatient {P R : Type 0} (f : Format P R) : Type 0 where
   pub first : ℕ
   pub steady : AreSteady first f.checks

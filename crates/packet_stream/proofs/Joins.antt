@@ -74,8 +74,8 @@ reading-right test left right sort f g b e =
     let j = joined test left right sort f g in
     ap (reading_by j b) (joined-right test f g b e) ∙ reading_as right g b j (rw e refl) (rw e refl) (wrong_at g.checks b)
 
--- what joining asks of the test and of both formats: the test sees n bytes, no check is made before they are there, and the
--- packets of f pass it and those of g don't
+-- what joining asks of the test and of both formats: the test sees n bytes, no check is made before they are there, and
+-- the packets of f pass it and those of g don't
 pub record IsJoin {P Q R : Type 0} (n : ℕ) (test : List ℕ → Bool) (f : Format P R) (g : Format Q R) : Type 0 where
   pub sees : (b more : List ℕ) → n ≤ length b → test (b ++ more) ≡ test b
   pub left_waits : Waits n f.checks

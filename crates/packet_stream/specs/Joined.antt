@@ -16,7 +16,8 @@ abbrev pub JoinedFits : {P Q R : Type 0} → Format P R → Format Q R → P ⊎
 JoinedFits f g (inl p) = f.Fits p
 JoinedFits f g (inr q) = g.Fits q
 
--- a packet is one of f where the test holds, and else one of g: so each is named among both, and `sort` says which it is
+-- a packet is one of f where the test holds, and else one of g: so each is named among both, and `sort` says which it
+-- is
 abbrev pub joined : {P Q X R : Type 0} → (List ℕ → Bool) → (P → X) → (Q → X) → (X → P ⊎ Q) → Format P R → Format Q R → Format X R
 joined test left right sort f g = record {
   checks = guarded test f.checks ++ guarded (λ b. not (test b)) g.checks;

@@ -8,8 +8,8 @@ use Rattle.packet_stream.specs.Format.{Format}
 use Rattle.packet_stream.specs.Split.{Reader, reads}
 use Rattle.packet_stream.specs.Streams.{StreamView, passed, ended, after_piece, Nexts, Puts, Changes}
 
--- how the stream is read, which of its packets take memory, what a packet or a wrong place makes of the taker, and whether
--- that takes nothing more
+-- how the stream is read, which of its packets take memory, what a packet or a wrong place makes of the taker, and
+-- whether that takes nothing more
 pub record Taking (S P T : Type 0) : Type 1 where
   pub reader : Reader S P Reason
   pub takes_memory : P → Bool

@@ -23,8 +23,8 @@ pub trait PacketFormat {
 
     ghost takes_memory: { Self.Packet → Bool };
 
-    /// Takes the packet at the front of the bytes off them, where one is whole. Memory is wanting only for one that takes
-    /// some; then, and where none is whole, the bytes stay.
+    /// Takes the packet at the front of the bytes off them, where one is whole. Memory is wanting only for one that
+    /// takes some; then, and where none is whole, the bytes stay.
     fn take(
         alloc: Global,
         state: &Self::State,

@@ -35,8 +35,8 @@ pub trait PacketTaker<F: PacketFormat> {
         ensures { result ≡ over_in self.now };
 }
 
-/// Puts a piece into a stream, and hands on the packets that are whole with it. The stream ends once nothing more is taken
-/// of it. For want of memory the piece hasn't come, or all before the packet that met it are taken.
+/// Puts a piece into a stream, and hands on the packets that are whole with it. The stream ends once nothing more is
+/// taken of it. For want of memory the piece hasn't come, or all before the packet that met it are taken.
 pub fn take_piece<F: PacketFormat, T: PacketTaker<F>>(
     alloc: Global,
     stream: &mut Stream<F>,

@@ -24,7 +24,8 @@ abbrev pub from_packet : Header × RedirPacket → (Header × RedirControl) ⊎ 
 from_packet (h, Plain p) = inl (h, p)
 from_packet (h, Carrying p) = inr (h, p)
 
--- the packets of a stream that goes this way: the hello, where it is still to come, or a later one with the agreed capabilities
+-- the packets of a stream that goes this way: the hello, where it is still to come, or a later one with the agreed
+-- capabilities
 abbrev pub redir_packets : Bool → Caps → Way → Format (Header × RedirPacket) Reason
 redir_packets first caps way = joined begins_plain (λ p. (p.0, Plain p.1)) (λ p. (p.0, Carrying p.1)) from_packet (plain first caps way) (carrying first caps way)
 

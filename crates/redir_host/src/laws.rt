@@ -52,9 +52,9 @@ pub fn hosts_stay_sound<G: Gadget>()
     ensures unplug { (host : Host G) → IsSound host → IsSound (unplug_move host).host }
 {}
 
-/// A law: the requests that a host keeps, with their marks, and the mark of the next one are read off a line of requests
-/// and resets in order of arrival: a reset stands in it as a request does, and goes with the first request of endpoint 0
-/// behind it.
+/// A law: the requests that a host keeps, with their marks, and the mark of the next one are read off a line of
+/// requests and resets in order of arrival: a reset stands in it as a request does, and goes with the first request of
+/// endpoint 0 behind it.
 pub fn queues_are_lines<G: Gadget>()
     ensures queue { (first : G) (items : List Item) → (run G.meaning first items).queue ≡ queue_in false (line G.meaning first items) }
     ensures reset { (first : G) (items : List Item) → (run G.meaning first items).resets_next ≡ reset_in false (line G.meaning first items) }

@@ -1,4 +1,5 @@
--- Capabilities: which are there, which are agreed, and which the first word of a hello tells ("Capabilities negotiation").
+-- Capabilities: which are there, which are agreed, and which the first word of a hello tells ("Capabilities
+-- negotiation").
 use Rattle.std.specs.Prelude.{ℕ, ◌≡◌, ◌==◌, ◌&&◌, Bool, List, [], ◌∷◌, get_or}
 use Rattle.std.specs.Int.RustNames.{bit_and}
 use Rattle.usb_base.specs.Text.{padded}
@@ -28,7 +29,7 @@ caps_of h = record { 0 = get_or h.words 0 0 }
 abbrev pub hello_of : List ℕ → Caps → Hello
 hello_of name caps = record { version = padded 64 name; words = caps.0 ∷ [] }
 
--- what the gateway announces: the version of a device_connect, the acknowledgement of a disconnect, max packet sizes, 64-bit ids
--- and 32-bit bulk lengths
+-- what the gateway announces: the version of a device_connect, the acknowledgement of a disconnect, max packet sizes,
+-- 64-bit ids and 32-bit bulk lengths
 abbrev pub announced : Caps
 announced = ANNOUNCED

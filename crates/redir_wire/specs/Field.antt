@@ -30,8 +30,8 @@ field_bytes (Upper n) = le w16 (n / 65536)
 abbrev pub wire_bytes : List Field → List ℕ
 wire_bytes fs = flat_map field_bytes fs
 
--- the ranges that the types of the code have, beside those of bytes: each number has its width, and a table as many rows as a
--- device has endpoints, and interfaces
+-- the ranges that the types of the code have, beside those of bytes: each number has its width, and a table as many
+-- rows as a device has endpoints, and interfaces
 abbrev pub AreInRange : List Field → Type 0
 AreInRange [] = Unit {0}
 AreInRange (Bytes ns ∷ fs) = AreInRange fs

@@ -7,7 +7,8 @@ use Rattle.packet_stream.specs.declared.read.ReadError.{ReadError}
 use Rattle.packet_stream.specs.declared.read.ReadError.TheVariants as error
 use Rattle.redir_wire.specs.declared.packet.Header.{Header}
 
--- the answer for the bytes behind this header is what was found there; memory is wanting only where a whole packet takes some
+-- the answer for the bytes behind this header is what was found there; memory is wanting only where a whole packet
+-- takes some
 abbrev pub AnswersBehind : {P : Type 0} → Header → (P → Bool) → Result (Option P) ReadError → Found P Reason → Type 0
 AnswersBehind h takes (Ok (Some p)) found = found ≡ Whole p h.length
 AnswersBehind h takes (Ok None) found = found ≡ Short

@@ -1,4 +1,5 @@
--- The table of packets: each type's number, the way that it goes, the capability that it wants, and its length ("Packet types").
+-- The table of packets: each type's number, the way that it goes, the capability that it wants, and its length ("Packet
+-- types").
 use Rattle.std.specs.Prelude.{ℕ, ◌+◌, ◌-◌, ◌*◌, ◌/◌, ◌%◌, Bool, true, false, ◌==◌, ◌&&◌, ◌||◌, nat_le, nat_lt, List, [], ◌∷◌, Option, Some, None, find, if◌then◌else◌, codes}
 use Rattle.std.specs.Option.{option_map, option_map_or, option_or}
 use Rattle.usb_base.specs.Number.{byte_at}
@@ -29,8 +30,8 @@ of_type number way wanted fixed more tail = record { number = number; way = way;
 abbrev pub with : Caps → ℕ → Option More
 with capability bytes = Some (record { capability = capability; bytes = bytes })
 
--- a type's name in capitals, what the protocol says of it, and the packet whose fields stand at their places behind a header of
--- this length; behind a hello's text are words
+-- a type's name in capitals, what the protocol says of it, and the packet whose fields stand at their places behind a
+-- header of this length; behind a hello's text are words
 abbrev pub plain_type : PlainKind → List ℕ × TypeRow × (Caps → ℕ → List ℕ → RedirControl)
 plain_type plain.Hello = (codes "HELLO", of_type 0 None None 64 None Words, λ caps length b. controls.Hello (hello_at ((length - 64) / 4) b))
 plain_type plain.Connect = (codes "DEVICE_CONNECT", of_type 1 (Some ToGuest) None 8 (with CONNECT_VERSION 2) Nothing, λ caps length b. controls.Connect (connect_at (has caps CONNECT_VERSION) b))

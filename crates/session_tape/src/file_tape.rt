@@ -116,7 +116,8 @@ fn open_new<R: Files>(system: &R, name: &str, how: &OpenOptions) -> io::Result<R
     how.open(system, name)
 }
 
-/// Writes all of the bytes to what is there, or, where that fails, a front of them. Where nothing is there it fails, too.
+/// Writes all of the bytes to what is there, or, where that fails, a front of them. Where nothing is there it fails,
+/// too.
 fn put_all<K: Sink>(there: &mut Option<K>, bytes: &[u8]) -> Result<(), Failed>
     ensures made { is_some there.new ≡ is_some there.old }
     ensures goes { OnOk result (GoesTo K.contents there.old there.new bytes.now) }

@@ -40,8 +40,8 @@ impl<'a> Behind<'a> {
         }
     }
 
-    /// Appends what fits of those packets that fill an interrupt request. Each is copied once. For want of memory some of
-    /// the bytes may be there, which the caller cuts off; it takes none where they have no byte.
+    /// Appends what fits of those packets that fill an interrupt request. Each is copied once. For want of memory some
+    /// of the bytes may be there, which the caller cuts off; it takes none where they have no byte.
     pub fn append_bodies(&self, filling: Filling, out: &mut Bytes) -> Result<(), Memory>
         requires { filling.count ≤ length self.now }
         ensures sent { AppendsSome result out.old out.new (filling_body self.now filling) }
@@ -57,8 +57,8 @@ impl<'a> Behind<'a> {
     }
 }
 
-/// Takes the packets that fill a request, and gives what fits of them. One packet alone is handed on; of several each is
-/// copied once, and for want of memory all stay; it takes none where no byte is given.
+/// Takes the packets that fill a request, and gives what fits of them. One packet alone is handed on; of several each
+/// is copied once, and for want of memory all stay; it takes none where no byte is given.
 pub(crate) fn take_filling(
     alloc: Global,
     packets: &mut VecDeque<StreamPacket>,

@@ -32,9 +32,9 @@ pub struct IsoFilling {
 }
 
 impl<'a> Behind<'a> {
-    /// What an isochronous request is given of these packets: one for each descriptor, as far as it fits, joined without
-    /// gaps. A packet that is longer than its descriptor has the status -75. None where there are fewer packets than
-    /// descriptors.
+    /// What an isochronous request is given of these packets: one for each descriptor, as far as it fits, joined
+    /// without gaps. A packet that is longer than its descriptor has the status -75. None where there are fewer packets
+    /// than descriptors.
     pub fn iso_filling(&self, descs: &Descs) -> Option<IsoFilling>
         ensures cut { MatchOption result (iso_cut descs.now self.now ≡ None) (FillsIso descs.now self.now) }
         ensures fits { (size : ℕ) → IsTrue (laid descs.now size) → IfSome result (λ filling. filling.done ≤ size) }
@@ -61,8 +61,8 @@ impl<'a> Behind<'a> {
         IsoFilling { done, errors }
     }
 
-    /// Appends what fits of these packets, one for each descriptor, without gaps. Each is copied once. For want of memory
-    /// some of the bytes may be there, which the caller cuts off; it takes none where they have no byte.
+    /// Appends what fits of these packets, one for each descriptor, without gaps. Each is copied once. For want of
+    /// memory some of the bytes may be there, which the caller cuts off; it takes none where they have no byte.
     pub fn append_pieces(&self, descs: &Descs, out: &mut Bytes) -> Result<(), Memory>
         requires { length descs.now ≤ length self.now }
         ensures sent { AppendsSome result out.old out.new (pieces descs.now self.now) }
@@ -74,8 +74,8 @@ impl<'a> Behind<'a> {
         Ok(())
     }
 
-    /// Appends the descriptors with what came of each of these packets. For want of memory some of the bytes may be there,
-    /// which the caller cuts off; it takes none where there are no descriptors.
+    /// Appends the descriptors with what came of each of these packets. For want of memory some of the bytes may be
+    /// there, which the caller cuts off; it takes none where there are no descriptors.
     pub fn append_filled(&self, descs: &Descs, out: &mut Bytes) -> Result<(), Memory>
         requires { length descs.now ≤ length self.now }
         ensures sent { AppendsSome result out.old out.new (descs_bytes (all_filled descs.now self.now)) }

@@ -22,9 +22,9 @@ use usbip_urb::Descs;
 /// How many packets are held at most.
 pub const MAX_HELD: usize = 1024;
 
-/// A stream that is up, with the row that its endpoint had when it went up, and the packets that came and that no request
-/// took, at most 1,024. For a request that waits each packet is looked at once, and what it is given is copied once, or
-/// not at all where one packet fills it.
+/// A stream that is up, with the row that its endpoint had when it went up, and the packets that came and that no
+/// request took, at most 1,024. For a request that waits each packet is looked at once, and what it is given is copied
+/// once, or not at all where one packet fills it.
 #[derive(Drop)]
 pub struct Up {
     alloc: Global,

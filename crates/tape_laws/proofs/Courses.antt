@@ -29,7 +29,8 @@ use Rattle.tape_laws.proofs.Events.{IsPiece, Fits, AllFit}
 abbrev pub seen : Course → Course
 seen c = record c { busy = false; waits = 0; left = 0; told = [] }
 
--- the first of the events have their lines behind the first line, and the lines of the later ones wait, which send nothing
+-- the first of the events have their lines behind the first line, and the lines of the later ones wait, which send
+-- nothing
 pub record Gathers (p : Prescribed) (first : List ℕ) (events : List LinkEvent) (written waiting : List ℕ) : Type 0 where
   pub taped : List LinkEvent
   pub later : List LinkEvent

@@ -1,5 +1,5 @@
--- Where a tape ends whose lines are a front of those of some events: behind the lines of the first of these, within those of
--- the next one.
+-- Where a tape ends whose lines are a front of those of some events: behind the lines of the first of these, within
+-- those of the next one.
 use Rattle.std.proofs.Common.{◌≡◌, ◌⊎◌, ℕ, ◌-◌, ◌==◌, Bool, false, cond, List, [], ◌∷◌, ◌++◌, refl, sym, ap, ◌∙◌, subst, inl, inr, append_assoc, append-nil}
 use Rattle.std.proofs.lemmas.Bool.{cond_both}
 use Rattle.std.proofs.lemmas.List.{append_cancel_left}

@@ -36,8 +36,8 @@ read_of asked tape = read_tape (over_events (replay asked.first_id)) tape
 abbrev pub text_of : ServeSettings → List ℕ → List ℕ
 text_of asked tape = whole_text (over_events (replay asked.first_id)) tape
 
--- The run has ended by itself. The tape has the lines of all events that it took, and is read as these. Its replay prints
--- what each of them sends, and the links were written just that, where they were up.
+-- The run has ended by itself. The tape has the lines of all events that it took, and is read as these. Its replay
+-- prints what each of them sends, and the links were written just that, where they were up.
 pub record Plays (asked : ServeSettings) (c : Course) (new : Outside) (held : List ℕ) : Type 0 where
   pub end : ServeEnd
   pub course : Course
@@ -89,8 +89,9 @@ rest_text asked behind more =
     let command = over_events (replay asked.first_id) in let x = read_lines command behind (tape_lines more) in x.text ++ last_text command x
 
 -- The run was cut short, by a fault or for want of memory, within a call. The tape has the lines of the first of the
--- events that were taken, by that call, too, and behind them less than the lines of the next one. Its replay prints what
--- these first events send, and then what it makes of the rest; and of no other event was anything written to the links.
+-- events that were taken, by that call, too, and behind them less than the lines of the next one. Its replay prints
+-- what these first events send, and then what it makes of the rest; and of no other event was anything written to the
+-- links.
 pub record PlaysInPart (asked : ServeSettings) (c : Course) (new : Outside) (held : List ℕ) : Type 0 where
   pub next : Next
   pub course : Course
@@ -118,8 +119,8 @@ pub record IsAsBefore (before : Option (List ℕ)) (new : Outside) (held : List 
   pub unserved : IsUnserved new
   pub before-is : before ≡ Some held
 
--- Nothing was served, since the first line couldn't be written, of which the tape has a front. It is read as no event, and
--- its replay prints what a replay of nothing does: the hello and the counts.
+-- Nothing was served, since the first line couldn't be written, of which the tape has a front. It is read as no event,
+-- and its replay prints what a replay of nothing does: the hello and the counts.
 pub record PlaysNothing (asked : ServeSettings) (new : Outside) (held : List ℕ) : Type 0 where
   pub unserved : IsUnserved new
   pub front : IsFront held (first_comment asked.first_id)

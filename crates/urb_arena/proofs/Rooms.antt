@@ -1,4 +1,5 @@
--- Room for n cells is two columns of bare places, and the way back; and the values of the structs that take no space. Assumes `Logic`.
+-- Room for n cells is two columns of bare places, and the way back; and the values of the structs that take no space.
+-- Assumes `Logic`.
 use Rattle.std.proofs.Common.{◌≡◌, ℕ, zero, suc, ◌+◌, List, [], ◌∷◌, refl}
 use lib.ListN.{length, replicate}
 use seplogic.Ra.Ura.{Ura}

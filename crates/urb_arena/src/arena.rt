@@ -55,8 +55,8 @@ impl<T> Model for Arena<T> {
 impl<T> Arena<T> {
     ghost use Rattle.urb_arena.specs.ArenaLends.{lends_at};
 
-    /// An arena of so many lanes, all empty, with room for `capacity` values in all lanes together. It makes one request
-    /// for memory, and no other call makes any.
+    /// An arena of so many lanes, all empty, with room for `capacity` values in all lanes together. It makes one
+    /// request for memory, and no other call makes any.
     pub fn new(alloc: Global, capacity: usize, lanes: usize) -> Result<Arena<T>, Memory>
         requires { (0 < capacity) × (capacity ≤ MOST) × (0 < lanes) × (lanes ≤ MOST) }
         ensures { IfOk result (λ a. a ≡ arena_view (replicate lanes []) capacity) }

@@ -1,4 +1,5 @@
--- Parts of bytes and numbers at places: joined again, spelled again, read again, behind a front, and before what comes later.
+-- Parts of bytes and numbers at places: joined again, spelled again, read again, behind a front, and before what comes
+-- later.
 use Rattle.std.proofs.Common.{◌≡◌, ℕ, zero, suc, ◌+◌, ◌-◌, ◌^◌, ◌<◌, ◌≤◌, List, ◌++◌, length, take, drop, refl, sym, ap, ◌∙◌, append_assoc, arith, inl, inr}
 use Rattle.std.specs.Int.{Width, w16, w32, byte_len, from_be_bytes, from_le_bytes, byte_at, bytes_high_first, bytes_low_first}
 use Rattle.std.proofs.lemmas.Bool.{cases_lt}

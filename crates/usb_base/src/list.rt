@@ -10,7 +10,8 @@ use std::marker::Model;
 #[derive(Drop)]
 pub struct List<T> {
     pub(crate) items: Vec<T>,
-    /// How many of them, at the front, are no more of the list: their room is kept for what may be put before the others.
+    /// How many of them, at the front, are no more of the list: their room is kept for what may be put before the
+    /// others.
     pub(crate) front: usize,
 }
 
@@ -93,8 +94,8 @@ impl<T: Drop> List<T> {
         self.items.truncate(self.front + len);
     }
 
-    /// After a call that puts items behind the first `len`: where it gave an error, what it has put there is dropped. So
-    /// all of them come, or none.
+    /// After a call that puts items behind the first `len`: where it gave an error, what it has put there is dropped.
+    /// So all of them come, or none.
     pub fn cut_on_err<V, E>(&mut self, len: usize, given: Result<V, E>) -> Result<V, E>
         requires { OnErr given (len ≤ length self.old) }
         ensures same { result ≡ given }

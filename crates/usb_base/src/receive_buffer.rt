@@ -64,10 +64,10 @@ impl ReceiveBuffer {
         self.bytes.clear();
     }
 
-    /// Puts a piece at the end, where `awaited` bytes are to stand in all before any is taken: there is room for them at
-    /// once, and behind it none is moved again. Bytes are moved only to memory that is kept for later, where they have no
-    /// room else, and where others before them were dropped, no fewer than they are or such that there is no room else. It
-    /// takes no memory for an empty piece.
+    /// Puts a piece at the end, where `awaited` bytes are to stand in all before any is taken: there is room for them
+    /// at once, and behind it none is moved again. Bytes are moved only to memory that is kept for later, where they
+    /// have no room else, and where others before them were dropped, no fewer than they are or such that there is no
+    /// room else. It takes no memory for an empty piece.
     pub fn receive(&mut self, piece: &[u8], awaited: usize) -> Result<(), Memory>
         ensures ok { OnOk result (self.new ≡ self.old ++ piece.now) }
         ensures err { OnErr result (self.new ≡ self.old) }
@@ -83,8 +83,8 @@ impl ReceiveBuffer {
         self.bytes.append(piece)
     }
 
-    /// Keeps the memory of an empty list for later, where that is long, and more than what it keeps so far. The other list
-    /// has that then.
+    /// Keeps the memory of an empty list for later, where that is long, and more than what it keeps so far. The other
+    /// list has that then.
     pub fn keep_memory(&mut self, empty: &mut Bytes)
         ensures stands { self.new ≡ self.old }
         ensures empty { empty.new ≡ empty.old }
@@ -96,8 +96,8 @@ impl ReceiveBuffer {
         }
     }
 
-    /// Moves the bytes to the memory that is kept for later, where they have no room for so many more and that has. So one
-    /// block goes round with the long bodies, and not two in turns, each out of the processor's cache by then.
+    /// Moves the bytes to the memory that is kept for later, where they have no room for so many more and that has. So
+    /// one block goes round with the long bodies, and not two in turns, each out of the processor's cache by then.
     fn move_to_spare(&mut self, more: usize) -> Result<(), Memory>
         ensures { self.new ≡ self.old }
     {

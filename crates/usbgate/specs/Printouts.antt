@@ -1,4 +1,5 @@
--- What each command is to print that goes over a tape or over nothing, and how it is to end, where it meets no fault and has memory.
+-- What each command is to print that goes over a tape or over nothing, and how it is to end, where it meets no fault
+-- and has memory.
 use Rattle.std.specs.Prelude.{Option, Some, None}
 use Rattle.usbgate_commands.specs.declared.words.command.Command.{Command}
 use Rattle.usbgate_commands.specs.declared.words.command.Command.TheVariants.{Replay, Model, Show, Make, Load, Unknown}

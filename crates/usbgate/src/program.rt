@@ -26,11 +26,11 @@ use usbgate_tapes::runs::{model, replay, show};
 use usbgate_tapes::{Status, USAGE, load, make, print};
 
 /// Does what the words say: `replay` puts the tape to a gate, and prints what that sends and which sides it refuses;
-/// `model` does the steps of the tape with a gateway and a modelled device, and prints what each tells; `show` prints the
-/// packets of one side's stream in it; `serve` puts what comes by the doors to a gate, prints which sides it refuses, and
-/// records what comes, where that is asked; `host` lends a modelled device to a guest that comes by the doors; `make`
-/// prints the tape that a number stands for, and `load` what a modelled loop counts over it. Words that are no command
-/// print how they should be.
+/// `model` does the steps of the tape with a gateway and a modelled device, and prints what each tells; `show` prints
+/// the packets of one side's stream in it; `serve` puts what comes by the doors to a gate, prints which sides it
+/// refuses, and records what comes, where that is asked; `host` lends a modelled device to a guest that comes by the
+/// doors; `make` prints the tape that a number stands for, and `load` what a modelled loop counts over it. Words that
+/// are no command print how they should be.
 pub fn run<S: Source, K: Sink, D: Doors, T: MakeTape>(
     alloc: Global,
     words: &[&str],

@@ -31,8 +31,8 @@ fn exit_code(status: Status) -> ExitCode
     ExitCode::from(status.code())
 }
 
-/// Runs the command that the arguments name, over the standard streams, over sockets and over a file to record in. Where
-/// the system gives no sockets that can be waited for, no link comes up.
+/// Runs the command that the arguments name, over the standard streams, over sockets and over a file to record in.
+/// Where the system gives no sockets that can be waited for, no link comes up.
 fn run_args(
     rt: &(impl Env
         + Input
@@ -115,8 +115,8 @@ fn words_behind_the_name(alloc: Global, args: &[String]) -> Result<Vec<&str>, Me
     Ok(words)
 }
 
-/// Says on standard error what is wrong with words that are no command, and which commands there are. Of a file that was
-/// there before the tape has said it.
+/// Says on standard error what is wrong with words that are no command, and which commands there are. Of a file that
+/// was there before the tape has said it.
 fn tell_wrong(rt: &(impl Eprint + AllocGlobal), words: &[&str], was_there: bool) {
     if was_there {
         return;

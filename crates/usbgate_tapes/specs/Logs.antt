@@ -1,5 +1,5 @@
--- What a run has read and written, by the log of its calls, which says it over any tape and any sink, since it speaks of
--- nothing but what their calls answered; and what follows of a tape and a sink that tell their bytes.
+-- What a run has read and written, by the log of its calls, which says it over any tape and any sink, since it speaks
+-- of nothing but what their calls answered; and what follows of a tape and a sink that tell their bytes.
 use Rattle.std.specs.Prelude.{◌≡◌, ℕ, List, [], ◌++◌, Option, Some, Result}
 use Rattle.gate_outside.specs.declared.fault.Failed.{Failed}
 use Rattle.gate_outside.specs.Moved.{Move, Moved, moved, MayFollow, Moves}
@@ -9,9 +9,10 @@ use Rattle.usbgate_tapes.specs.Printout.{Printout}
 use Rattle.usbgate_tapes.specs.Run.{LeavesTold, LeavesWhereTold}
 use Rattle.usbgate_tapes.specs.Wants.{RunsOut}
 
--- These reads were made, one after the other, and these bytes were written. For each tape that begins with what the reads
--- gave, and ends there where the last of them found the end, what follows of it and what was written is what a run leaves
--- over a tape and a sink that tell their bytes. Memory ran out only where these reads and what was written allow it.
+-- These reads were made, one after the other, and these bytes were written. For each tape that begins with what the
+-- reads gave, and ends there where the last of them found the end, what follows of it and what was written is what a
+-- run leaves over a tape and a sink that tell their bytes. Memory ran out only where these reads and what was written
+-- allow it.
 pub record LeavesByLog {S K : Type 0} (read_gives : S → List ℕ → Result ℕ Failed → S → Type 0) (write_gives : K → List ℕ → Result ℕ Failed → K → Type 0) (status : Status) (p : Printout) (tape_old tape_new : S) (out_old out_new : K) : Type 0 where
   pub reads : List Move
   pub read : Moved read_gives reads tape_old tape_new
@@ -37,8 +38,8 @@ pub record RunWrites {K : Type 0} (write_gives : K → List ℕ → Result ℕ F
   pub by_log : WritesByLog write_gives status p out_old out_new
   pub where_told : (remaining : Option (List ℕ)) → LeavesWhereTold status p remaining remaining (contents out_old) (contents out_new)
 
--- these reads were made, one after the other, and this holds of each tape that begins with what they gave, and ends there
--- where the last of them found the end
+-- these reads were made, one after the other, and this holds of each tape that begins with what they gave, and ends
+-- there where the last of them found the end
 pub record HoldsOfRead {S : Type 0} (read_gives : S → List ℕ → Result ℕ Failed → S → Type 0) (Holds : List ℕ → Type 0) (tape_old tape_new : S) : Type 0 where
   pub reads : List Move
   pub read : Moved read_gives reads tape_old tape_new

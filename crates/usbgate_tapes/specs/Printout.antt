@@ -1,4 +1,5 @@
--- What a command is to print that goes over a tape or over nothing, and how it is to end, where it meets no fault and has memory.
+-- What a command is to print that goes over a tape or over nothing, and how it is to end, where it meets no fault and
+-- has memory.
 use Rattle.std.specs.Prelude.{Bool, true, false, List, [], ◌∷◌, ◌++◌, ℕ, codes, Option, None}
 use Rattle.usbgate_tapes.specs.declared.status.Status.{Status}
 use Rattle.usbgate_tapes.specs.declared.status.Status.TheVariants.{Done, Usage}

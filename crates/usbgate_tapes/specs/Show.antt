@@ -1,5 +1,5 @@
--- The command `show`: a line for each packet of one side's stream, at its place. A wrong place has a line, too, which is
--- the last of its stream. Each client's stream is split by itself.
+-- The command `show`: a line for each packet of one side's stream, at its place. A wrong place has a line, too, which
+-- is the last of its stream. Each client's stream is split by itself.
 use Rattle.std.specs.Prelude.{ℕ, ◌||◌, Bool, false, if◌then◌else◌, List, [], ◌∷◌, ◌++◌, Option, Some, None, is_some}
 use Rattle.std.specs.List.{flat_map}
 use Rattle.usb_base.specs.declared.side.Side.{Side}

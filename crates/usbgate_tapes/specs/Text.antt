@@ -1,5 +1,5 @@
--- The text that commands over tapes print: for each event or step the bytes sent to each side, then the refusals; at the
--- end the counts. A step's items come first.
+-- The text that commands over tapes print: for each event or step the bytes sent to each side, then the refusals; at
+-- the end the counts. A step's items come first.
 use Rattle.std.specs.Prelude.{ℕ, List, [], ◌∷◌, ◌++◌, codes}
 use Rattle.std.specs.List.{flat_map}
 use Rattle.std.specs.Fmt.{decimal}

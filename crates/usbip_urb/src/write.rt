@@ -24,8 +24,8 @@ pub fn write_urb(packet: &UrbPacket, out: &mut Bytes) -> Result<(), Memory>
     out.cut_on_err(before, pushed)
 }
 
-/// Appends the answer of a submit, whose body is moved: a long one is not copied where `out` has little else. For want of
-/// memory the bytes stay as they were.
+/// Appends the answer of a submit, whose body is moved: a long one is not copied where `out` has little else. For want
+/// of memory the bytes stay as they were.
 pub fn write_ret_submit(answer: RetSubmit, out: &mut Bytes) -> Result<(), Memory>
     requires { IsWritable (RetSubmitPacket answer) }
     ensures { Appends result out.old out.new (spelling (RetSubmitPacket answer)) }

@@ -41,8 +41,8 @@ start idle clients host = record {
 abbrev behind : List ℕ → LinkEvent → List ℕ
 behind lines e = lines ++ lines_of e []
 
--- A host's three pieces and its end, and a client's one, behind which it waits once. Each piece is sent to the client, and
--- so is recorded at once; a client's end waits for the next.
+-- A host's three pieces and its end, and a client's one, behind which it waits once. Each piece is sent to the client,
+-- and so is recorded at once; a client's end waits for the next.
 toy-ended : calls (toy 5) 24 (Goes Making (start 5 ((Piece (7 ∷ []) ∷ Wait ∷ []) ∷ []) (Piece (1 ∷ []) ∷ Piece (2 ∷ []) ∷ Piece (3 ∷ []) ∷ [])))
     ≡ Stops (Ended None) (record {
       events = SideEnd Host ∷ SidePiece Host (3 ∷ []) ∷ SideEnd Client ∷ SidePiece Host (2 ∷ []) ∷ ClientQuiet ∷ SidePiece Host (1 ∷ []) ∷ SidePiece Client (7 ∷ []) ∷ ClientComes ∷ [];

@@ -21,8 +21,8 @@ pub record EndsSo (s : Setting) (from : Outcome) (e : ServeEnd) (w : Outside) (o
   pub reaches : Reaches s from (Stops e course)
   pub tells : Tells w out course
 
--- memory may have run out within the event where a link failed, too, as what was sent by then was written, but not where
--- the sink or the tape failed
+-- memory may have run out within the event where a link failed, too, as what was sent by then was written, but not
+-- where the sink or the tape failed
 abbrev pub MayRunOut : ServeEnd → (List LinkEvent → LinkEvent → List ℕ → List ℕ → Type 0) → Prescribed → List LinkEvent → LinkEvent → List ℕ → List ℕ → Type 0
 MayRunOut WriteFault runs_out p = Never
 MayRunOut e runs_out p = RanOutWithin runs_out p

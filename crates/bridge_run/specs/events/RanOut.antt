@@ -1,5 +1,5 @@
--- Where memory ran out within an event, and what of the event had been sent to each side by then. What is served says it of
--- the event's items; the loop wants memory too, for the lines of refusals and for those of a recording.
+-- Where memory ran out within an event, and what of the event had been sent to each side by then. What is served says
+-- it of the event's items; the loop wants memory too, for the lines of refusals and for those of a recording.
 use Rattle.std.specs.Prelude.{◌≡◌, ◌⊎◌, ℕ, ◌||◌, Bool, true, false, List, []}
 use Rattle.bridge_run.specs.events.Events.{LinkEvent, ClientComes, ClientQuiet}
 use Rattle.bridge_run.specs.events.Prescribed.{Prescribed, gained}

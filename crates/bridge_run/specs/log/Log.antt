@@ -97,8 +97,8 @@ abbrev pub MayBegin : Side → Terms → List Call → Type 0
 MayBegin Client terms calls = quiet_rounds (asks_of calls) < terms.idle
 MayBegin Host terms calls = Unit {0}
 
--- more may come from this side, all is written that is sent for what came before, and each link is closed that is to be,
--- and no other
+-- more may come from this side, all is written that is sent for what came before, and each link is closed that is to
+-- be, and no other
 pub record MayAsk (side : Side) (terms : Terms) (p : Prescribed) (calls : List Call) : Type 0 where
   pub written : IsWritten terms p (events_of calls) calls
   pub goes_on : GoesOn terms p calls
@@ -115,8 +115,8 @@ IsTurnOf Client terms p calls = (has_just_come (asks_of calls) ≡ true) ⊎ Beg
 IsTurnOf Host terms p calls = (is_behind_host (asks_of calls) ≡ false) × (has_just_come (asks_of calls) ≡ true → is_up Client terms p (events_of calls) ≡ false)
 
 -- The host is dialled first, and once, and then the door is made, once. Nobody is asked for anything before all is
--- written, nor once it is to end, and both sides are asked in turn: for a client where none is there, and a side whose link
--- is up. A link is closed only behind an event that takes it down.
+-- written, nor once it is to end, and both sides are asked in turn: for a client where none is there, and a side whose
+-- link is up. A link is closed only behind an event that takes it down.
 abbrev pub AsksSettled : Terms → Prescribed → Call → List Call → Type 0
 AsksSettled terms p (Dial addr answer) calls = IsSomeAnd terms.host (λ host. addr ≡ host) × (calls ≡ [])
 AsksSettled terms p (Listen addr answer) calls = (addr ≡ terms.door) × IsDialled terms.host calls
@@ -149,8 +149,8 @@ pub record WroteInPart (tells : List ℕ → Type 0) (terms : Terms) (p : Prescr
   pub links : IsWrittenInPart terms p events calls
   pub told : InPart tells (told_of p (events_before calls)) (told_of p events)
 
--- all that the events before the latest send, and of that what it had sent before memory ran out, to each side whose link
--- was up; and no line for it
+-- all that the events before the latest send, and of that what it had sent before memory ran out, to each side whose
+-- link was up; and no line for it
 pub record WroteSent (runs_out : List LinkEvent → LinkEvent → List ℕ → List ℕ → Type 0) (tells : List ℕ → Type 0) (terms : Terms) (p : Prescribed) (e : LinkEvent) (events : List LinkEvent) (calls : List Call) : Type 0 where
   pub to_client : List ℕ
   pub to_host : List ℕ
@@ -167,8 +167,8 @@ HasWritten end.Memory runs_out tells terms p [] calls = (calls ≡ []) × tells 
 HasWritten end.Memory runs_out tells terms p (e ∷ events) calls = WroteSent runs_out tells terms p e events calls
 HasWritten e runs_out tells terms p events calls = Wrote tells terms p events calls
 
--- behind the answer that made the latest event, or the closing of a client's link, nothing was called but writes, and the
--- closing of the host's link
+-- behind the answer that made the latest event, or the closing of a client's link, nothing was called but writes, and
+-- the closing of the host's link
 abbrev pub JustCame : List Call → Type 0
 JustCame [] = ⊥
 JustCame (Write side bytes answer ∷ calls) = JustCame calls
@@ -185,9 +185,9 @@ pub record IsAtRest (terms : Terms) (p : Prescribed) (calls : List Call) : Type 
   pub is_taped : terms.taped ≡ true
 
 -- Why it ended. No link is up any more, and this is the first refusal; so many rounds in a row have brought nothing, no
--- more and no fewer, in each of which both sides were asked; as much has come as may; or the last call failed, which was
--- of this side. A sink or a tape fails, and memory runs out, behind the event that something is written for, or that is
--- taken; a tape fails too where lines are due behind a quiet round, and memory runs out before all, too.
+-- more and no fewer, in each of which both sides were asked; as much has come as may; or the last call failed, which
+-- was of this side. A sink or a tape fails, and memory runs out, behind the event that something is written for, or
+-- that is taken; a tape fails too where lines are due behind a quiet round, and memory runs out before all, too.
 abbrev pub HasEnded : ServeEnd → Terms → Prescribed → List Call → Type 0
 HasEnded (end.Ended refused) terms p calls = (is_over terms p (events_of calls) ≡ true) × (refused ≡ first_of (p.refusals (events_of calls)))
 HasEnded end.Idle terms p calls = GoesOn terms p calls × (quiet_rounds (asks_of calls) ≡ terms.idle) × BeginsRound terms p calls

@@ -9,8 +9,8 @@ use Rattle.gate_history.specs.write.Bytes.{out_client, out_host}
 use Rattle.bridge_run.specs.events.Events.{LinkEvent}
 use Rattle.bridge_run.specs.served.Gate.{gate_event, gate_events}
 
--- the first of its items were taken, and what they send, and no more, was sent. Memory was wanted to hold the piece, or for
--- the first of the items that are left
+-- the first of its items were taken, and what they send, and no more, was sent. Memory was wanted to hold the piece, or
+-- for the first of the items that are left
 pub record GateStops (first : ℕ) (events : List GateEvent) (e : GateEvent) (client host : List ℕ) : Type 0 where
   pub taken : List Item
   pub later : List Item

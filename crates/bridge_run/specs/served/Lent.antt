@@ -1,5 +1,5 @@
--- What the events of a modelled device send that is lent to a guest, and which they refuse: the guest is the client, and
--- what is done with the device's host goes by the events.
+-- What the events of a modelled device send that is lent to a guest, and which they refuse: the guest is the client,
+-- and what is done with the device's host goes by the events.
 use Rattle.std.specs.Prelude.{ℕ, Bool, true, false, if◌then◌else◌, List, [], ◌∷◌, ◌++◌, None}
 use Rattle.std.specs.List.{flat_map, list_any}
 use Rattle.usb_base.specs.declared.side.Side.TheVariants.{Client}

@@ -10,8 +10,8 @@ use Rattle.redir_host.specs.write.Output.{host_of, host_out}
 use Rattle.bridge_run.specs.events.Events.{LinkEvent}
 use Rattle.bridge_run.specs.served.Lent.{acts_of, acts_behind, has_come, lent_bytes}
 
--- behind these acts memory ran out within the next one: the first of its items were taken, and have sent this. Memory was
--- wanted to hold the bytes of a piece, or for the first of the items that are left
+-- behind these acts memory ran out within the next one: the first of its items were taken, and have sent this. Memory
+-- was wanted to hold the bytes of a piece, or for the first of the items that are left
 pub record ActStops {S : Type 0} (m : Meaning S) (s : S) (acts : List Act) (a : Act) (sent : List ℕ) : Type 0 where
   pub taken : List Item
   pub later : List Item

@@ -11,8 +11,8 @@ use Rattle.bridge_run.specs.events.Events.{LinkEvent, ClientComes, SideEnd}
 use Rattle.bridge_run.specs.events.Prescribed.{Prescribed, gained, is_of, refuses, drops}
 use Rattle.bridge_run.specs.log.Asks.{is_client}
 
--- as an event is taken, by whether the link was up before: a client's link comes with the client, and a side has its end
--- where its link is down
+-- as an event is taken, by whether the link was up before: a client's link comes with the client, and a side has its
+-- end where its link is down
 abbrev pub client_at : LinkEvent → Bool → Bool
 client_at ClientComes up = true
 client_at (SideEnd Client) up = false
@@ -49,7 +49,8 @@ told_of p (e ∷ events) = told_of p events ++ flat_map refusal_line (gained p.r
 
 -- ---- by the calls
 
--- a link comes up by the host that was dialled, or the client that has come, and goes down by its end, or by its closing
+-- a link comes up by the host that was dialled, or the client that has come, and goes down by its end, or by its
+-- closing
 abbrev pub up_behind : Side → Call → Bool → Bool
 up_behind side (Dial addr answer) up = (is_of Host side && is_ok answer) || up
 up_behind side (Accept answer) up = (is_of Client side && is_client answer) || up

@@ -22,12 +22,12 @@ use session_tape::NoTape;
 use std::alloc::Global;
 
 /// Makes a door, lends the device to the guest that comes to it, and goes in rounds. A round asks for the guest, where
-/// it hasn't come, and writes the host's hello to it as it comes. Then it polls the guest, performs the first request of
-/// each endpoint, offers the streams of all IN endpoints, and writes what that sends. It ends behind the guest's end, or
-/// behind bytes that are refused: what they send before is written, the link is closed, the refusal's line is written
-/// to `out`, and nothing more is done with the device. It ends too after `idle` rounds in a row that bring nothing, and
-/// once `budget` bytes have come, where the guest counts as one. The first call that fails is the last. The guest is the
-/// client's side; the host's has no link.
+/// it hasn't come, and writes the host's hello to it as it comes. Then it polls the guest, performs the first request
+/// of each endpoint, offers the streams of all IN endpoints, and writes what that sends. It ends behind the guest's
+/// end, or behind bytes that are refused: what they send before is written, the link is closed, the refusal's line is
+/// written to `out`, and nothing more is done with the device. It ends too after `idle` rounds in a row that bring
+/// nothing, and once `budget` bytes have come, where the guest counts as one. The first call that fails is the last.
+/// The guest is the client's side; the host's has no link.
 pub fn serve_host<G: Gadget, D: Doors, K: Sink>(
     alloc: Global,
     gadget: G,

@@ -86,8 +86,8 @@ impl<C: Served + Drop> Session<C> {
         self.sent.is_any() || self.rounds.is_last()
     }
 
-    /// Memory ran out as the event was taken. If it had sent bytes by then, its line is recorded, behind those that wait,
-    /// and they are written to each side whose link is up. None of its refusals is told. Says how serving ends.
+    /// Memory ran out as the event was taken. If it had sent bytes by then, its line is recorded, behind those that
+    /// wait, and they are written to each side whose link is up. None of its refusals is told. Says how serving ends.
     fn stop<D: Doors, T: Tape>(&mut self, event: LinkEvent, doors: &mut D, tape: &mut T) -> ServeEnd
         requires { Agrees self.old.rounds (outside (D.link doors.old) (D.door doors.old)) }
         ensures course { (first : C.First) (begun told : Option (List ℕ)) (c : Course) → IsPart (C.runs_out first) (C.sends first) c.events (event_of event.entry) self.old.sent.to_client self.old.sent.to_host → AreUp self.old.rounds c
@@ -126,8 +126,8 @@ impl<C: Served + Drop> Session<C> {
     }
 
     /// Takes one event: its lines are recorded, or wait, what it sends is written to each side whose link is up, then a
-    /// side that it refuses has its link closed, or a client that it lets go, and the lines of refusals are written. Says
-    /// whether the client's link was closed. For want of memory it ends as `stop` says.
+    /// side that it refuses has its link closed, or a client that it lets go, and the lines of refusals are written.
+    /// Says whether the client's link was closed. For want of memory it ends as `stop` says.
     fn put<D: Doors, K: Sink, T: Tape>(
         &mut self,
         event: LinkEvent,

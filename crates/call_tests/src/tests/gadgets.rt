@@ -9,9 +9,9 @@ use std::alloc::Global;
 use std::test::Fail;
 use usb_base::{Bytes, EpAddr, Memory, Outcome, Setup, StreamPacket, Transfer, UsbStatus};
 
-// What is done with a device, and what comes of it. `ask` puts a request to it, `offer` takes an offer of IN endpoint 1,
-// `send` sends bytes to OUT endpoint 1, and `want` wants so many bytes of IN endpoint 1. There come a status, how many
-// bytes went or came, and those that came; or nothing.
+// What is done with a device, and what comes of it. `ask` puts a request to it, `offer` takes an offer of IN endpoint
+// 1, `send` sends bytes to OUT endpoint 1, and `want` wants so many bytes of IN endpoint 1. There come a status, how
+// many bytes went or came, and those that came; or nothing.
 
 // Its reports are of the key A, and of B.
 const KEYBOARD: &str = "

@@ -1,7 +1,7 @@
 //! Lives of hosts: in each row a call, what it sends, and what it tells. What is sent was laid out by hand.
 //!
-//! A call is `g` and bytes of the guest, `b` and such bytes one by one, `p` or `o` and an endpoint, or `x`. What it tells
-//! is a word and its number, an id or a place, or nothing. A line behind `#` is a comment.
+//! A call is `g` and bytes of the guest, `b` and such bytes one by one, `p` or `o` and an endpoint, or `x`. What it
+//! tells is a word and its number, an id or a place, or nothing. A line behind `#` is a comment.
 
 /// A guest that asks nothing.
 pub const ASKS_NOTHING: &str = "

@@ -1,4 +1,5 @@
--- An answer that the gateway reads is the first that ran at the device attached directly, and what it sends is the same.
+-- An answer that the gateway reads is the first that ran at the device attached directly, and what it sends is the
+-- same.
 use Rattle.std.proofs.Common.{◌≡◌, ℕ, ◌==◌, ◌≤◌, not, Bool, true, false, cond, nat_lt, List, [], ◌∷◌, ◌++◌, map, filter, Option, Some, None, is_none, refl, sym, ap, ◌∙◌, arith, append-nil}
 use Rattle.std.specs.Prelude.{slice_get, drop}
 use Rattle.std.specs.List.{find, flat_map}

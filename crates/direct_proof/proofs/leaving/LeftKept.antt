@@ -1,5 +1,5 @@
--- A client that has imported leaves: its cancels and stops go behind what is on the wire. What is shared is kept, and the device
--- attached directly does as its item says.
+-- A client that has imported leaves: its cancels and stops go behind what is on the wire. What is shared is kept, and
+-- the device attached directly does as its item says.
 use Rattle.std.proofs.Common.{◌≡◌, ℕ, ◌||◌, Bool, true, false, List, [], ◌++◌, length, map, filter, refl, sym, ap, ◌∙◌, subst, append-nil, append_assoc, not, cond, ◌∷◌, Option, Some, None, is_none, true≢false}
 use Rattle.std.specs.Prelude.{zip}
 use Rattle.redir_data.specs.declared.packet.RedirPacket.{RedirPacket}

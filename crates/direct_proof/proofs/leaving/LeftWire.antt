@@ -1,4 +1,5 @@
--- The wire to the host behind a client that has left: the stops of all its streams stand at its end, and the last is the fence.
+-- The wire to the host behind a client that has left: the stops of all its streams stand at its end, and the last is
+-- the fence.
 use Rattle.std.proofs.Common.{◌≡◌, ℕ, zero, suc, ◌+◌, ◌≤◌, ◌⊎◌, inl, inr, Bool, true, false, cond, List, [], ◌∷◌, ◌++◌, length, Option, Some, None, is_none, is_some, refl, sym, ap, ◌∙◌, subst, arith, append_assoc, true≢false}
 use Rattle.std.specs.Prelude.{get_or, zip}
 use Rattle.redir_wire.specs.declared.packet.RedirControl.TheVariants as plain

@@ -1,4 +1,5 @@
--- The device performs a change, with success or refusing it, also a reset: what it flushes, and the facts that it tells.
+-- The device performs a change, with success or refusing it, also a reset: what it flushes, and the facts that it
+-- tells.
 use Rattle.std.proofs.Common.{◌≡◌, ℕ, ◌||◌, ◌&&◌, not, Bool, true, false, cond, List, [], ◌∷◌, ◌++◌, map, filter, Option, Some, None, refl, sym, ap, ◌∙◌, subst, arith, append-nil, ◌==◌, true≢false}
 use Rattle.std.specs.Prelude.{IfSome}
 use Rattle.std.specs.List.{find, list_any, AllByRecursion as Each}

@@ -1,4 +1,5 @@
--- A request that the host performs is the first of its endpoint at the device attached directly, and what comes of it is the same.
+-- A request that the host performs is the first of its endpoint at the device attached directly, and what comes of it
+-- is the same.
 use Rattle.std.proofs.Common.{◌≡◌, ℕ, ◌==◌, not, Bool, true, false, cond, List, [], ◌∷◌, ◌++◌, map, filter, Option, Some, None, is_some, refl, sym, ap, ◌∙◌, subst, arith}
 use Rattle.std.specs.Prelude.{IsSomeAnd, IsSome}
 use Rattle.std.specs.List.{find}

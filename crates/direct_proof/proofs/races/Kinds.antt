@@ -1,5 +1,5 @@
--- Moves of schedules in which submits, unlinks and changes race with what the device does, with its end and with clients that come
--- and go. No stream goes up or down, and none is up where a client leaves.
+-- Moves of schedules in which submits, unlinks and changes race with what the device does, with its end and with
+-- clients that come and go. No stream goes up or down, and none is up where a client leaves.
 use Rattle.std.specs.Prelude.{◌≡◌, ℕ, true, false, List, [], ◌∷◌, Option, Some, None, is_some}
 use Rattle.std.specs.List.{AllByRecursion as Each}
 use Rattle.usb_base.specs.Endpoint.{is_in_endpoint}
@@ -36,8 +36,8 @@ pub record EndsNone (st : State) (x : Route) : Type 0 where
   pub ups : Each (Stays x) st.streams
   pub waiting : Each (λ (p : Pending). is_touched (Routed x) p.submit.verdict ≡ false) st.live
 
--- what is made of it: it is answered at once, or it goes to the host by an id, by a packet of its own or by a route that ends no
--- stream
+-- what is made of it: it is answered at once, or it goes to the host by an id, by a packet of its own or by a route
+-- that ends no stream
 abbrev pub IsRaceVerdict : State → Verdict → Type 0
 IsRaceVerdict st (Routed x) = EndsNone st x
 IsRaceVerdict st (Stream row) = ⊥

@@ -1,4 +1,5 @@
--- The streams of a table's places, seen by the addresses of their endpoints: how those that go up and down, and that hold, are found.
+-- The streams of a table's places, seen by the addresses of their endpoints: how those that go up and down, and that
+-- hold, are found.
 use Rattle.std.proofs.Common.{◌≡◌, ◌≢◌, ℕ, ◌-◌, ◌<◌, ◌%◌, ◌==◌, nat_lt, Bool, true, false, cond, List, length, Option, Some, None, refl, sym, ap, ◌∙◌, subst, arith}
 use Rattle.std.specs.Prelude.{slice_set, option_map, is_some}
 use Rattle.std.proofs.lemmas.List.{get_or-set_same, get_or-set_other}

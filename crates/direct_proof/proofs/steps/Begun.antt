@@ -1,4 +1,5 @@
--- The present client is sent its replies, and then the answers that the device attached directly gives behind its import.
+-- The present client is sent its replies, and then the answers that the device attached directly gives behind its
+-- import.
 use Rattle.std.proofs.Common.{◌≡◌, ◌||◌, Bool, true, false, cond, List, [], ◌∷◌, ◌++◌, map, refl, sym, ap, ◌∙◌, append-nil, append_assoc}
 use Rattle.std.specs.List.{flat_map, list_any}
 use Rattle.std.proofs.lemmas.Grind.{flat_map-append}

@@ -1,5 +1,5 @@
--- Moves of streams: submits that wait for packets of one, changes with the stops of those that they end, starts and stops that
--- the host reads, packets and statuses that the gateway reads, and offers.
+-- Moves of streams: submits that wait for packets of one, changes with the stops of those that they end, starts and
+-- stops that the host reads, packets and statuses that the gateway reads, and offers.
 use Rattle.std.specs.Prelude.{◌≡◌, ℕ, true, false, List, [], ◌∷◌, is_some}
 use Rattle.usb_base.specs.Endpoint.{is_in_endpoint}
 use Rattle.usbip_urb.specs.declared.client.ClientPacket.TheVariants.{Urb}
@@ -20,8 +20,8 @@ use Rattle.gate_history.specs.declared.verdict.Verdict.TheVariants.{Routed, Stre
 use Rattle.direct_run.specs.Moves.{World, Move, ByClient, HostReads, GateReads, Offers}
 use Rattle.direct_proof.specs.Running.{stream_endpoint}
 
--- it waits for packets of a stream, which goes up where it is down, or it is a change, ahead of which the streams that it ends are
--- stopped
+-- it waits for packets of a stream, which goes up where it is down, or it is a change, ahead of which the streams that
+-- it ends are stopped
 abbrev pub MovesStreams : Verdict → Type 0
 MovesStreams (Stream row) = Unit {0}
 MovesStreams (Routed x) = is_change x ≡ true

@@ -1,4 +1,5 @@
--- A submit that goes to the host and ends no stream is the same item at the device attached directly, and keeps what is shared.
+-- A submit that goes to the host and ends no stream is the same item at the device attached directly, and keeps what is
+-- shared.
 use Rattle.std.proofs.Common.{◌≡◌, ℕ, ◌<◌, ◌==◌, ◌||◌, Bool, true, false, cond, List, [], ◌∷◌, ◌++◌, map, filter, None, refl, sym, ap, ◌∙◌, subst, append-nil, append_assoc, inl, inr, ◌⊎◌}
 use Rattle.std.specs.List.{AllByRecursion as Each}
 use Rattle.std.proofs.lemmas.Bool.{both_ways}

@@ -1,4 +1,5 @@
--- What is known of a submit that goes to the host and ends no stream: its id and its number are new, and it may stand behind a change.
+-- What is known of a submit that goes to the host and ends no stream: its id and its number are new, and it may stand
+-- behind a change.
 use Rattle.std.proofs.Common.{◌≡◌, ℕ, ◌<◌, ◌==◌, ◌||◌, Bool, true, false, List, [], ◌∷◌, ◌++◌, map, filter, sym, ◌∙◌, subst, arith, ◌⊎◌}
 use Rattle.std.specs.List.{list_any, AllByRecursion as Each}
 use Rattle.std.proofs.lemmas.Bool.{both_ways, or_parts}

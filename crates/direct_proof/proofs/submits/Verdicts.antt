@@ -1,4 +1,5 @@
--- Both machines say the same of a submit: with no change live the gateway knows the device's endpoints, and with one it needn't.
+-- Both machines say the same of a submit: with no change live the gateway knows the device's endpoints, and with one it
+-- needn't.
 use Rattle.std.proofs.Common.{◌≡◌, ℕ, ◌≤◌, ◌<◌, ◌==◌, ◌||◌, nat_le, Bool, true, false, cond, List, [], ◌∷◌, ◌++◌, map, filter, length, Option, Some, None, is_some, refl, sym, ap, ◌∙◌, subst, arith, append-nil, true≢false}
 use Rattle.std.specs.List.{list_any, AllByRecursion as Each}
 use Rattle.std.proofs.lemmas.List.{length-map}

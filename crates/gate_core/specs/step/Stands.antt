@@ -52,8 +52,8 @@ pub record Translates (first : ℕ) (t : Kept) (xs : List Item) : Type 0 where
   pub unlinked : t.unlinked ≡ capped (length (filter is_won_unlink (all_of to_client first (past first xs))))
   pub dropped : t.dropped ≡ capped (length (all_of dropped first (past first xs)))
 
--- what these packets leave of the splitting is held; nothing is where the stream has met its wrong place, and memory ran
--- out for that
+-- what these packets leave of the splitting is held; nothing is where the stream has met its wrong place, and memory
+-- ran out for that
 abbrev pub IsLeftBy : {S P : Type 0} → Reader S P Reason → StreamView S → Splitting S P Reason → List (ℕ × P) → Bool → Type 0
 IsLeftBy r kept x given false = IsLeft r kept x given
 IsLeftBy r kept x given true = Closed x given

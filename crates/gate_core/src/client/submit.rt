@@ -38,8 +38,8 @@ use usb_base::{Bytes, Memory, Reason};
 use usbip_urb::Submit;
 
 impl Kept {
-    /// A submit: a client that hasn't imported the device can't send one, nor one with a number that is live. Any other is
-    /// accepted, and goes on by its verdict.
+    /// A submit: a client that hasn't imported the device can't send one, nor one with a number that is live. Any other
+    /// is accepted, and goes on by its verdict.
     pub fn submit(&mut self, place: u64, submit: Submit, out: &mut Outputs) -> Result<(), Memory>
         requires kept { IsKept self.old }
         requires fits { IsSubmit submit }

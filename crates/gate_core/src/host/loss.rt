@@ -22,8 +22,8 @@ use gate_parts::{Outputs, acknowledge, write_lost};
 use usb_base::{Bytes, Memory, Refusal};
 
 impl Kept {
-    /// Appends the answers of all requests in flight, whose device is lost. It gives the number of those that were asked
-    /// back, whose unlinks are answered.
+    /// Appends the answers of all requests in flight, whose device is lost. It gives the number of those that were
+    /// asked back, whose unlinks are answered.
     pub fn write_losses(&self, to_client: &mut Bytes) -> Result<u64, Memory>
         requires { IsKept self.now }
         ensures ok { OnOk result (to_client.new ≡ to_client.old ++ flat_map lost_bytes self.now.lives.live) }
@@ -40,8 +40,8 @@ impl Kept {
         Ok(unlinked)
     }
 
-    /// The device is lost: what the host has told goes with it, and all requests have ended, of which so many were asked
-    /// back.
+    /// The device is lost: what the host has told goes with it, and all requests have ended, of which so many were
+    /// asked back.
     pub fn lose(&mut self, unlinked: u64)
         requires kept { IsKept self.old }
         ensures kept { IsKept self.new }

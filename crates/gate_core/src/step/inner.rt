@@ -42,8 +42,8 @@ impl Inner {
         })
     }
 
-    /// Long bodies leave a stream with the memory that they came in, and what is sent then has it. So each stream keeps what
-    /// the other side's bytes were sent from, once they are.
+    /// Long bodies leave a stream with the memory that they came in, and what is sent then has it. So each stream keeps
+    /// what the other side's bytes were sent from, once they are.
     pub fn keep_memory(&mut self, to_client: &mut Bytes, to_host: &mut Bytes)
         ensures stands { self.new ≡ self.old }
         ensures client { to_client.new ≡ to_client.old }

@@ -1,5 +1,5 @@
--- What the packets that are held of a stream give to the requests that wait for them: the earliest takes the fewest that
--- complete it, and then the next.
+-- What the packets that are held of a stream give to the requests that wait for them: the earliest takes the fewest
+-- that complete it, and then the next.
 use Rattle.std.specs.Prelude.{ℕ, ◌==◌, if◌then◌else◌, List, [], ◌∷◌, Option, Some, None}
 use Rattle.std.specs.Option.{option_map}
 use Rattle.usb_base.specs.declared.transfer.Outcome.{Outcome}

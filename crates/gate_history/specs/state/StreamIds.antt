@@ -50,8 +50,8 @@ stream_ids (m ∷ ms) = stream_ids_after (asking (streams ms) m) (stream_ids ms)
 abbrev pub ids_of_streams : StreamIds → List ℕ
 ids_of_streams c = flat_map option_to_list c.started ++ flat_map option_to_list c.stopped
 
--- ---- the fence: the last stop that a client's leaving sent, until the host's word on it has come or the device is lost.
--- What that client's streams still send comes before that word
+-- ---- the fence: the last stop that a client's leaving sent, until the host's word on it has come or the device is
+-- lost. What that client's streams still send comes before that word
 
 abbrev pub lifted : ℕ → Option ℕ → Option ℕ
 lifted id fence = option_and_then (λ f. if f == id then None else Some f) fence

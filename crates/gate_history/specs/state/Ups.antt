@@ -1,5 +1,5 @@
--- The streams of a device's endpoints that are up, by the endpoints' places in its table. A stream keeps the row that its
--- endpoint had when it went up, and holds packets.
+-- The streams of a device's endpoints that are up, by the endpoints' places in its table. A stream keeps the row that
+-- its endpoint had when it went up, and holds packets.
 use Rattle.std.specs.Prelude.{ℕ, ◌%◌, nat_lt, Bool, true, if◌then◌else◌, List, [], ◌||◌, map, replicate, get_or, slice_set, Option, Some, None, is_some}
 use Rattle.std.specs.Option.{option_map, option_and_then, option_map_or}
 use Rattle.usb_base.specs.declared.transfer.StreamPacket.{StreamPacket}

@@ -1,5 +1,5 @@
--- Which refusals there are: a side is refused where its stream has a wrong place, and for four rules of the core. There is no
--- other.
+-- Which refusals there are: a side is refused where its stream has a wrong place, and for four rules of the core. There
+-- is no other.
 use Rattle.std.specs.Prelude.{ℕ, ◌+◌, not, Bool, true, false, if◌then◌else◌, List, [], ◌∷◌, ◌++◌, Option, Some, None}
 use Rattle.std.specs.List.{find}
 use Rattle.std.specs.Option.{option_and_then}
@@ -31,8 +31,8 @@ use Rattle.gate_history.specs.write.Notes.{refusal_notes}
 abbrev pub refused_if : Bool → ℕ → Reason → Option Refusal
 refused_if broken place reason = if broken then Some (refusal Client place reason) else None
 
--- a client that has imported the device asks for no list and no import; one that hasn't sends no submit and no unlink; and a
--- submit's number, four bytes behind its beginning, is that of no submit in flight
+-- a client that has imported the device asks for no list and no import; one that hasn't sends no submit and no unlink;
+-- and a submit's number, four bytes behind its beginning, is that of no submit in flight
 abbrev pub client_rule : State → ℕ → ClientPacket → Option Refusal
 client_rule st place (Op (op.ReqDevlist status)) = refused_if st.imported place AlreadyImported
 client_rule st place (Op (op.ReqImport status busid)) = refused_if st.imported place AlreadyImported

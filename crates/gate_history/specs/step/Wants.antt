@@ -1,5 +1,5 @@
--- What memory is wanted for: to hold a piece, to read a packet, and for what an item sends and tells. An event ends for want
--- of it only where there is something of these.
+-- What memory is wanted for: to hold a piece, to read a packet, and for what an item sends and tells. An event ends for
+-- want of it only where there is something of these.
 use Rattle.std.specs.Prelude.{◌≡◌, ◌⊎◌, ◌<◌, ◌+◌, ℕ, Bool, true, false, List, [], ◌∷◌, length}
 use Rattle.usbip_urb.specs.ClientPackets.{takes_memory as asked_takes_memory}
 use Rattle.redir_data.specs.Packets.{takes_memory as told_takes_memory}

@@ -23,8 +23,8 @@ use usb_base::{Bytes, Memory};
 use usbip_urb::{Descs, push_ret_fields};
 
 /// Appends the answer of a request that the packets of its stream behind the first `from` fill, and gives how many it
-/// takes. None where they don't fill it; then, and for want of memory, nothing is appended. It takes memory only where they
-/// fill it.
+/// takes. None where they don't fill it; then, and for want of memory, nothing is appended. It takes memory only where
+/// they fill it.
 pub fn write_filling(
     alloc: Global,
     live: &Live,

@@ -33,7 +33,8 @@ pub fn write_without_packets(
     write_ret_submit(answer, out)
 }
 
-/// Appends the answer of an isochronous submit whose packets were all sent to the host. For want of memory `out` stands.
+/// Appends the answer of an isochronous submit whose packets were all sent to the host. For want of memory `out`
+/// stands.
 pub fn write_all_sent(alloc: Global, asked: &AnsweredSubmit, out: &mut Bytes) -> Result<(), Memory>
     requires packets { HasItsPackets asked.now.packets asked.now.descs.now }
     requires to_device { asked.now.is_in ≡ false }

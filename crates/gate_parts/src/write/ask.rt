@@ -1,5 +1,5 @@
-//! The packets to the host: the gateway's hello, those that ask for a transfer, starts and stops of streams, cancels and
-//! acknowledgements.
+//! The packets to the host: the gateway's hello, those that ask for a transfer, starts and stops of streams, cancels
+//! and acknowledgements.
 
 ghost use Rattle.std.specs.Prelude.{◌≡◌, ◌≤◌, ◌++◌, true, length, zip, All, OnOk, OnErr, ◌<◌};
 ghost use Rattle.std.specs.List.{flat_map};

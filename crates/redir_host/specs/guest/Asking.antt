@@ -26,7 +26,8 @@ is_other ep = nat_lt (ep % 128) 16 && not (is_control ep)
 abbrev pub asked_if : Bool → Form → Transfer → Asking
 asked_if can f t = if can then Asks f t else Refuses f t.ep
 
--- what one asks that moves data: endpoint 0 has the direction of bit 7 of bmRequestType; an interrupt endpoint gives what it has by its stream
+-- what one asks that moves data: endpoint 0 has the direction of bit 7 of bmRequestType; an interrupt endpoint gives
+-- what it has by its stream
 abbrev pub asking_of : RedirData → Asking
 asking_of (moving.Control ep request kind status value index told body) =
     let setup : Setup = record { kind = kind; request = request; value = value; index = index; length = told } in

@@ -1,5 +1,5 @@
--- What a guest waits for, in line: its requests and its resets, in order of arrival. A reset is performed with the first
--- request of endpoint 0 behind it. What a host keeps of its requests and of their marks is read off this line.
+-- What a guest waits for, in line: its requests and its resets, in order of arrival. A reset is performed with the
+-- first request of endpoint 0 behind it. What a host keeps of its requests and of their marks is read off this line.
 use Rattle.std.specs.Prelude.{ℕ, ◌==◌, ◌&&◌, not, Bool, true, if◌then◌else◌, List, [], ◌∷◌, ◌++◌, filter, Option, Some, None}
 use Rattle.usb_base.specs.Status.{is_success}
 use Rattle.usb_base.specs.declared.endpoint.EpTable.{EpTable}

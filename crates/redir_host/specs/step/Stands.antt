@@ -69,8 +69,8 @@ pub record TakesAct {S : Type 0} (m : Meaning S) (s : S) (new : HostKept S) (act
   pub does : DoesAct m s new acts a old_out new_out
   pub told : new_notes ≡ old_notes ++ act_notes m s acts a
 
--- memory ran out within an act: the first of its items were taken, what they send was sent, and it was wanted for what is
--- left
+-- memory ran out within an act: the first of its items were taken, what they send was sent, and it was wanted for what
+-- is left
 pub record Stops {S : Type 0} (m : Meaning S) (s : S) (acts : List Act) (a : Act) (old_out new_out : List ℕ) : Type 0 where
   pub taken : List Item
   pub later : List Item

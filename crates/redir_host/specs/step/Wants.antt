@@ -1,5 +1,5 @@
--- What memory is wanted for: to hold a piece of the guest's bytes, to read a packet, and for what an item sends, tells and
--- keeps. An act ends for want of it only where there is something of these.
+-- What memory is wanted for: to hold a piece of the guest's bytes, to read a packet, and for what an item sends, tells
+-- and keeps. An act ends for want of it only where there is something of these.
 use Rattle.std.specs.Prelude.{◌≡◌, ◌⊎◌, ◌<◌, ◌+◌, ◌-◌, Bool, true, false, List, length, None, slice_get, IsSomeAnd}
 use Rattle.redir_wire.specs.Plain.{takes_memory as plain_takes_memory}
 use Rattle.redir_data.specs.Carrying.{has_data}

@@ -62,8 +62,8 @@ impl<G: Gadget> Inner<G> {
         }
     }
 
-    /// Takes a piece of the guest's bytes. Those behind a wrong place are dropped. For want of memory the packets before
-    /// the one that met it are taken, and that one has sent nothing.
+    /// Takes a piece of the guest's bytes. Those behind a wrong place are dropped. For want of memory the packets
+    /// before the one that met it are taken, and that one has sent nothing.
     pub fn take(
         &mut self,
         piece: &[u8],

@@ -36,8 +36,8 @@ pub record IsUnasked {D : Type 0} (tells : List ℕ → Type 0) (asked : ServeSe
   pub doors : new ≡ old
   pub told : tells []
 
--- What a run of `serve` leaves: by the log of the doors' calls, over any doors and any sink; and by their counts of faults
--- and of idle answers and those of the recording, and where all of these tell their bytes.
+-- What a run of `serve` leaves: by the log of the doors' calls, over any doors and any sink; and by their counts of
+-- faults and of idle answers and those of the recording, and where all of these tell their bytes.
 pub record RunServes {D : Type 0} (gives : D → Call → D → Type 0) (link : D → Side → Link) (door : D → Door) (tells : List ℕ → Type 0) (status : Status) (asked : ServeSettings) (old new : D) (faults_old faults_new : Faults) (written_old written_new : Written) : Type 0 where
   pub by_log : IsUnasked tells asked old new ⊎ HasLog gives (gate_runs_out asked.first_id) tells (terms_of asked) (gate_sends asked.after_loss asked.first_id) status old new
   pub where_told : Serves asked.recording asked status (outside (link old) (door old)) (outside (link new) (door new)) faults_old faults_new written_old written_new

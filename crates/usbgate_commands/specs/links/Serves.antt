@@ -47,8 +47,8 @@ ended_as end.Idle = Idle
 ended_as end.Spent = Spent
 ended_as end.Memory = OutOfMemory
 
--- it ends with the status of its end, which has its cause and its reason; and over doors that tell, and a sink and a tape
--- that may, these are left as that end leaves them, by where memory may run out within an event
+-- it ends with the status of its end, which has its cause and its reason; and over doors that tell, and a sink and a
+-- tape that may, these are left as that end leaves them, by where memory may run out within an event
 pub record EndsOf (runs_out : List LinkEvent → LinkEvent → List ℕ → List ℕ → Type 0) (setting : Setting) (first : Next) (status : Status) (old new : Outside) (faults_old faults_new : Faults) (written_old written_new : Written) : Type 0 where
   pub end : ServeEnd
   pub status-is : status ≡ ended_as end

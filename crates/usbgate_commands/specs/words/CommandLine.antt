@@ -1,5 +1,5 @@
--- How the words are read, by the library of command lines: `COMMAND`, which must be there, `NUMBER`, and options with one
--- value each, in any order.
+-- How the words are read, by the library of command lines: `COMMAND`, which must be there, `NUMBER`, and options with
+-- one value each, in any order.
 use Rattle.std.specs.Prelude.{true, List, [], ◌∷◌, map, fold, codes, Option, Some, None}
 use Rattle.clap.specs.Words.{App, Row, Rule, Text, new_app, new_rule, with_rule, fault_of, matches_of, Kinds}
 

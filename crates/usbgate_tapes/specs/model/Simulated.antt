@@ -19,9 +19,9 @@ use Rattle.usbgate_tapes.specs.tape.TapeCommand.{read_tape}
 abbrev pub steps_of : {S : Type 0} → Meaning S → S → List ℕ → List Step
 steps_of m s tape = (read_tape (model m s) tape).after.kept
 
--- Where the run comes to the end of its tape, or to a bad line, what its steps told and sent is what the device does and
--- answers that is attached directly and begins in state s: by the log of the reads, of each tape that begins with what
--- they gave, and of a tape that tells its bytes.
+-- Where the run comes to the end of its tape, or to a bad line, what its steps told and sent is what the device does
+-- and answers that is attached directly and begins in state s: by the log of the reads, of each tape that begins with
+-- what they gave, and of a tape that tells its bytes.
 pub record AreSimulated {S T : Type 0} (read_gives : T → List ℕ → Result ℕ Failed → T → Type 0) (remaining : T → Option (List ℕ)) (status : Status) (m : Meaning S) (s : S) (old new : T) : Type 0 where
   pub by_log : ComesToEnd status (HoldsOfRead read_gives (λ tape. Simulates m s (steps_of m s tape)) old new)
   pub where_told : ComesToEnd status ((tape : List ℕ) → remaining old ≡ Some tape → Simulates m s (steps_of m s tape))

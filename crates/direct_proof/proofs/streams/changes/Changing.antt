@@ -1,5 +1,5 @@
--- The gateway accepts a change: the streams that it touches are stopped ahead of it, and those that wait for them end. So it is at
--- the device attached directly.
+-- The gateway accepts a change: the streams that it touches are stopped ahead of it, and those that wait for them end.
+-- So it is at the device attached directly.
 use Rattle.std.proofs.Common.{◌≡◌, ℕ, suc, ◌+◌, ◌==◌, not, Bool, true, false, cond, List, [], ◌∷◌, ◌++◌, length, map, filter, Option, Some, None, is_none, refl, sym, ap, ◌∙◌, append-nil}
 use Rattle.std.specs.Prelude.{zip}
 use Rattle.std.specs.List.{flat_map, list_any}

@@ -1,4 +1,5 @@
--- What is held of a stream fills those that wait for it: at the device attached directly that is one answer after another.
+-- What is held of a stream fills those that wait for it: at the device attached directly that is one answer after
+-- another.
 use Rattle.std.proofs.Common.{◌≡◌, ℕ, ◌<◌, ◌==◌, Bool, true, false, cond, List, [], ◌∷◌, ◌++◌, length, map, Option, Some, None, is_some, refl, sym, ap, ◌∙◌, subst, arith, append-nil, append_assoc}
 use Rattle.std.specs.List.{find, AllByRecursion as Each}
 use Rattle.std.specs.Prelude.{slice_set, slice_get, drop, option_and_then, IsSomeAnd, IsSome}

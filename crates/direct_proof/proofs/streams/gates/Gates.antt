@@ -1,5 +1,5 @@
--- What the lemmas of streams take of a gateway is what its own laws say: its state is sound, two lists have 32 places, and streams
--- that are up keep no stop. An item keeps the last two.
+-- What the lemmas of streams take of a gateway is what its own laws say: its state is sound, two lists have 32 places,
+-- and streams that are up keep no stop. An item keeps the last two.
 use Rattle.std.proofs.Common.{◌≡◌, ◌≤◌, Bool, true, false, List, ◌++◌, length, filter, Some, arith}
 use Rattle.std.proofs.lemmas.List.{length-map, length-append}
 use Rattle.control_route.specs.declared.route.Route.{Route}

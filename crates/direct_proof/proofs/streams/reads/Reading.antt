@@ -1,5 +1,5 @@
--- The gateway reads a packet that is neither an answer nor a fact: what is shared is kept, whatever it makes of streams, of those
--- that wait for them, and of the fence.
+-- The gateway reads a packet that is neither an answer nor a fact: what is shared is kept, whatever it makes of
+-- streams, of those that wait for them, and of the fence.
 use Rattle.std.proofs.Common.{◌≡◌, ℕ, ◌||◌, Bool, true, false, List, [], ◌∷◌, ◌++◌, map, Option, None, is_some, refl, sym, ap, ◌∙◌, subst, arith, true≢false}
 use Rattle.std.specs.List.{list_any, AllByRecursion as Each}
 use Rattle.std.proofs.lemmas.Bool.{both_ways}

@@ -1,5 +1,5 @@
--- The gateway accepts a submit that waits for a stream: what it means, what the gateway makes of it, and what the device attached
--- directly does.
+-- The gateway accepts a submit that waits for a stream: what it means, what the gateway makes of it, and what the
+-- device attached directly does.
 use Rattle.std.proofs.Common.{◌≡◌, ℕ, suc, ◌+◌, not, true, false, cond, List, [], ◌∷◌, ◌++◌, length, map, filter, Option, None, refl, sym, ap, ◌∙◌, append-nil}
 use Rattle.std.specs.Prelude.{zip}
 use Rattle.std.specs.List.{flat_map, list_any}

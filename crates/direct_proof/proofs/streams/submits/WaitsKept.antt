@@ -1,4 +1,5 @@
--- A submit that waits for a stream keeps what is shared: it starts a stream that is down, or is filled from what is held.
+-- A submit that waits for a stream keeps what is shared: it starts a stream that is down, or is filled from what is
+-- held.
 use Rattle.std.proofs.Common.{◌≡◌, ℕ, inl, true, false, cond, List, [], ◌∷◌, ◌++◌, length, map, Option, Some, None, refl, sym, ap, ◌∙◌, subst, append-nil}
 use Rattle.std.specs.Prelude.{slice_set, zip, is_some}
 use Rattle.std.specs.List.{list_any}

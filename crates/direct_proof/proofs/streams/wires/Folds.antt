@@ -1,4 +1,5 @@
--- The folds over the wires: how they grow at the end and lose their first, and what they say where no change is under way.
+-- The folds over the wires: how they grow at the end and lose their first, and what they say where no change is under
+-- way.
 use Rattle.std.proofs.Common.{◌≡◌, ℕ, ◌||◌, ◌⊎◌, inl, inr, Bool, true, false, List, [], ◌∷◌, ◌++◌, Option, Some, None, refl, sym, ap, ◌∙◌, true≢false}
 use Rattle.std.specs.List.{list_any, AllByRecursion as Each}
 use Rattle.std.proofs.lemmas.List.Folds.{list_any-append}

@@ -1,4 +1,5 @@
--- What a request that waits for a stream's packets makes of what is kept, whether its stream is up or is started for it.
+-- What a request that waits for a stream's packets makes of what is kept, whether its stream is up or is started for
+-- it.
 use Rattle.std.proofs.Common.{◌≡◌, ◌+◌, ◌==◌, ℕ, zero, suc, Bool, true, false, cond, List, [], ◌∷◌, ◌++◌, length, map, get_or, set, Option, Some, None, refl, sym, ap, ◌∙◌, subst, arith}
 use Rattle.std.specs.Prelude.{slice_set, zip, ◌||◌, is_some}
 use Rattle.std.specs.List.{flat_map, list_any}

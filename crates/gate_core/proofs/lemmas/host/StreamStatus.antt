@@ -1,4 +1,5 @@
--- What the host's word of an endpoint's stream makes of what is kept, and what it sends for the requests that waited for it.
+-- What the host's word of an endpoint's stream makes of what is kept, and what it sends for the requests that waited
+-- for it.
 use Rattle.std.proofs.Common.{◌≡◌, ℕ, ◌+◌, ◌^◌, ◌-◌, ◌≤◌, ◌<◌, ◌&&◌, Bool, true, cond, not, List, ◌++◌, length, map, None, refl, sym, ap, ◌∙◌, arith}
 use Rattle.std.specs.Prelude.{is_none, filter}
 use Rattle.std.specs.List.{flat_map}

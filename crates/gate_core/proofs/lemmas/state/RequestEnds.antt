@@ -1,4 +1,5 @@
--- Items that end some of the live requests, which are those whose rows pass a test: what is left, and what is sent for them.
+-- Items that end some of the live requests, which are those whose rows pass a test: what is left, and what is sent for
+-- them.
 use Rattle.std.proofs.Common.{◌≡◌, ℕ, suc, ◌^◌, ◌-◌, ◌≤◌, Bool, true, false, cond, not, List, [], ◌∷◌, ◌++◌, length, map, Some, None, refl, sym, ap, ◌∙◌}
 use Rattle.std.specs.Prelude.{is_none, filter}
 use Rattle.std.specs.List.{flat_map}

@@ -1,5 +1,5 @@
--- What holds of each effect that neither accepts a submit nor is about a stream holds of what list and import requests and
--- the host's answers mean.
+-- What holds of each effect that neither accepts a submit nor is about a stream holds of what list and import requests
+-- and the host's answers mean.
 use Rattle.std.proofs.Common.{ℕ, Bool, true, false, cond, Option, Some, None}
 use Rattle.usb_base.specs.declared.refusal.Refusal.{Refusal}
 use Rattle.usb_base.specs.declared.transfer.Outcome.{Outcome}

@@ -83,8 +83,8 @@ waiting-at P ep (x ∷ ls) n l h e =
 
 -- ---- what is so far
 
--- so many requests were filled with so many packets, which was sent and told; the packets that are left fill of these rows
--- what is missing of it all
+-- so many requests were filled with so many packets, which was sent and told; the packets that are left fill of these
+-- rows what is missing of it all
 pub record SoFar (max_packet : ℕ) (held : List StreamPacket) (all : Fill) (out_all : Outputs) (rows : List Live) (f : Filled) (out : Outputs) : Type 0 where
   pub few : f.packets ≤ length held
   pub requests : f.requests + length (rows_fill max_packet rows (drop f.packets held)).fillings ≡ length all.fillings

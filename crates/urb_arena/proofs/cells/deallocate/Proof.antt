@@ -65,7 +65,8 @@ deallocate_spec 𝓤 𝓛 𝓜 𝓡 wired T A LT LA g d dd met md =
     let Asked : Type 0 = (bl.at ≡ p) × (length bl.links ≡ n) × (bl.values ≡ replicate n None) × (de.at ≡ p) × (de.len ≡ n) × (de.alloc ≡ h) in let us : List Val = vptr at.0 at.1 ∷ base_val p ∷ vint w64 n ∷ mark_val ∷ mark_val ∷ [] in
     qed 𝓛 (((‵ (flft κ q) ⊛ ‵ (fsep (flft κs.1.0 qs.1.0) (fsep (flft κs.1.1.0 qs.1.1.0) ftrue))) ⊛ ‵ (owns (types_at En.signature.params κs) a vss)) ∷ raw (fact 𝓤 _) ∷ raw (fact 𝓤 (κs.1.1.0 ⊑ A.lives)) ∷ raw (fact 𝓤 Asked) ∷ []) ∵
     keep ! (2 ∷ 3 ∷ 0 ∷ []) $ heard ! _ (λ within. heard ! Asked (λ asked. split ! $ split ! $ move ! (2 ∷ []) $ fsplit3 ! $ fsplit ! $ move ! (3 ∷ []) $ fsplit3 ! $ move ! (2 ∷ []) $ fsplit ! $
-    -- [the deed; nothing; the length; the block; the allocator's place; the allocator, lent; the base; its token; the other tokens]
+    -- [the deed; nothing; the length; the block; the allocator's place; the allocator, lent; the base; its token; the
+    -- other tokens]
     fsplit ! $ move ! (4 ∷ []) $ fsplit ! $ keep ! (1 ∷ 3 ∷ 7 ∷ 9 ∷ 10 ∷ []) $ move ! (2 ∷ []) $ use1 𝓛 (‵ (seen Z κ at h)) (id⊢ 𝓤 _) $ move ! (1 ∷ 2 ∷ 0 ∷ []) $
     -- [the cells; the deed; the allocator, lent; its token; the other tokens]
     regoal ! (λ (ws : List Val). prop (WpFn 𝓤 H 𝓣.C 𝓣.Λ fn ws Post)) (λ j. are.0.0 j ++ (told j ++ (are.1.1.0.0 j ++ (told' j ++ (told'' j ++ []))))) refl $

@@ -38,7 +38,8 @@ abbrev pub ReadsLine : {C S : Type 0} → (C → S → Type 0) → Option (List 
 ReadsLine Keeps None new text_old text_new = ⊥
 ReadsLine Keeps (Some x) new text_old text_new = (text_new ≡ text_old ++ x.0) × HasRead Keeps new x.1
 
--- memory was wanting for the line after s: to join its parts, or it is good, and says something; it doesn't pass the limit
+-- memory was wanting for the line after s: to join its parts, or it is good, and says something; it doesn't pass the
+-- limit
 pub record EndWants {S : Type 0} (command : TapeCommand S) (s : Progress S) (pending last : List ℕ) : Type 0 where
   pub within : s.bytes + length (pending ++ last) ≤ TAPE_LIMIT
   pub wants : IsJoined pending last ⊎ ((command.says (content (pending ++ last)) ≡ true) × (next_line command s (pending ++ last) ≢ None))
@@ -127,8 +128,8 @@ KeepsPart (Some status) s part old new = (TAPE_LIMIT < s.bytes + length part) ×
 
 -- ---- a whole run
 
--- where it comes to the end of its tape, or to a bad line, some command keeps what the lines before say: by the log of the
--- reads, over any tape, and of one that tells its bytes
+-- where it comes to the end of its tape, or to a bad line, some command keeps what the lines before say: by the log of
+-- the reads, over any tape, and of one that tells its bytes
 pub record ReadsTo {C S T : Type 0} (read_gives : T → List ℕ → Result ℕ Failed → T → Type 0) (remaining : T → Option (List ℕ)) (status : Status) (Keeps : C → S → Type 0) (command : TapeCommand S) (old new : T) : Type 0 where
   pub by_log : ComesToEnd status (HoldsOfRead read_gives (λ tape. SomeKeeps Keeps (read_tape command tape).after.kept) old new)
   pub where_told : ComesToEnd status ((tape : List ℕ) → remaining old ≡ Some tape → SomeKeeps Keeps (read_tape command tape).after.kept)
