@@ -1,8 +1,9 @@
 -- The lines that are recorded of events are read as these events.
 use Rattle.std.proofs.Common.{◌≡◌, ℕ, ◌+◌, ◌≤◌, Bool, false, cond, not, List, [], ◌∷◌, ◌++◌, length, drop, option_and_then, Option, Some, None, Result, Ok, refl, sym, ap, ◌∙◌, subst, append-nil, arith}
-use Rattle.std.proofs.lemmas.List.{length-append, drop_all}
+use Rattle.std.proofs.lemmas.List.{length-append}
 use Rattle.std.specs.List.{flat_map}
 use Rattle.std.specs.Prelude.{option_map}
+use Rattle.std.proofs.Math.Seq.{drop-length}
 use Rattle.hex.specs.Hex.{encode_lower}
 use Rattle.hex.specs.declared.error.FromHexError.{FromHexError}
 use Rattle.hex.proofs.HexLemmas.{decode_of-encode_lower}
@@ -123,14 +124,10 @@ with-comments asked from line text events refusals whole says room =
 
 -- ---- an event
 
--- what nothing is gained of
-none-gained : {X : Type 0} (xs : List X) → drop (length xs) xs ≡ []
-none-gained xs = drop_all (length xs) xs (omega arith)
-
 says-nothing : (client host : List ℕ) (notes : List Note) → sent_text (drop (length client) client) (drop (length host) host) (drop (length notes) notes) ≡ []
 says-nothing client host notes =
-    ap (λ (l : List ℕ). sent_text l (drop (length host) host) (drop (length notes) notes)) (none-gained client) ∙ ap (λ (l : List ℕ). sent_text [] l (drop (length notes) notes)) (none-gained host)
-    ∙ ap (λ (l : List Note). sent_text [] [] l) (none-gained notes)
+    ap (λ (l : List ℕ). sent_text l (drop (length host) host) (drop (length notes) notes)) (drop-length client) ∙ ap (λ (l : List ℕ). sent_text [] l (drop (length notes) notes)) (drop-length host)
+    ∙ ap (λ (l : List Note). sent_text [] [] l) (drop-length notes)
 
 -- what isn't an event of the gate's has no line of its own, and sends nothing
 unsaid : (asked : ServeSettings) (refusals : List Refusal) (from : Progress (List GateEvent)) (text : List ℕ) (events : List GateEvent) → text ≡ [] → from.kept ≡ events → from.bytes + length (flat_map refusal_comment refusals) ≤ tape_limit

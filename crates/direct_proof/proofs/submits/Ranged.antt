@@ -2,7 +2,7 @@
 use Rattle.std.specs.Bool.{beq}
 use Rattle.std.proofs.Common.{◌≡◌, ℕ, ◌≤◌, ◌==◌, ◌&&◌, nat_lt, nat_le, not, Bool, true, false, cond, List, [], ◌∷◌, length, Option, Some, None, is_some, refl, sym, ap, ◌∙◌, subst, arith}
 use Rattle.std.specs.Prelude.{IfSome}
-use Rattle.std.proofs.lemmas.Bool.{eqb-true, ltb-false}
+use Rattle.std.proofs.lemmas.Bool.{eqb-true, ltb-false, not-false}
 use Rattle.usb_base.specs.declared.setup.Setup.{Setup}
 use Rattle.usb_base.specs.declared.endpoint.EpKind.{EpKind}
 use Rattle.usb_base.specs.declared.endpoint.EpKind.TheVariants as kind
@@ -38,7 +38,7 @@ use Rattle.gate_history.specs.declared.verdict.Verdict.TheVariants.{Now, Wire, R
 use Rattle.gate_history.specs.client.Verdict.{none_of, by_route, by_setup, by_kind, is_invalid, is_narrow, by_endpoint, by_transfer, verdict, goes_by_id}
 use Rattle.gate_history.specs.client.Verdict as of_kind
 use Rattle.gate_history.specs.client.Carried.{IsDirected, IsRequest, IsCarried}
-use Rattle.gate_history.proofs.lemmas.client.Carried.{is_request, carried, not-false}
+use Rattle.gate_history.proofs.lemmas.client.Carried.{is_request, carried}
 use Rattle.direct_device.specs.Direct.{normal_by}
 use Rattle.direct_proof.specs.Loads.{FitsPipe, FitsRoute, FitsVerdict, IsLoad}
 use Rattle.direct_proof.proofs.submits.Addressed.{IsAddressed, addressed}

@@ -1,6 +1,6 @@
 -- A session's log, as memory runs out.
 use Rattle.std.proofs.Common.{◌≡◌, ◌⊎◌, ℕ, ◌||◌, Bool, true, false, cond, List, [], ◌∷◌, ◌++◌, is_some, Err, refl, sym, ap, ◌∙◌, subst, inl, inr, append-nil, append_assoc}
-use Rattle.std.proofs.lemmas.Bool.{false≢true}
+use Rattle.std.proofs.lemmas.Bool.{false≢true, or_parts}
 use Rattle.usb_base.specs.declared.side.Side.TheVariants.{Client, Host}
 use Rattle.usb_base.specs.declared.refusal.Refusal.{Refusal}
 use Rattle.gate_outside.specs.Calls.{Call, went}
@@ -27,14 +27,6 @@ use Rattle.bridge_run.proofs.lemmas.log.Sink.{told-all, part-more}
 has-none : (xs : List ℕ) → has_any xs ≡ false → xs ≡ []
 has-none [] is = refl
 has-none (x ∷ xs) is = absurd (false≢true (sym is))
-
-or-first : (a b : Bool) → (a || b) ≡ false → a ≡ false
-or-first true b is = is
-or-first false b is = refl
-
-or-second : (a b : Bool) → (a || b) ≡ false → b ≡ false
-or-second true b is = absurd (false≢true (sym is))
-or-second false b is = is
 
 or-more : (a b : Bool) → a ≡ true → (a || b) ≡ true
 or-more a b is = ap (λ (x : Bool). x || b) is
@@ -83,7 +75,8 @@ none-written gives runs_out terms p e events k client host begun now none-client
 pub stop-none : {D : Type 0} → (gives : D → Call → D → Type 0) (runs_out : List LinkEvent → LinkEvent → List ℕ → List ℕ → Type 0) (terms : Terms) (p : Prescribed) (e : LinkEvent) (events : List LinkEvent) (k : Rounds) (client host : List ℕ) (begun now : D) → (has_any client || has_any host) ≡ false
     → IsPart runs_out p events e client host → IsStopping gives terms p e events k begun now → HasStopped gives runs_out terms p e events begun now
 stop-none gives runs_out terms p e events k client host begun now none part s =
-    none-written gives runs_out terms p e events k client host begun now (has-none client (or-first (has_any client) (has_any host) none)) (has-none host (or-second (has_any client) (has_any host) none))
+    let parts = or_parts (has_any client) (has_any host) none in
+    none-written gives runs_out terms p e events k client host begun now (has-none client parts.0) (has-none host parts.1)
     (why runs_out terms.taped p events e client host part.ran_out) s
 
 -- its line couldn't be recorded

@@ -1,6 +1,6 @@
 -- What waits to be written to the tape: little, and nothing at each end that is no fault.
 use Rattle.std.proofs.Common.{◌≡◌, ℕ, zero, suc, ◌-◌, ◌==◌, ◌<◌, ltb, ◌&&◌, ◌||◌, not, Bool, true, false, cond, List, [], ◌∷◌, length, Option, Some, None, IfSome, refl, sym, ap, ◌∙◌, subst, inl, inr, lit<}
-use Rattle.std.proofs.lemmas.Bool.{false≢true, cond_both, ltb-true}
+use Rattle.std.proofs.lemmas.Bool.{false≢true, cond_both, ltb-true, not-false}
 use Rattle.usb_base.specs.declared.side.Side.{Side}
 use Rattle.usb_base.specs.declared.side.Side.TheVariants.{Client, Host}
 use Rattle.usb_base.specs.declared.refusal.Refusal.{Refusal}
@@ -140,14 +140,10 @@ quiet-none s c is =
 none-few : 0 < WAITING_LIMIT
 none-few = lit< tt
 
-not-full : (b : Bool) → not b ≡ false → b ≡ true
-not-full true is = refl
-not-full false is = cc
-
 few-if : (now full : Bool) (lines : List ℕ) → is_full lines ≡ full → length (waiting_if (now || full) lines) < WAITING_LIMIT
 few-if true full lines is = none-few
 few-if false true lines is = none-few
-few-if false false lines is = ltb-true (length lines) WAITING_LIMIT (not-full (ltb (length lines) WAITING_LIMIT) is)
+few-if false false lines is = ltb-true (length lines) WAITING_LIMIT (not-false (ltb (length lines) WAITING_LIMIT) is)
 
 put-few : (p : Prescribed) (e : LinkEvent) (c : Course) → length (put p e c).waiting < WAITING_LIMIT
 put-few p e c = few-if (sends_now p e c) (is_full (lines_with p e c)) (lines_with p e c) refl

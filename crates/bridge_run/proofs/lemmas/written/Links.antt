@@ -4,7 +4,7 @@ use Rattle.std.specs.Io.KnownBytes.{append_known}
 use Rattle.gate_outside.specs.Link.{Link}
 use Rattle.bridge_run.specs.inner.Links.{wrote}
 
-append_known-nil : (known : Option (List ℕ)) → append_known known [] ≡ known
+pub append_known-nil : (known : Option (List ℕ)) → append_known known [] ≡ known
 append_known-nil None = refl
 append_known-nil (Some xs) = ap Some (append-nil xs)
 

@@ -28,6 +28,7 @@ use Rattle.bridge_run.specs.course.Serves.{MayRunOut}
 use Rattle.bridge_run.specs.inner.Links.{wrote_if, WritesFront, closed_if}
 use Rattle.bridge_run.specs.inner.Keeping.{refusing, is_last as last_kept}
 use Rattle.bridge_run.specs.inner.Follows.{Prepared, Follows, Puts}
+use Rattle.bridge_run.proofs.lemmas.written.Links.{append_known-nil}
 
 -- ---- a link
 
@@ -215,10 +216,6 @@ written-front ran_out writes w out c d (Some held) known' waiting grows has all 
     let whole : d.recorded ≡ c.recorded ++ (grows.front ++ grows.back) = all ∙ ap (λ (l : List ℕ). c.recorded ++ writes l) (sym has.1) ∙ ap (λ (l : List ℕ). c.recorded ++ l) grows.parts in
     subst (λ (k : Option (List ℕ)). IfSome k (λ (l : List ℕ). HasLines ran_out w out c d l)) (sym grows.grows) (recorded-front ran_out _ w out c d grows.front grows.back whole client host told (Some held) has)
 
-none-recorded : (known : Option (List ℕ)) → append_known known [] ≡ known
-none-recorded None = refl
-none-recorded (Some held) = ap Some (append-nil held)
-
 -- a course of which only the turns, the lines on the tape and those that wait have become others
 pub retold : (stands : List LinkEvent → Type 0) (p : Prescribed) (k : Rounds) (w w' : Outside) (out out' : Written) (c : Course) (client host : List Turn) (recorded waiting : List ℕ) → Follows stands p k w out c
     → Tells w' out' (record c { client = client; host = host; recorded = recorded; waiting = waiting }) → Follows stands p k w' out' (record c { client = client; host = host; recorded = recorded; waiting = waiting })
@@ -299,7 +296,7 @@ put-in_entry {ran_out = ran_out} p c e sent lines due w out out' waiting prepare
 pub put-before : {ran_out : List LinkEvent → LinkEvent → List ℕ → List ℕ → Type 0} → (p : Prescribed) (c : Course) (e : LinkEvent) (w : Outside) (out : Written) → Tells w out c → Cut ran_out w out c (put p e c)
 put-before {ran_out = ran_out} p c e w out t =
     put-cut p c e w out out t (told-before p c e out t.told)
-    (subst (λ (known : Option (List ℕ)). IfSome known (λ held. HasLines ran_out w out c (put p e c) held)) (none-recorded out.tape)
+    (subst (λ (known : Option (List ℕ)). IfSome known (λ held. HasLines ran_out w out c (put p e c) held)) (append_known-nil out.tape)
     (recorded-front ran_out _ w out c (put p e c) [] _ refl t.client.written-is t.host.written-is t.told out.tape t.tape))
 
 -- within what goes to the client

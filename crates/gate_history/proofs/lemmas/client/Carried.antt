@@ -1,7 +1,7 @@
 -- What a client's submits ask for, and what a verdict lets on the wire.
 use Rattle.std.specs.Bool.{beq}
 use Rattle.std.proofs.Common.{◌≡◌, inl, inr, ℕ, ◌+◌, ◌≤◌, ◌==◌, ◌&&◌, nat_lt, nat_le, not, Bool, true, false, cond, if◌then◌else◌, length, Option, Some, None, unwrap_or, refl, sym, ap, subst, ◌∙◌, arith}
-use Rattle.std.proofs.lemmas.Bool.{cases_Bool, eqb-true, ltb-false, le-ltb, lt-ltb, true≢false}
+use Rattle.std.proofs.lemmas.Bool.{cases_Bool, eqb-true, ltb-false, le-ltb, lt-ltb, true≢false, not-false}
 use Rattle.std.proofs.lemmas.Bool.Decides.{eqb_tells}
 use Rattle.usb_base.specs.Endpoint.{is_in_endpoint, is_iso}
 use Rattle.usb_base.specs.declared.setup.Setup.{Setup}
@@ -99,10 +99,6 @@ by_kind-carried here r row kind.Bulk way whole lies few there fits = bulk here.w
 by_kind-carried here r row kind.Interrupt way whole lies few there fits = interrupt here.wide row r.is_in r few there fits
 by_kind-carried here r row kind.Invalid way whole lies few there fits = tt
 
-not-not-false : (b : Bool) → not b ≡ false → b ≡ true
-not-not-false true e = refl
-not-not-false false e = absurd (true≢false e)
-
 by_endpoint-carried : (here : Situation) (r : Request) → IsRequest r → is_in_endpoint r.transfer.ep ≡ r.is_in → IsCarried here.wide (by_endpoint here r) r
 by_endpoint-carried here r is way =
     unless here.wide (is_invalid here.row.kind) ENOENT _ r (λ valid.
@@ -110,7 +106,7 @@ by_endpoint-carried here r is way =
     unless here.wide (beq (is_iso here.row.kind) (none_of r.descs)) EINVAL _ r (λ iso.
     unless here.wide (not (laid r.descs r.transfer.wanted)) EINVAL _ r (λ lies.
     unless here.wide (is_narrow here r here.row.kind && nat_lt MAX_NARROW r.transfer.wanted) EMSGSIZE _ r (λ fits.
-    by_kind-carried here r here.row here.row.kind way is.body (not-not-false _ lies) is.few_bytes (data-way r.is_in r.transfer.ep r.transfer.wanted _ way is.body) fits)))))
+    by_kind-carried here r here.row here.row.kind way is.body (not-false _ lies) is.few_bytes (data-way r.is_in r.transfer.ep r.transfer.wanted _ way is.body) fits)))))
 
 -- ---- endpoint 0
 
@@ -118,12 +114,8 @@ by_route-carried : (wide : Bool) (rt : Route) (t : Request) → IsSent wide Cont
 by_route-carried wide route.Plain t sent = sent
 by_route-carried wide _ t sent = tt
 
-no-length : (n : ℕ) → (not (n == 0) && true) ≡ false → n ≡ 0
+pub no-length : (n : ℕ) → (not (n == 0) && true) ≡ false → n ≡ 0
 no-length n e = elim (eqb_tells n 0) [ inl h ↦ h.1 | inr h ↦ absurd (true≢false (rw h.0 at e)) ]
-
-pub not-false : (b : Bool) → not b ≡ false → b ≡ true
-not-false true e = refl
-not-false false e = absurd (true≢false e)
 
 -- its directions are one, or it moves no data
 setup-data : (way is_in : Bool) (length wanted n : ℕ) → (not (length == 0) && not (beq way is_in)) ≡ false → length ≡ wanted → n ≡ body_size (not is_in) wanted →

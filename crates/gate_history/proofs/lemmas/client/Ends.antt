@@ -1,6 +1,6 @@
 -- The submits that end at an item: some of those that were live, and of the one that it opens.
 use Rattle.std.specs.Option.{option_or}
-use Rattle.std.proofs.Common.{◌≡◌, ℕ, suc, ◌<◌, ◌&&◌, Bool, true, false, cond, not, leb, List, ◌∷◌, ◌++◌, length, Option, Some, None, refl, sym, ap, ◌∙◌, arith}
+use Rattle.std.proofs.Common.{◌≡◌, suc, ◌&&◌, Bool, true, false, cond, not, leb, List, ◌∷◌, ◌++◌, length, Option, Some, None, refl, sym, ap, ◌∙◌, arith}
 use Rattle.std.specs.Prelude.{filter, is_none, is_some}
 use Rattle.std.proofs.lemmas.Bool.{false≢true}
 use Rattle.std.proofs.lemmas.List.Elements.{filter-append}
@@ -8,10 +8,7 @@ use Rattle.gate_history.specs.step.Marks.{Submission, Effect, Mark}
 use Rattle.gate_history.specs.client.Submits.{opened, accepted, end_of, is_live, live, ended}
 use Rattle.gate_history.specs.client.Ends.{End, ends}
 use Rattle.gate_history.proofs.lemmas.Lists.{Each, Each-weaker, filter-same, filter-twice, filter-all, both}
-use Rattle.gate_history.proofs.lemmas.step.Steps.{IsPlaced, IsWell, Before, placed, unopened-end, Present}
-
-within : (a n : ℕ) → a < suc n → leb a n ≡ true
-within a n h = grind arith
+use Rattle.gate_history.proofs.lemmas.step.Steps.{IsPlaced, IsWell, Before, placed, within, unopened-end, is_none-or_else, Present}
 
 is_none-none : {A : Type 0} (o : Option A) → is_none o ≡ true → o ≡ None
 is_none-none None e = refl
@@ -36,10 +33,6 @@ now-ended : (a : Bool) (e : Option End) → (a && not (both a (is_none e))) ≡ 
 now-ended true None = refl
 now-ended true (Some e) = refl
 now-ended false e = refl
-
-is_none-or_else : {A : Type 0} (a b : Option A) → is_none (option_or a b) ≡ both (is_none a) (is_none b)
-is_none-or_else (Some a) b = refl
-is_none-or_else None b = refl
 
 pub ended-is : (ms : List Mark) (m : Mark) → IsWell (m ∷ ms) → ended ms m ≡ filter (λ s. is_some (ends m.what s)) (live ms ++ opened m.what)
 ended-is ms m w =

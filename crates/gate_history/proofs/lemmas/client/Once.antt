@@ -86,7 +86,7 @@ none_of (x ∷ xs) e = absurd (false≢true (sym e))
 abbrev of : List Mark → ℕ → List Submission
 of ms n = filter (is_number n) (live ms)
 
-abbrev AtMostOne : List Submission → Type 0
+abbrev pub AtMostOne : List Submission → Type 0
 AtMostOne [] = Unit {0}
 AtMostOne (s ∷ []) = Unit {0}
 AtMostOne (s ∷ t ∷ ss) = ⊥
@@ -95,7 +95,7 @@ record Goes (l : List Submission) (ts : List Turn) : Type 0 where
   one : AtMostOne l
   turns : Alternate (some_in l) ts
 
-opened-one : (e : Effect) → AtMostOne (opened e)
+pub opened-one : (e : Effect) → AtMostOne (opened e)
 opened-one (Opens s) = tt
 opened-one (Waits s fill) = tt
 opened-one _ = tt

@@ -2,7 +2,7 @@
 use Rattle.std.specs.Bool.{beq}
 use Rattle.std.proofs.Common.{◌≡◌, ℕ, ◌<◌, ◌&&◌, Bool, true, false, cond, not, eqb, leb, List, [], ◌∷◌, length, Option, Some, None, refl, sym, ap, subst, ◌∙◌, arith}
 use Rattle.std.specs.Prelude.{nat_lt, is_none, ℤ}
-use Rattle.std.proofs.lemmas.Bool.{leb-false, false≢true}
+use Rattle.std.proofs.lemmas.Bool.{leb-false, false≢true, not-false}
 use Rattle.usb_base.specs.declared.setup.Setup.{Setup}
 use Rattle.usb_base.specs.declared.endpoint.EpKind.{EpKind}
 use Rattle.usb_base.specs.declared.endpoint.EpKind.TheVariants as kind
@@ -221,10 +221,6 @@ module _ (st : State) (r : Request) (in_session : st.imported ≡ true) (new : h
       opening-accepted (by_stream up (verdict_of st r))
       (λ k. verdict-room (situation st r) r (kept-room up (verdict_of st r) k))
       (kept-sends up (verdict_of st r) (verdict-sends (situation st r) r))
-
-not-false : (b : Bool) → not b ≡ false → b ≡ true
-not-false true e = refl
-not-false false e = sym e
 
 opening-urb : (st : State) (place : ℕ) (p : UrbPacket) → IsOpening st (asked_meaning st place (Urb p))
 opening-urb st place (urb.Submit s) =

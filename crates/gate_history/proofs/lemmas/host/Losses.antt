@@ -2,7 +2,7 @@
 use Rattle.std.proofs.Common.{◌≡◌, ℕ, ◌≤◌, Bool, true, false, cond, not, List, [], ◌∷◌, ◌++◌, length, map, Some, refl, sym, ap, subst, ◌∙◌, arith}
 use Rattle.std.specs.Prelude.{is_none}
 use Rattle.std.specs.List.{flat_map}
-use Rattle.std.proofs.lemmas.Bool.{false≢true}
+use Rattle.std.proofs.lemmas.Bool.{false≢true, not-true}
 use Rattle.std.proofs.lemmas.List.{append-nil}
 use Rattle.std.proofs.lemmas.List.Concat.{flat_map_single}
 use Rattle.usb_base.specs.declared.side.Side.TheVariants.{Client, Host}
@@ -26,10 +26,6 @@ record Quiet (st : State) (e : Effect) : Type 0 where
   stays : leaves e ≡ false
   opens : opened e ≡ []
   silent : replies st e ≡ []
-
-not-true : (b : Bool) → not b ≡ true → b ≡ false
-not-true true h = absurd (false≢true h)
-not-true false h = refl
 
 quiet : (st : State) (e : Effect) → is_loss e ≡ true → Quiet st e
 quiet st (Disconnects id) h = record { stays = refl; opens = refl; silent = refl }

@@ -52,6 +52,7 @@ use Rattle.gate_history.proofs.lemmas.Lists.{length-filter, Each, every, Each-we
 use Rattle.gate_history.proofs.lemmas.step.Steps.{IsWell, submits-is, live-is}
 use Rattle.gate_history.proofs.lemmas.step.Runs.{placed-meaning, well}
 use Rattle.gate_history.proofs.lemmas.client.Openings.{IsOpening, opening-meaning}
+use Rattle.gate_history.proofs.lemmas.client.Once.{AtMostOne, opened-one}
 use Rattle.gate_history.proofs.lemmas.state.Draws.{length-draws, draws-fresh}
 
 -- ---- how often an id is there
@@ -194,16 +195,6 @@ record IsAlone (e : Effect) : Type 0 where
 alone : (e : Effect) → imports e ≡ true → IsAlone e
 alone (Imports reply) h = record { stays = refl; keeps = refl }
 alone _ h = absurd (false≢true h)
-
-abbrev AtMostOne : List Submission → Type 0
-AtMostOne [] = Unit {0}
-AtMostOne (s ∷ []) = Unit {0}
-AtMostOne (s ∷ t ∷ ss) = ⊥
-
-opened-one : (e : Effect) → AtMostOne (opened e)
-opened-one (Opens s) = tt
-opened-one (Waits s fill) = tt
-opened-one _ = tt
 
 both-same : (b : Bool) → both b b ≡ b
 both-same true = refl

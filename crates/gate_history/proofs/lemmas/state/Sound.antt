@@ -1,7 +1,6 @@
 -- The state after every past is sound.
 use Rattle.std.proofs.Common.{◌≡◌, ℕ, ◌<◌, ◌+◌, ◌&&◌, Bool, true, false, cond, if◌then◌else◌, eqb, List, [], ◌∷◌, ◌++◌, length, map, None, refl, sym, ap, subst, ◌∙◌, arith}
 use Rattle.std.specs.Prelude.{filter}
-use Rattle.std.proofs.lemmas.Bool.Decides.{nat_tests}
 use Rattle.std.proofs.lemmas.List.{length-append, length-map}
 use Rattle.std.proofs.lemmas.List.Elements.{filter-append}
 use Rattle.gate_history.specs.declared.item.Item.{Item}
@@ -19,11 +18,8 @@ use Rattle.gate_history.proofs.lemmas.Lists.{Each, Each-filter}
 use Rattle.gate_history.proofs.lemmas.step.Steps.{submits-is, placed}
 use Rattle.gate_history.proofs.lemmas.step.Runs.{well}
 use Rattle.gate_history.proofs.lemmas.client.Once.{few-numbered}
-use Rattle.gate_history.proofs.lemmas.state.StreamIds.{times-append}
+use Rattle.gate_history.proofs.lemmas.state.StreamIds.{swap, times-append}
 use Rattle.gate_history.proofs.lemmas.state.Flights.{sound}
-
-swap : (a b : ℕ) → eqb a b ≡ eqb b a
-swap a b = grind (arith, nat_tests)
 
 -- as often as an id is there, so many have it
 one-more : (id : ℕ) (s : Submission) (ss : List Submission) → length (filter (has_id id) ss) ≡ times id (ids_of ss) → (b : Bool) →

@@ -1,9 +1,10 @@
 -- Ids that are drawn in turn for packets, and what is noted of those that start and stop streams.
 use Rattle.usb_base.specs.Number.{part}
-use Rattle.std.proofs.Common.{◌≡◌, ℕ, zero, suc, ◌+◌, ◌≤◌, Bool, true, false, cond, List, [], ◌∷◌, ◌++◌, length, map, set, Option, Some, None, refl, ap, ◌∙◌, arith}
+use Rattle.std.proofs.Common.{◌≡◌, ℕ, zero, suc, ◌+◌, ◌≤◌, Bool, true, false, cond, List, [], ◌∷◌, ◌++◌, length, map, set, Option, Some, None, refl, ap, ◌∙◌, arith, eqb}
 use Rattle.std.specs.Prelude.{zip}
 use Rattle.std.specs.List.{flat_map, last_or}
 use Rattle.std.specs.Option.{option_to_list}
+use Rattle.std.proofs.lemmas.Bool.Decides.{nat_tests}
 use Rattle.std.proofs.lemmas.List.{length-append, length-set}
 use Rattle.usb_base.specs.Endpoint.{endpoint_index, is_iso}
 use Rattle.usb_base.specs.declared.endpoint.EpRow.{EpRow}
@@ -40,6 +41,9 @@ zip-append {P = P} m f last (p ∷ ps) qs = ap (λ (l : List (ℕ × P)). (draw 
 pub last-append : (last : ℕ) (xs ys : List ℕ) → last_of last (xs ++ ys) ≡ last_of (last_of last xs) ys
 last-append last [] ys = refl
 last-append last (x ∷ xs) ys = last-append x xs ys
+
+pub swap : (a b : ℕ) → eqb a b ≡ eqb b a
+swap a b = grind (arith, nat_tests)
 
 -- where some are there, what was before doesn't matter
 pub last-any : (a b : ℕ) (ids : List ℕ) → 1 ≤ length ids → last_of a ids ≡ last_of b ids

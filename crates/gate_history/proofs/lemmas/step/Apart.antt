@@ -33,6 +33,7 @@ use Rattle.gate_history.specs.state.State.{State, state_of, has_number}
 use Rattle.gate_history.specs.host.Responses.{Response, Data, Status, response_of, answer_kind, mismatch}
 use Rattle.gate_history.specs.step.Meaning.{importable, imported_as, asked_meaning, verdict_of, drawn_for, submission, by_stream, accepted_as, accepts, answered_as, answer_to, by_response, arrives, told_meaning, meaning, mark_of}
 use Rattle.gate_history.specs.step.Past.{is_left_out, past}
+use Rattle.gate_history.proofs.lemmas.step.Aside.{by-test}
 
 -- ---- effects of the client's items
 
@@ -40,17 +41,13 @@ pub record SparesHost (e : Effect) : Type 0 where
   pub closes : closes_host e ≡ false
   pub agrees-none : agrees e ≡ None
 
-either : (P : Effect → Type 0) (b : Bool) (e f : Effect) → P e → P f → P (cond b e f)
-either P true e f h k = h
-either P false e f h k = k
-
 client-import : (st : State) (o : Option Connect) → SparesHost (imported_as st o)
 client-import st None = record { closes = refl; agrees-none = refl }
 client-import st (Some c) = record { closes = refl; agrees-none = refl }
 
 client-op : (st : State) (place : ℕ) (p : OpPacket) → SparesHost (asked_meaning st place (Op p))
-client-op st place (op.ReqDevlist status) = either SparesHost st.imported _ _ (record { closes = refl; agrees-none = refl }) (record { closes = refl; agrees-none = refl })
-client-op st place (op.ReqImport status busid) = either SparesHost st.imported _ _ (record { closes = refl; agrees-none = refl }) (client-import st (importable st busid))
+client-op st place (op.ReqDevlist status) = by-test SparesHost st.imported _ _ (record { closes = refl; agrees-none = refl }) (record { closes = refl; agrees-none = refl })
+client-op st place (op.ReqImport status busid) = by-test SparesHost st.imported _ _ (record { closes = refl; agrees-none = refl }) (client-import st (importable st busid))
 client-op st place (op.RepDevlist status devices) = record { closes = refl; agrees-none = refl }
 client-op st place (op.RepImport status device) = record { closes = refl; agrees-none = refl }
 
@@ -65,9 +62,9 @@ client-submit st r v =
 
 client-urb : (st : State) (place : ℕ) (p : UrbPacket) → SparesHost (asked_meaning st place (Urb p))
 client-urb st place (urb.Submit s) =
-    either SparesHost (not st.imported) _ _ (record { closes = refl; agrees-none = refl })
-    (either SparesHost (has_number st s.head.seqnum) _ _ (record { closes = refl; agrees-none = refl }) (client-submit st (request_of s) (verdict_of st (request_of s))))
-client-urb st place (urb.Unlink u) = either SparesHost (not st.imported) _ _ (record { closes = refl; agrees-none = refl }) (record { closes = refl; agrees-none = refl })
+    by-test SparesHost (not st.imported) _ _ (record { closes = refl; agrees-none = refl })
+    (by-test SparesHost (has_number st s.head.seqnum) _ _ (record { closes = refl; agrees-none = refl }) (client-submit st (request_of s) (verdict_of st (request_of s))))
+client-urb st place (urb.Unlink u) = by-test SparesHost (not st.imported) _ _ (record { closes = refl; agrees-none = refl }) (record { closes = refl; agrees-none = refl })
 client-urb st place (urb.RetSubmit r) = record { closes = refl; agrees-none = refl }
 client-urb st place (urb.RetUnlink r) = record { closes = refl; agrees-none = refl }
 
@@ -114,9 +111,9 @@ host-arrival st ep iso packet (Some up) = record { refuses = refl; ends = refl }
 
 host-data : (st : State) (place : ℕ) (h : Header) (d : RedirData) → SparesClient (told_meaning st place h (Carrying d))
 host-data st place h (data_packet.Interrupt endpoint status length body) =
-    either SparesClient (is_in_endpoint endpoint) _ _ (host-arrival st endpoint false _ (stream_of st.streams endpoint)) (host-response st place h _)
+    by-test SparesClient (is_in_endpoint endpoint) _ _ (host-arrival st endpoint false _ (stream_of st.streams endpoint)) (host-response st place h _)
 host-data st place h (data_packet.Iso endpoint status length body) =
-    either SparesClient (is_in_endpoint endpoint) _ _ (host-arrival st endpoint true _ (stream_of st.streams endpoint)) (record { refuses = refl; ends = refl })
+    by-test SparesClient (is_in_endpoint endpoint) _ _ (host-arrival st endpoint true _ (stream_of st.streams endpoint)) (record { refuses = refl; ends = refl })
 host-data st place h d = host-response st place h (response_of (Carrying d))
 
 host-told : (st : State) (place : ℕ) (h : Header) (p : RedirPacket) → SparesClient (told_meaning st place h p)
@@ -145,7 +142,7 @@ arrival-agrees st ep iso packet None = refl
 arrival-agrees st ep iso packet (Some up) = refl
 
 none-agreed : (b : Bool) (e f : Effect) → agrees e ≡ None → agrees f ≡ None → agrees (cond b e f) ≡ None
-none-agreed b e f h k = either (λ x. agrees x ≡ None) b e f h k
+none-agreed b e f h k = by-test (λ x. agrees x ≡ None) b e f h k
 
 pub data-agrees : (st : State) (place : ℕ) (h : Header) (d : RedirData) → agrees (told_meaning st place h (Carrying d)) ≡ None
 data-agrees st place h (data_packet.Interrupt endpoint status length body) =

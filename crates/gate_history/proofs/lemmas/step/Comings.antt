@@ -2,7 +2,8 @@
 use Rattle.std.proofs.Common.{◌≡◌, ℕ, ◌==◌, Bool, true, false, zero, suc, List, [], ◌∷◌, ◌++◌, length, map, Option, Some, None, refl, sym, ap, subst, ◌∙◌, append_assoc, arith}
 use Rattle.std.specs.Prelude.{IfSome, drop}
 use Rattle.std.specs.List.{flat_map}
-use Rattle.std.proofs.lemmas.List.{append-nil, drop_at}
+use Rattle.std.proofs.lemmas.List.{append-nil}
+use Rattle.std.proofs.Math.Seq.{drop-length}
 use Rattle.usb_base.specs.Number.{AreBytes}
 use Rattle.usb_base.specs.declared.reason.Reason.{Reason}
 use Rattle.usb_base.proofs.Numbers.{AreBytes-append, AreBytes-left, AreBytes-right, le_at-below_16}
@@ -119,10 +120,6 @@ host-wrong-own (Some w) = (tt, tt)
 host-steady : IsSteady host_reader
 host-steady = reads_steady (stream_format ToGuest) after (stream_sound ToGuest)
 
--- what stands behind all of a list
-drop-whole : {A : Type 0} (xs : List A) → drop (length xs) xs ≡ []
-drop-whole {A = A} xs = ap (drop (length xs)) (sym (append-nil xs)) ∙ drop_at xs [] (length xs) refl
-
 comes-piece : (bytes piece : List ℕ) → AreBytes bytes → AreBytes (bytes ++ piece) → (ys : List Item) → Comes (host_split bytes).packets ys → Comes (host_split (bytes ++ piece)).packets (onto (added host_items bytes piece) ys)
 comes-piece bytes piece are all ys c = by x.wrong refl
   where
@@ -144,7 +141,7 @@ comes-piece bytes piece are all ys c = by x.wrong refl
     by (Some w) wrong =
         let same : y ≡ x = split-more host_reader host-steady stream_start bytes piece are ∙ ap (further_by host_reader x piece) wrong in
         let items : host_items (bytes ++ piece) ≡ host_items bytes = ap (λ (z : Splitting RedirState (Header × RedirPacket) Reason). map told_item z.packets ++ wrong_items HostWrong z.wrong) same in
-        let none : added host_items bytes piece ≡ [] = ap (drop (length (host_items bytes))) items ∙ drop-whole (host_items bytes) in
+        let none : added host_items bytes piece ≡ [] = ap (drop (length (host_items bytes))) items ∙ drop-length (host_items bytes) in
         subst (λ (l : List Item). Comes y.packets (onto l ys)) (sym none) (c.0, c.1 ∙ sym (ap (λ (z : Splitting RedirState (Header × RedirPacket) Reason). z.packets) same))
 
 -- ---- all events

@@ -4,6 +4,7 @@ use Rattle.std.proofs.Common.{◌≡◌, ℕ, suc, ◌<◌, ◌≤◌, ◌&&◌,
 use Rattle.std.specs.Prelude.{filter, is_none}
 use Rattle.std.proofs.lemmas.List.{map-append}
 use Rattle.std.proofs.lemmas.List.Elements.{filter-append}
+use Rattle.std.proofs.lemmas.Bool.{lt-leb}
 use Rattle.gate_history.specs.step.Marks.{Submission, Effect, Mark}
 use Rattle.gate_history.specs.client.Submits.{opened, accepted, end_of, is_live, live, asks, unlinker, Pending, pending, abandoned_after}
 use Rattle.gate_history.specs.client.Ends.{ends, End}
@@ -35,27 +36,24 @@ placed (m ∷ ms) w =
 
 -- ---- a submit that isn't there yet has no end and no unlinker
 
-beyond : (a n : ℕ) → n < a → leb a n ≡ false
-beyond a n h = grind arith
-
-within : (a n : ℕ) → a < suc n → leb a n ≡ true
+pub within : (a n : ℕ) → a < suc n → leb a n ≡ true
 within a n h = grind arith
 
 pub unopened-end : (ms : List Mark) (s : Submission) → length ms ≤ s.place → end_of ms s ≡ None
 unopened-end [] s h = refl
 unopened-end (m ∷ ms) s h =
     ap (λ (e : Option End). option_or e (cond (leb s.place (length ms)) (ends m.what s) None)) (unopened-end ms s (omega arith))
-    ∙ ap (λ (b : Bool). cond b (ends m.what s) None) (beyond s.place (length ms) (omega arith))
+    ∙ ap (λ (b : Bool). cond b (ends m.what s) None) (lt-leb s.place (length ms) (omega arith))
 
 pub unopened-unlinker : (ms : List Mark) (s : Submission) → length ms ≤ s.place → unlinker ms s ≡ None
 unopened-unlinker [] s h = refl
 unopened-unlinker (m ∷ ms) s h =
     ap (λ (u : Option ℕ). option_or u (cond (leb s.place (length ms) && is_live ms s) (asks m.what s) None)) (unopened-unlinker ms s (omega arith))
-    ∙ ap (λ (b : Bool). cond (b && is_live ms s) (asks m.what s) None) (beyond s.place (length ms) (omega arith))
+    ∙ ap (λ (b : Bool). cond (b && is_live ms s) (asks m.what s) None) (lt-leb s.place (length ms) (omega arith))
 
 -- ---- those that are live
 
-is_none-or_else : {A : Type 0} (a b : Option A) → is_none (option_or a b) ≡ both (is_none a) (is_none b)
+pub is_none-or_else : {A : Type 0} (a b : Option A) → is_none (option_or a b) ≡ both (is_none a) (is_none b)
 is_none-or_else (Some a) b = refl
 is_none-or_else None b = refl
 

@@ -5,7 +5,7 @@ use Rattle.std.specs.Prelude.{nat_lt, nat_le, FitsSigned}
 use Rattle.unlink_race.specs.Searches.{is_stream}
 use Rattle.std.specs.List.{find}
 use Rattle.std.specs.Option.{option_map_or}
-use Rattle.std.proofs.lemmas.Bool.{false≢true, true≢false, eqb-true, leb-false}
+use Rattle.std.proofs.lemmas.Bool.{false≢true, true≢false, eqb-true, leb-false, not-false}
 use Rattle.std.proofs.lemmas.Bool.Decides.{eqb_tells}
 use Rattle.usb_base.specs.declared.setup.Setup.{Setup}
 use Rattle.usb_base.specs.declared.endpoint.EpKind.{EpKind}
@@ -31,7 +31,7 @@ use Rattle.gate_history.specs.host.Responses.{route_gets}
 use Rattle.gate_history.specs.client.Carried.{IsDirected, IsRequest}
 use Rattle.gate_parts.specs.state.Rows.{kind_of, IsRead}
 use Rattle.gate_history.proofs.lemmas.Lists.{Each}
-use Rattle.gate_history.proofs.lemmas.client.Carried.{address-way, not-false}
+use Rattle.gate_history.proofs.lemmas.client.Carried.{address-way, no-length}
 
 -- it moves no data, or reads only where the submit says so
 abbrev pub Reads : Bool → ℕ → ℕ → Verdict → Type 0
@@ -88,9 +88,6 @@ route-reads s h =
         ),
       ),
     ) h
-
-no-length : (n : ℕ) → (not (n == 0) && true) ≡ false → n ≡ 0
-no-length n e = elim (eqb_tells n 0) [ inl h ↦ h.1 | inr h ↦ absurd (true≢false (rw h.0 at e)) ]
 
 -- its directions are one, or it moves no data
 one-way : (way is_in : Bool) (length : ℕ) → (not (length == 0) && not (beq way is_in)) ≡ false → (length ≡ 0) ⊎ (way ≡ is_in)

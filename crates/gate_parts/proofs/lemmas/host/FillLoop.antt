@@ -1,6 +1,6 @@
 -- The loop that answers the requests which a stream's packets fill: what is so far, and one row more.
 use Rattle.std.proofs.Common.{◌≡◌, ◌≤◌, ◌+◌, ℕ, zero, suc, Bool, true, cond, List, [], ◌∷◌, ◌++◌, length, map, drop, Option, Some, None, refl, sym, ap, ◌∙◌, subst, arith, inl, inr}
-use Rattle.std.specs.Prelude.{◌<◌, Result, Ok, Err, OnErr, IsSome, slice_get}
+use Rattle.std.specs.Prelude.{◌<◌, IsSome, slice_get}
 use Rattle.std.specs.Option.{option_map}
 use Rattle.std.proofs.lemmas.List.{drop-drop, length-drop}
 use Rattle.std.proofs.lemmas.List.Sums.{length-filter, count_by-le-length}
@@ -29,11 +29,6 @@ use Rattle.gate_parts.specs.host.Fill.{row_cut, cut_bytes, HasTaken, rows_fill, 
 use Rattle.gate_parts.specs.declared.write.outputs.Outputs.{Outputs}
 use Rattle.gate_parts.specs.write.Outputs.{with_answers}
 use Rattle.gate_parts.proofs.lemmas.write.Outputs.{with-none, with-both}
-
--- what holds holds of a failure
-pub on-err : {A E : Type 0} (r : Result A E) (P : Type 0) → P → OnErr r P
-on-err (Ok v) P h = tt
-on-err (Err e) P h = h
 
 -- ---- the rows that are left behind the first so many
 

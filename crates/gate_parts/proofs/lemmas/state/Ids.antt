@@ -1,6 +1,7 @@
 -- The ids of rows in flight.
 use Rattle.std.proofs.Common.{◌≡◌, ℕ, ◌+◌, ◌≤◌, ◌<◌, leb, max, ◌||◌, ◌&&◌, Bool, true, false, cond, not, eqb, List, [], ◌∷◌, ◌++◌, Option, Some, None, length, map, filter, refl, sym, ap, ◌∙◌, arith}
 use Rattle.std.specs.List.{list_any}
+use Rattle.std.proofs.lemmas.Bool.{lt-leb}
 use Rattle.std.proofs.lemmas.Bool.Decides.{nat_tests}
 use Rattle.std.proofs.lemmas.List.{length-append, length-map}
 use Rattle.std.proofs.lemmas.List.Filters.{length-filter_both}
@@ -12,12 +13,9 @@ use Rattle.unlink_race.specs.Searches.{has_id, goes_by_id}
 use Rattle.gate_history.specs.state.Ids.{holds, greatest, Fits}
 use Rattle.gate_history.specs.state.StreamIds.{StreamIds, ids_of_streams}
 use Rattle.gate_parts.specs.state.Ids.{row_ids, ids_in, is_id, greatest_in, greatest_of}
-use Rattle.gate_history.proofs.lemmas.state.StreamIds.{some}
+use Rattle.gate_history.proofs.lemmas.state.StreamIds.{some, swap}
 use Rattle.std.specs.Option.{option_to_list, unwrap_or}
 use Rattle.std.specs.Prelude.{fold}
-
-swap : (a b : ℕ) → eqb a b ≡ eqb b a
-swap a b = grind (arith, nat_tests)
 
 holds-row : (id row : ℕ) (by_id : Bool) (rest : Bool) (ids : List ℕ) → rest ≡ holds ids id →
     ((by_id && eqb row id) || rest) ≡ holds (cond by_id (row ∷ ids) ids) id
@@ -88,11 +86,8 @@ none-above id a (o ∷ l) above =
     let here = is-above id a o later.0 in
     (here.0, (λ i. here.1 i || later.1 i))
 
-above-them : (id greatest : ℕ) → greatest < id → leb id greatest ≡ false
-above-them id greatest above = grind (arith, nat_tests)
-
 pub none-held : (id greatest : ℕ) (c : StreamIds) → greatest ≡ greatest_of c.started c.stopped → greatest < id → leb id greatest ≡ holds (ids_of_streams c) id
 none-held id greatest c is above =
     let started : greatest_in c.started < id = omega (arith, is, above) in
     let stopped : greatest_in c.stopped < id = omega (arith, is, above) in
-    above-them id greatest above ∙ (λ i. sym (none-above id 0 c.started started).1 i || sym (none-above id 0 c.stopped stopped).1 i) ∙ holds-stream_ids id c
+    lt-leb id greatest above ∙ (λ i. sym (none-above id 0 c.started started).1 i || sym (none-above id 0 c.stopped stopped).1 i) ∙ holds-stream_ids id c

@@ -10,7 +10,8 @@ use Rattle.gate_parts.specs.state.Rows.{IsFine}
 use Rattle.gate_parts.specs.host.Fill.{row_cut, cut_bytes, HasTaken, waiting_rows}
 use Rattle.gate_parts.specs.declared.write.outputs.Outputs.{Outputs}
 use Rattle.gate_parts.specs.write.Outputs.{with_answers}
-use Rattle.gate_parts.proofs.lemmas.host.FillLoop.{waiting-at, left-next, left-none, left-all, none-left, none-held, stopped, taken, moved, some-filled, cut-some, on-err}
+use Rattle.stream_buffers.proofs.Joining.{on-err}
+use Rattle.gate_parts.proofs.lemmas.host.FillLoop.{waiting-at, left-next, left-none, left-all, none-left, none-held, stopped, taken, moved, some-filled, cut-some}
 use Rattle.gate_parts.proofs.lemmas.write.Outputs.{extended, some-none}
 use Rattle.gate_parts.proofs.host.fill.write_fillings.Goals as goal
 
