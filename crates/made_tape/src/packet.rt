@@ -42,7 +42,7 @@ pub fn configure(alloc: Global) -> Result<Bytes, Memory>
     )
 }
 
-/// Sends so many bytes, all of them the round's number modulo 256.
+/// Sends so many bytes, each of them the number of the round, from 1 on, modulo 256.
 pub fn send(alloc: Global, round: u16, size: u16) -> Result<Bytes, Memory>
     ensures { IfOk result (λ bytes. bytes ≡ send_bytes round size) }
 {

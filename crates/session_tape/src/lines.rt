@@ -42,7 +42,7 @@ pub fn push_refusal(alloc: Global, refusal: &Refusal, text: &mut Bytes) -> Resul
     refusal.line(alloc, text)
 }
 
-/// The comment with the first id.
+/// The comment with the first id, and LF.
 pub fn first_comment(alloc: Global, first_id: u64) -> Result<String, Memory>
     ensures { IfOk result (λ text. string_bytes text ≡ first_comment first_id) }
 {

@@ -20,6 +20,7 @@ pub enum Status {
     WriteFault,
     /// A side's link failed.
     LinkFault(Side),
+    /// Memory ran out.
     OutOfMemory,
     /// The line of this number, counted from 1, is the first that isn't in the tape's grammar or passes its
     /// limit.

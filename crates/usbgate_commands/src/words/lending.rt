@@ -6,6 +6,7 @@ use usbgate_tapes::Device;
 /// Which device is lent, where the guest's door is, and when to end.
 #[derive(Drop)]
 pub struct Lending<'a> {
+    /// The device that is lent.
     pub device: Device,
     /// The address of the guest's door.
     pub listen: &'a str,

@@ -13,7 +13,9 @@ pub struct Serving<'a> {
     pub listen: &'a str,
     /// After how many rounds in a row in which nothing comes it ends.
     pub idle: u32,
+    /// The id of the first packet to the host.
     pub first_id: u32,
+    /// What becomes of a client whose device is lost.
     pub after_loss: AfterLoss,
     /// The file that it is recorded in.
     pub recording: Option<&'a str>,

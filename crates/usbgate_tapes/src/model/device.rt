@@ -9,9 +9,13 @@ pub const BLOCKS: u32 = 64;
 /// The modelled devices.
 #[derive(Clone, Copy, PartialEq, Eq)]
 pub enum Device {
+    /// `keyboard`: an interrupt endpoint.
     Keyboard,
+    /// `loop`: a bulk endpoint each way.
     Loopback,
+    /// `tone`: an isochronous endpoint.
     Tone,
+    /// `disk`: mass storage of `BLOCKS` blocks.
     Disk,
 }
 

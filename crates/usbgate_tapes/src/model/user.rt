@@ -12,6 +12,7 @@ use usb_base::Memory;
 
 /// Takes a modelled device, whichever it is: `Device::make_for` makes the one that is asked for.
 pub trait DeviceUser {
+    /// What comes of it.
     type Answer;
 
     /// It may be handed a device.
@@ -23,6 +24,7 @@ pub trait DeviceUser {
     /// What comes of a device by what it means, and by its state as it is plugged in.
     ghost Comes: { Self → Self → Self.Answer → (S : Type 0) → Meaning S → S → Type 0 };
 
+    /// Does with the device what is to be done.
     fn take<G: Gadget>(&mut self, gadget: G) -> Self::Answer
         requires { Ready self.old }
         ensures holds { Holds self.old self.new result }

@@ -41,6 +41,7 @@ pub trait ShownFormat: PacketFormat {
 
     ghost line: { ℕ → Self.Packet → List ℕ };
 
+    /// Whose packets they are.
     fn side() -> Side
         ensures { result ≡ the_side };
 
