@@ -6,14 +6,16 @@ use Rattle.usb_base.specs.declared.reason.Reason.{Reason}
 use Rattle.usb_base.proofs.Numbers.{AreBytes-left, AreBytes-right, AreBytes-append}
 use Rattle.packet_stream.specs.Format.{Format}
 use Rattle.packet_stream.specs.Split.{Position, past, Spells}
+use Rattle.packet_stream.specs.Items.{onto}
 use Rattle.packet_stream.proofs.Splits.{is_splitting}
+use Rattle.packet_stream.proofs.Pieces.{wrong_items}
 use Rattle.usbip_urb.specs.declared.client.ClientPacket.{ClientPacket}
 use Rattle.usbip_urb.specs.ClientPackets.{IsClientPacket, client_packets}
 use Rattle.usbip_urb.specs.Sound.ClientPackets.{client_packets_sound}
 use Rattle.model_device.specs.Meaning.{Meaning}
 use Rattle.gate_history.proofs.lemmas.Lists.{Each}
 use Rattle.gate_history.specs.step.Events.{Event, ClientPiece, ClientEnd, HostPiece, HostEnd, client_bytes}
-use Rattle.gate_history.specs.step.History.{client_split, client_items, brought, wrong_items}
+use Rattle.gate_history.specs.step.History.{client_split, client_items, brought}
 use Rattle.gate_history.specs.declared.item.Item.{Item}
 use Rattle.gate_history.specs.declared.item.Item.TheVariants.{Asked, ClientWrong, ClientLeft, Told, HostWrong, HostLeft}
 use Rattle.gate_history.specs.step.Streams.{client_start}
@@ -21,7 +23,7 @@ use Rattle.direct_run.specs.Moves.{Move, ByClient, move, run}
 use Rattle.direct_run.specs.Clients.{IsMove, then_sent, present_outs}
 use Rattle.gate_history.specs.write.Readable.{piece_bytes}
 use Rattle.direct_run.proofs.Comes.{each-drop}
-use Rattle.direct_run.proofs.Several.{made_by, moves_onto}
+use Rattle.direct_run.proofs.Several.{made_by}
 
 -- ---- what a piece of a client brings
 
@@ -58,7 +60,7 @@ piece-fits events b h =
 
 -- ---- moves that bytes can make
 
-pub each-onto : (xs before : List Move) → Each IsMove xs → Each IsMove before → Each IsMove (moves_onto xs before)
+pub each-onto : (xs before : List Move) → Each IsMove xs → Each IsMove before → Each IsMove (onto xs before)
 each-onto [] before h k = k
 each-onto (x ∷ xs) before h k = each-onto xs (x ∷ before) h.1 (h.0, k)
 
@@ -86,7 +88,7 @@ piece-stays (Told place header packet ∷ xs) h = absurd h.0
 piece-stays (HostWrong place reason ∷ xs) h = absurd h.0
 piece-stays (HostLeft ∷ xs) h = absurd h.0
 
-pub present-onto : {S : Type 0} (m : Meaning S) (s : S) (xs before : List Move) → Each Stays xs → present_outs m s (moves_onto xs before) ≡ present_outs m s before ++ (made_by m (run m s before).world xs).outs
+pub present-onto : {S : Type 0} (m : Meaning S) (s : S) (xs before : List Move) → Each Stays xs → present_outs m s (onto xs before) ≡ present_outs m s before ++ (made_by m (run m s before).world xs).outs
 present-onto m s [] before h = sym (append-nil (present_outs m s before))
 present-onto m s (x ∷ xs) before h =
     let w = (run m s before).world in

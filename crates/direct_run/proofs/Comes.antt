@@ -3,6 +3,7 @@
 use Rattle.std.proofs.Common.{◌≡◌, ℕ, List, [], ◌∷◌, ◌++◌, drop, map, sym, ap, ◌∙◌, subst}
 use Rattle.std.specs.Prelude.{zero, suc}
 use Rattle.packet_stream.specs.Split.{Position, past}
+use Rattle.packet_stream.specs.Items.{onto}
 use Rattle.redir_wire.specs.declared.packet.Header.{Header}
 use Rattle.redir_wire.specs.declared.packet.Way.{Way}
 use Rattle.redir_wire.specs.declared.packet.Way.TheVariants.{ToGuest, ToHost}
@@ -13,13 +14,11 @@ use Rattle.redir_data.specs.declared.packet.RedirPacket.TheVariants.{Plain}
 use Rattle.redir_data.specs.declared.state.RedirState.{RedirState}
 use Rattle.redir_data.specs.Streams.{after, stream_format}
 use Rattle.model_device.specs.Meaning.{Meaning}
-use Rattle.redir_host.specs.guest.Guest.{asked}
-use Rattle.redir_host.specs.step.History.{onto as acts_onto}
+use Rattle.redir_host.proofs.lemmas.guest.Pieces.{asked}
 use Rattle.redir_host.specs.step.Items.{Item as HostItem, Asked}
 use Rattle.redir_host.specs.write.Output.{host_hello}
 use Rattle.gate_history.proofs.lemmas.Lists.{Each}
 use Rattle.gate_history.specs.write.Bytes.{gateway_hello}
-use Rattle.gate_history.specs.step.History.{onto}
 use Rattle.gate_history.specs.declared.item.Item.{Item}
 use Rattle.gate_history.specs.declared.item.Item.TheVariants.{Told}
 use Rattle.gate_history.specs.state.State.{State}
@@ -129,11 +128,11 @@ abbrev pub Listens : {S : Type 0} → Meaning S → S → List Found → List Ho
 Listens m s [] xs = IsSilent m s xs
 Listens m s (o ∷ os) xs = HasHeard m s xs
 
-heard-asked : {S : Type 0} (m : Meaning S) (s : S) (is : List Found) (xs : List HostItem) → Each (IsBehind ToHost) is → HasHeard m s xs → HasHeard m s (acts_onto (map asked is) xs)
+heard-asked : {S : Type 0} (m : Meaning S) (s : S) (is : List Found) (xs : List HostItem) → Each (IsBehind ToHost) is → HasHeard m s xs → HasHeard m s (onto (map asked is) xs)
 heard-asked m s [] xs h k = k
 heard-asked m s (i ∷ is) xs h k = heard-asked m s is (asked i ∷ xs) h.1 (heard-packet m s xs (bare i.1) h.0.1 k)
 
-pub listens-asked : {S : Type 0} (m : Meaning S) (s : S) (old is : List Found) (xs : List HostItem) → Comes ToHost gateway_hello old is → Listens m s old xs → Listens m s (old ++ is) (acts_onto (map asked is) xs)
+pub listens-asked : {S : Type 0} (m : Meaning S) (s : S) (old is : List Found) (xs : List HostItem) → Comes ToHost gateway_hello old is → Listens m s old xs → Listens m s (old ++ is) (onto (map asked is) xs)
 listens-asked m s [] [] xs h k = k
 listens-asked m s [] (i ∷ is) xs h k =
     heard-asked m s is (asked i ∷ xs) h.1 (subst (λ (x : Header × RedirPacket). HasHeard m s (Asked x.0.id x.1 ∷ xs)) (sym h.0) (heard-hello m s xs k))

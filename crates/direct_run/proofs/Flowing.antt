@@ -1,9 +1,11 @@
 -- What one step more makes of what flows on the wires.
-use Rattle.std.proofs.Common.{◌≡◌, ℕ, List, [], ◌∷◌, ◌++◌, length, take, drop, map, Option, Some, None, refl, sym, ap, ◌∙◌, subst, append-nil, append_assoc}
+use Rattle.std.proofs.Common.{◌≡◌, ℕ, List, [], ◌∷◌, ◌++◌, length, take, drop, map, Option, Some, None, refl, sym, ap, ◌∙◌, subst, append_assoc}
 use Rattle.std.proofs.lemmas.List.{map-append}
 use Rattle.usb_base.specs.Number.{AreBytes}
 use Rattle.usb_base.specs.declared.reason.Reason.{Reason}
 use Rattle.packet_stream.specs.Split.{Position, Splitting}
+use Rattle.packet_stream.specs.Items.{onto}
+use Rattle.packet_stream.proofs.Pieces.{wrong_items, added-right}
 use Rattle.redir_wire.specs.declared.packet.Header.{Header}
 use Rattle.redir_wire.specs.declared.packet.Way.{Way}
 use Rattle.redir_wire.specs.declared.packet.Way.TheVariants.{ToGuest, ToHost}
@@ -15,18 +17,19 @@ use Rattle.redir_data.specs.Streams.{after, stream_format, stream_start}
 use Rattle.usbip_urb.specs.declared.client.ClientPacket.{ClientPacket}
 use Rattle.model_device.specs.Meaning.{Meaning}
 use Rattle.redir_host.specs.step.Acts.{Act, Piece, guest_bytes}
-use Rattle.redir_host.specs.guest.Guest.{guest_split, asked}
-use Rattle.redir_host.specs.step.History.{brought as act_brought, onto as acts_onto, history as host_history}
+use Rattle.redir_host.specs.guest.Guest.{guest_split}
+use Rattle.redir_host.specs.step.History.{brought as act_brought, history as host_history}
 use Rattle.redir_host.specs.step.Items.{Item as HostItem}
 use Rattle.redir_host.specs.write.Output.{host_hello, act_bytes}
 use Rattle.gate_history.proofs.lemmas.Lists.{Each}
+use Rattle.redir_host.proofs.lemmas.guest.Pieces.{guest_stream, asked}
 use Rattle.redir_host.proofs.lemmas.step.Acts.{act-out}
 use Rattle.gate_history.specs.write.Bytes.{gateway_hello, host_bytes_of}
 use Rattle.gate_history.specs.step.Events.{Event, ClientPiece, ClientEnd, HostPiece, client_bytes, host_bytes}
-use Rattle.gate_history.specs.step.History.{client_split, host_split, client_items, brought, onto, arrivals, wrong_items}
+use Rattle.gate_history.specs.step.History.{client_split, host_split, client_items, brought, arrivals}
 use Rattle.gate_history.specs.declared.item.Item.{Item}
 use Rattle.gate_history.specs.declared.item.Item.TheVariants.{Asked, ClientWrong}
-use Rattle.gate_history.proofs.lemmas.step.Piece.{host-added}
+use Rattle.gate_history.proofs.lemmas.step.Piece.{host_stream}
 use Rattle.direct_run.specs.World.{Course, first_id, nothing_yet, happened, acted, sent_to_host, sent_to_gate, wire_to_host, wire_to_gate}
 use Rattle.direct_run.specs.Trace.{given_of}
 use Rattle.direct_run.specs.Packets.{both_caps, Found, bare, bares, sent_by_gate, sent_by_host, read_by_host, read_by_gate}
@@ -37,7 +40,7 @@ use Rattle.direct_run.proofs.Headed.{bare-headed, bare-all, sound, empty, on_wir
 use Rattle.direct_run.proofs.Meeting.{IsClients, unmet-first}
 use Rattle.direct_run.proofs.Heard.{IsOwn, silent-first, silent-own, heard-own}
 use Rattle.direct_run.proofs.Comes.{told_item, Comes, comes, each-drop, Meets, meets-told, meets-client, Listens, listens-asked}
-use Rattle.direct_run.proofs.Flows.{Flows, fed-by, cut-fed, cut-asked, cut-told, guest-added}
+use Rattle.direct_run.proofs.Flows.{Flows, fed-by, cut-fed, cut-asked, cut-told}
 
 -- ---- packets without headers and places
 
@@ -133,7 +136,7 @@ gets-to-gate m s c n f h had all =
       packets-are = cut.packets-are;
       come = comes ToGuest (Plain host_hello) stream_start (sent_by_host m s c) h (read_by_gate c) cut.fresh cut.later cut.all-are;
       all-are = sym (wire-bares ToGuest (Plain host_hello) stream_start (sent_by_host m s c)) ∙ ap bares cut.all-are ∙ bares-three (read_by_gate c) cut.fresh cut.later;
-      brought-is = host-added (host_bytes c.events) (take n (wire_to_gate m s c)) (read_by_gate c) cut.fresh None refl cut.old-right cut.packets-are cut.right ∙ append-nil (map told_item cut.fresh);
+      brought-is = added-right host_stream (host_bytes c.events) (take n (wire_to_gate m s c)) cut.fresh cut.old-right cut.packets-are cut.right;
       right = cut.right;
     }
 
@@ -163,7 +166,7 @@ gets-to-host m s c n f h had all =
       packets-are = cut.packets-are;
       come = comes ToHost gateway_hello stream_start (sent_by_gate c) h (read_by_host c) cut.fresh cut.later cut.all-are;
       all-are = sym (wire-bares ToHost gateway_hello stream_start (sent_by_gate c)) ∙ ap bares cut.all-are ∙ bares-three (read_by_host c) cut.fresh cut.later;
-      brought-is = guest-added (guest_bytes c.acts) (take n (wire_to_host c)) (read_by_host c) cut.fresh refl cut.old-right cut.packets-are cut.right;
+      brought-is = added-right guest_stream (guest_bytes c.acts) (take n (wire_to_host c)) cut.fresh cut.old-right cut.packets-are cut.right;
       right = cut.right;
     }
 
@@ -171,7 +174,7 @@ pub flows-asked : {S : Type 0} (m : Meaning S) (s : S) (c : Course) (n : ℕ) �
 flows-asked m s c n f g =
     flows-act m s c (Piece (take n (wire_to_host c))) (drop n (wire_to_host c)) f (cut-fed n (guest_bytes c.acts) (wire_to_host c) (sent_to_host c) f.fed)
     (subst (λ (l : List Found). Listens m s l (host_history (Piece (take n (wire_to_host c)) ∷ c.acts))) (sym g.packets-are)
-    (subst (λ (xs : List HostItem). Listens m s (read_by_host c ++ g.fresh) (acts_onto xs (host_history c.acts))) (sym g.brought-is) (listens-asked m s (read_by_host c) g.fresh (host_history c.acts) g.come f.listens))) g.right
+    (subst (λ (xs : List HostItem). Listens m s (read_by_host c ++ g.fresh) (onto xs (host_history c.acts))) (sym g.brought-is) (listens-asked m s (read_by_host c) g.fresh (host_history c.acts) g.come f.listens))) g.right
 
 -- ---- what is done with the device
 
@@ -183,5 +186,5 @@ pub flows-own : {S : Type 0} (m : Meaning S) (s : S) (c : Course) (a : Act) (x :
 flows-own m s c a x is same own f =
     flows-act m s c a (wire_to_host c) f (ap (λ (b : List ℕ). b ++ wire_to_host c) same ∙ f.fed)
     (subst (λ (b : List ℕ). Listens m s (guest_split b).packets (host_history (a ∷ c.acts))) (sym same)
-    (subst (λ (xs : List HostItem). Listens m s (read_by_host c) (acts_onto xs (host_history c.acts))) (sym is) (own-listens m s (read_by_host c) x (host_history c.acts) own f.listens)))
+    (subst (λ (xs : List HostItem). Listens m s (read_by_host c) (onto xs (host_history c.acts))) (sym is) (own-listens m s (read_by_host c) x (host_history c.acts) own f.listens)))
     (ap (λ (b : List ℕ). (guest_split b).wrong) same ∙ f.asked-right)

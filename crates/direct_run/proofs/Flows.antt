@@ -1,8 +1,8 @@
 -- A course on the wires of bytes: what has come to either side is a front of what was sent to it, and is read as a
 -- front of the packets that were sent.
-use Rattle.std.proofs.Common.{◌≡◌, ℕ, List, [], ◌∷◌, ◌++◌, length, take, drop, map, None, refl, sym, ap, ◌∙◌, subst, append-nil, append_assoc}
+use Rattle.std.proofs.Common.{◌≡◌, ℕ, List, [], ◌∷◌, ◌++◌, length, take, drop, None, refl, sym, ap, ◌∙◌, subst, append_assoc}
 use Rattle.std.specs.List.{flat_map}
-use Rattle.std.proofs.lemmas.List.{drop_at, map-append, take-append-drop}
+use Rattle.std.proofs.lemmas.List.{drop_at, take-append-drop}
 use Rattle.usb_base.specs.Number.{AreBytes}
 use Rattle.usb_base.proofs.Numbers.{AreBytes-left, AreBytes-right, AreBytes-append}
 use Rattle.redir_wire.specs.declared.packet.Caps.{Caps}
@@ -12,7 +12,7 @@ use Rattle.redir_data.specs.declared.packet.RedirPacket.TheVariants.{Plain}
 use Rattle.redir_data.specs.Streams.{start, after, stream_format, stream_start}
 use Rattle.model_device.specs.Meaning.{Meaning}
 use Rattle.redir_host.specs.step.Acts.{Act, Piece, guest_bytes}
-use Rattle.redir_host.specs.guest.Guest.{guest_split, asked, wrongs, added}
+use Rattle.redir_host.specs.guest.Guest.{guest_split}
 use Rattle.redir_host.specs.step.History.{history as host_history}
 use Rattle.redir_host.specs.step.Machine.{all_given as host_all_given, bytes_of}
 use Rattle.redir_host.specs.step.Items.{Item as HostItem}
@@ -94,14 +94,6 @@ pub cut-told : {S : Type 0} (m : Meaning S) (s : S) (c : Course) (n : ℕ) → F
 cut-told m s c n f h had all =
     cut-at (stream_format ToGuest) after (sound ToGuest) (empty ToGuest) (on_wire (Plain host_hello) (sent_by_host m s c)) stream_start (wire-fits ToGuest (Plain host_hello) (sent_by_host m s c) host-hello h)
     (host_bytes c.events) (take n (wire_to_gate m s c)) (drop n (wire_to_gate m s c)) had all (cut-fed n (host_bytes c.events) (wire_to_gate m s c) (sent_to_gate m s c) f.gate_fed ∙ to-gate-are m s c f h)
-
--- a piece brings the packets that it makes whole
-pub guest-added : (bytes piece : List ℕ) (given more : List Found) → (guest_split bytes).packets ≡ given → (guest_split bytes).wrong ≡ None → (guest_split (bytes ++ piece)).packets ≡ given ++ more → (guest_split (bytes ++ piece)).wrong ≡ None →
-    added bytes piece ≡ map asked more
-guest-added bytes piece given more a b c d =
-    (λ i. drop (length (map asked (a i) ++ wrongs (b i))) (map asked (c i) ++ wrongs (d i)))
-    ∙ (λ i. drop (length (append-nil (map asked given) i)) ((append-nil (map asked (given ++ more)) ∙ map-append asked given more) i))
-    ∙ drop_at (map asked given) (map asked more) (length (map asked given)) refl
 
 -- ---- what is known of a course was known before
 

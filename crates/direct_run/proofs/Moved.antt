@@ -5,10 +5,11 @@ use Rattle.std.specs.List.{flat_map, list_any}
 use Rattle.std.proofs.lemmas.List.Folds.{list_any-append}
 use Rattle.std.proofs.lemmas.List.{append_cancel_left, map-append}
 use Rattle.redir_data.specs.declared.packet.RedirPacket.{RedirPacket}
+use Rattle.packet_stream.specs.Items.{onto}
 use Rattle.model_device.specs.Meaning.{Meaning}
 use Rattle.redir_host.specs.declared.state.host.Host.{Host}
 use Rattle.redir_host.specs.step.Acts.{Act, Piece}
-use Rattle.redir_host.specs.guest.Guest.{asked}
+use Rattle.redir_host.proofs.lemmas.guest.Pieces.{asked}
 use Rattle.redir_host.specs.step.History.{brought as act_brought, history as host_history}
 use Rattle.redir_host.specs.step.Machine.{is_refusal, notes_of as host_notes_of, steps as host_steps, given_by as host_given, all_given as host_all_given}
 use Rattle.redir_host.specs.write.Output.{host_of}
@@ -36,7 +37,7 @@ use Rattle.direct_run.proofs.Flowing.{GetsToGate, GetsToHost}
 use Rattle.direct_run.proofs.Flows.{Flows}
 use Rattle.direct_run.proofs.Following.{follows-event, host_gives, follows-act}
 use Rattle.direct_run.proofs.Heard.{IsRight, accepts-all}
-use Rattle.direct_run.proofs.Several.{made_by, moves_onto, run-onto, gate_all, client-moves, told-moves, asked-moves}
+use Rattle.direct_run.proofs.Several.{made_by, run-onto, gate_all, client-moves, told-moves, asked-moves}
 
 -- a host that has refused nothing refuses nothing of an act more whose items have no wrong place
 pub unrefused-more : {S : Type 0} (m : Meaning S) (s : S) (acts : List Act) (a : Act) → Each IsRight (act_brought acts a) → list_any is_refusal (host_all_given host_notes_of m s (host_history acts)) ≡ false →
@@ -72,13 +73,13 @@ asked-stays (i ∷ is) = ((λ before more. refl), asked-stays is)
 -- ---- events
 
 pub moved-event : {S : Type 0} (m : Meaning S) (s : S) (c : Course) (items : List Item) (e : Event) → read_by_gate (happened c e) ≡ read_by_gate c → Each IsMove (map ByClient (brought c.events e)) → (h : AreMoves m s c items) →
-    present (e ∷ c.events) ≡ present_outs m s (moves_onto (map ByClient (brought c.events e)) h.moves) → AreMoves m s (happened c e) (items ++ flat_map item_of (given_of notes_of c.events e))
+    present (e ∷ c.events) ≡ present_outs m s (onto (map ByClient (brought c.events e)) h.moves) → AreMoves m s (happened c e) (items ++ flat_map item_of (given_of notes_of c.events e))
 moved-event {S = S} m s c items e same legal h is-present =
     let r = run m s h.moves in
     let xs = brought c.events e in
-    let made : run m s (moves_onto (map ByClient xs) h.moves) ≡ then_made r (gate_all r.world xs) = run-onto m s (map ByClient xs) h.moves ∙ ap (then_made r) (client-moves m r.world xs) in
+    let made : run m s (onto (map ByClient xs) h.moves) ≡ then_made r (gate_all r.world xs) = run-onto m s (map ByClient xs) h.moves ∙ ap (then_made r) (client-moves m r.world xs) in
     record {
-      moves = moves_onto (map ByClient xs) h.moves;
+      moves = onto (map ByClient xs) h.moves;
       follows = subst (Follows m s (happened c e) (items ++ flat_map item_of (given_of notes_of c.events e))) (sym made)
           (follows-event m s c items r e r.world.to_gate h.follows (h.follows.to_gate ∙ ap (λ (l : List Found). bares l ++ r.world.to_gate) (sym same)));
       legal = each-onto (map ByClient xs) h.moves legal h.legal;
@@ -87,7 +88,7 @@ moved-event {S = S} m s c items e same legal h is-present =
     }
 
 pub piece-present : {S : Type 0} (m : Meaning S) (s : S) (c : Course) (items : List Item) (b : List ℕ) → Each IsPieceItem (brought c.events (ClientPiece b)) → (h : AreMoves m s c items) →
-    present (ClientPiece b ∷ c.events) ≡ present_outs m s (moves_onto (map ByClient (brought c.events (ClientPiece b))) h.moves)
+    present (ClientPiece b ∷ c.events) ≡ present_outs m s (onto (map ByClient (brought c.events (ClientPiece b))) h.moves)
 piece-present {S = S} m s c items b fits h =
     let w : World S = (run m s h.moves).world in
     let xs = brought c.events (ClientPiece b) in
@@ -108,9 +109,9 @@ moved-told {S = S} m s c items n g f h =
     ap (λ (l : List (ℕ × RedirPacket)). made_by m (record w { to_gate = l }) ms) wire
     ∙ told-moves m w g.fresh g.later headed
     ∙ ap (λ (xs : List GateItem). gate_all (record w { to_gate = g.later }) xs) (sym g.brought-is) in
-    let made : run m s (moves_onto ms h.moves) ≡ then_made r (gate_all (record w { to_gate = g.later }) (brought c.events e)) = run-onto m s ms h.moves ∙ ap (then_made r) all in
+    let made : run m s (onto ms h.moves) ≡ then_made r (gate_all (record w { to_gate = g.later }) (brought c.events e)) = run-onto m s ms h.moves ∙ ap (then_made r) all in
     record {
-      moves = moves_onto ms h.moves;
+      moves = onto ms h.moves;
       follows = subst (Follows m s (happened c e) (items ++ flat_map item_of (given_of notes_of c.events e))) (sym made)
           (follows-event m s c items r e g.later h.follows
           (g.all-are ∙ bares-back (read_by_gate c) g.fresh g.later ∙ ap (λ (l : List Found). bares l ++ g.later) (sym g.packets-are)));
@@ -136,9 +137,9 @@ moved-asked {S = S} m s c items n g h =
     let told = flat_map (item_of_host w.submits) (host_given host_notes_of m w.host xs) in
     let sent = host_given (λ v. v.sent) m w.host xs in
     let all : made_by m w ms ≡ host_gives w new sent g.later told = ap (λ (l : List (ℕ × RedirPacket)). made_by m (record w { to_host = l }) ms) wire ∙ asked-moves m w g.fresh g.later in
-    let made : run m s (moves_onto ms h.moves) ≡ then_made r (host_gives w new sent g.later told) = run-onto m s ms h.moves ∙ ap (then_made r) all in
+    let made : run m s (onto ms h.moves) ≡ then_made r (host_gives w new sent g.later told) = run-onto m s ms h.moves ∙ ap (then_made r) all in
     record {
-      moves = moves_onto ms h.moves;
+      moves = onto ms h.moves;
       follows = subst (Follows m s (acted c a) (items ++ act_items m s c.acts (submits_of c.events) a)) (sym made)
           (follows-act m s c items (act_items m s c.acts (submits_of c.events) a) r a new sent g.later told h.follows
           ((λ i. host_steps m (h.follows.host i) (sym g.brought-is i)) ∙ sym (act-host m s c.acts a))

@@ -5,8 +5,9 @@ use Rattle.std.proofs.lemmas.Grind.{flat_map-append}
 use Rattle.redir_wire.specs.declared.packet.Header.{Header}
 use Rattle.redir_data.specs.declared.packet.RedirPacket.{RedirPacket}
 use Rattle.redir_data.specs.Sent.{sent_header}
+use Rattle.packet_stream.specs.Items.{onto}
 use Rattle.model_device.specs.Meaning.{Meaning}
-use Rattle.redir_host.specs.guest.Guest.{asked}
+use Rattle.redir_host.proofs.lemmas.guest.Pieces.{asked}
 use Rattle.redir_host.specs.step.Items.{Item as HostItem}
 use Rattle.redir_host.specs.step.Machine.{move as host_move, notes_of as host_notes_of, steps as host_steps, given_by as host_given}
 use Rattle.gate_history.specs.declared.item.Item.{Item}
@@ -28,10 +29,6 @@ abbrev pub made_by : {S : Type 0} → Meaning S → World S → List Move → Ma
 made_by m w [] = quiet w
 made_by m w (x ∷ xs) = then_made (move m w x) (made_by m (move m w x).world xs)
 
-abbrev pub moves_onto : List Move → List Move → List Move
-moves_onto [] before = before
-moves_onto (x ∷ xs) before = moves_onto xs (x ∷ before)
-
 then-quiet : {S : Type 0} (x : Made S) → x ≡ then_made x (quiet x.world)
 then-quiet x = λ i. record { world = x.world; outs = sym (append-nil x.outs) i; items = sym (append-nil x.items) i; accepted = sym (append-nil x.accepted) i }
 
@@ -43,7 +40,7 @@ then-assoc x y z = λ i. record {
   accepted = append_assoc x.accepted y.accepted z.accepted i;
 }
 
-pub run-onto : {S : Type 0} (m : Meaning S) (s : S) (xs before : List Move) → run m s (moves_onto xs before) ≡ then_made (run m s before) (made_by m (run m s before).world xs)
+pub run-onto : {S : Type 0} (m : Meaning S) (s : S) (xs before : List Move) → run m s (onto xs before) ≡ then_made (run m s before) (made_by m (run m s before).world xs)
 run-onto m s [] before = then-quiet (run m s before)
 run-onto m s (x ∷ xs) before =
     let was = run m s before in

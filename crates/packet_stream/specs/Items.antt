@@ -1,30 +1,15 @@
--- The items that the streams of several sides bring.
-use Rattle.std.specs.Prelude.{ℕ, Bool, if◌then◌else◌, List, [], ◌∷◌, ◌++◌, length, map, drop, Option, Some, None}
-use Rattle.packet_stream.specs.Split.{Reader, Position, Splitting, split}
+-- The items that a stream brings to a history: its packets and its wrong place, in their order.
+use Rattle.std.specs.Prelude.{ℕ, List, ◌∷◌, ◌++◌, length, map, drop, fold, option_to_list}
+use Rattle.packet_stream.specs.Split.{Splitting}
 
--- a side: how its stream is read, what its packets and its wrong place are among the items, and when it is over
-pub record SideStream (S P R I : Type 0) : Type 0 where
-  pub reader : Reader S P R
-  pub start : Position S
-  pub packet : ℕ → P → I
-  pub wrong : ℕ → R → I
-  pub over : List I → Bool
+-- of a splitting, by what a packet and the wrong place become at their places
+abbrev pub items_of : {S P R I : Type 0} → (ℕ → P → I) → (ℕ → R → I) → Splitting S P R → List I
+items_of packet wrong x = map (λ p. packet p.0 p.1) x.packets ++ map (λ w. wrong w.0 w.1) (option_to_list x.wrong)
 
-abbrev pub packets : {S P R I : Type 0} → SideStream S P R I → List (ℕ × P) → List I
-packets s found = map (λ i. s.packet i.0 i.1) found
+-- those that a stream has with a piece, and without it hasn't
+abbrev pub added : {I : Type 0} → (List ℕ → List I) → List ℕ → List ℕ → List I
+added items stream piece = drop (length (items stream)) (items (stream ++ piece))
 
-abbrev pub wrongs : {S P R I : Type 0} → SideStream S P R I → Option (ℕ × R) → List I
-wrongs s None = []
-wrongs s (Some w) = s.wrong w.0 w.1 ∷ []
-
-abbrev pub items : {S P R I : Type 0} → SideStream S P R I → Splitting S P R → List I
-items s x = packets s x.packets ++ wrongs s x.wrong
-
--- items are put on those before them, the latest first, as long as their side isn't over
-abbrev pub put : {I : Type 0} → (List I → Bool) → List I → List I → List I
-put over h [] = h
-put over h (i ∷ is) = put over (if over h then h else i ∷ h) is
-
--- the items that the splitting of a stream with a piece has, and without it hasn't
-abbrev pub added : {S P R I : Type 0} → SideStream S P R I → List ℕ → List ℕ → List I
-added s stream piece = drop (length (items s (split s.reader s.start stream))) (items s (split s.reader s.start (stream ++ piece)))
+-- items that came one after another, put on those before them, the latest first
+abbrev pub onto : {I : Type 0} → List I → List I → List I
+onto xs before = fold (λ above x. x ∷ above) before xs

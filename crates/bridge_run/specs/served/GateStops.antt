@@ -1,9 +1,10 @@
 -- Where memory ran out as a gate took an event, and what of that had been sent by then.
 use Rattle.std.specs.Prelude.{◌≡◌, ◌⊎◌, ℕ, List, [], ◌++◌, IsSomeAnd}
+use Rattle.packet_stream.specs.Items.{onto}
 use Rattle.gate_history.specs.step.Events.{Event as GateEvent}
 use Rattle.gate_history.specs.declared.item.Item.{Item}
 use Rattle.gate_history.specs.step.Past.{past}
-use Rattle.gate_history.specs.step.History.{brought, onto, arrivals, history}
+use Rattle.gate_history.specs.step.History.{brought, arrivals, history}
 use Rattle.gate_history.specs.step.Wants.{IsHeld, FirstWants}
 use Rattle.gate_history.specs.write.Bytes.{out_client, out_host}
 use Rattle.bridge_run.specs.events.Events.{LinkEvent}

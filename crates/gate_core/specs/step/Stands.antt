@@ -4,6 +4,7 @@ use Rattle.usb_base.specs.Number.{AreBytes, capped}
 use Rattle.usb_base.specs.declared.reason.Reason.{Reason}
 use Rattle.packet_stream.specs.Split.{Reader, Position, Splitting, split}
 use Rattle.packet_stream.specs.Streams.{StreamView, Drained, Closed, Holds as IsLeft}
+use Rattle.packet_stream.specs.Items.{onto}
 use Rattle.gate_history.specs.declared.note.Note.{Note}
 use Rattle.gate_history.specs.step.Events.{Event, client_bytes, host_bytes}
 use Rattle.redir_data.specs.Streams.{stream_start}
@@ -12,7 +13,7 @@ use Rattle.gate_history.specs.declared.item.Item.{Item}
 use Rattle.gate_history.specs.state.Sides.{client_over, host_over}
 use Rattle.gate_history.specs.state.State.{State, state_of}
 use Rattle.gate_history.specs.step.Past.{past}
-use Rattle.gate_history.specs.step.History.{brought, onto, arrivals, history}
+use Rattle.gate_history.specs.step.History.{brought, arrivals, history}
 use Rattle.gate_history.specs.write.Output.{to_client}
 use Rattle.gate_history.specs.write.Notes.{dropped}
 use Rattle.gate_history.specs.write.All.{all_of, is_ret_submit, is_won_unlink}

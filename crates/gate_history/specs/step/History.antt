@@ -1,7 +1,8 @@
 -- The history of a list of events: the items in the order in which packets become whole, with what each means.
-use Rattle.std.specs.Prelude.{Option, Some, None, ℕ, ◌+◌, if◌then◌else◌, List, [], ◌∷◌, ◌++◌, length, map, drop, fold}
+use Rattle.std.specs.Prelude.{ℕ, ◌+◌, if◌then◌else◌, List, [], ◌∷◌, length}
 use Rattle.usb_base.specs.declared.reason.Reason.{Reason}
 use Rattle.packet_stream.specs.Split.{Splitting, split}
+use Rattle.packet_stream.specs.Items.{items_of, added, onto}
 use Rattle.redir_wire.specs.declared.packet.Header.{Header}
 use Rattle.redir_data.specs.declared.packet.RedirPacket.{RedirPacket}
 use Rattle.redir_data.specs.declared.state.RedirState.{RedirState}
@@ -23,33 +24,20 @@ client_split bytes = split client_reader client_start bytes
 abbrev pub host_split : List ℕ → Splitting RedirState (Header × RedirPacket) Reason
 host_split bytes = split host_reader stream_start bytes
 
--- of the wrong place, where there is one
-abbrev pub wrong_items : (ℕ → Reason → Item) → Option (ℕ × Reason) → List Item
-wrong_items wrong None = []
-wrong_items wrong (Some w) = wrong w.0 w.1 ∷ []
-
 -- the items of a client's bytes, and of the host's
 abbrev pub client_items : List ℕ → List Item
-client_items bytes = map (λ p. Asked p.0 p.1) (client_split bytes).packets ++ wrong_items ClientWrong (client_split bytes).wrong
+client_items bytes = items_of Asked ClientWrong (client_split bytes)
 
 abbrev pub host_items : List ℕ → List Item
-host_items bytes = map (λ p. Told p.0 p.1.0 p.1.1) (host_split bytes).packets ++ wrong_items HostWrong (host_split bytes).wrong
+host_items bytes = items_of (λ place p. Told place p.0 p.1) HostWrong (host_split bytes)
 
 -- ---- the items of events
-
--- those that a stream has with a piece, and without it hasn't
-abbrev pub added : (List ℕ → List Item) → List ℕ → List ℕ → List Item
-added items bytes piece = drop (length (items bytes)) (items (bytes ++ piece))
 
 abbrev pub brought : List Event → Event → List Item
 brought events (ClientPiece b) = added client_items (client_bytes events) b
 brought events ClientEnd = ClientLeft ∷ []
 brought events (HostPiece b) = added host_items (host_bytes events) b
 brought events HostEnd = HostLeft ∷ []
-
--- items that came one after another, put on those before them
-abbrev pub onto : List Item → List Item → List Item
-onto xs before = fold (λ above x. x ∷ above) before xs
 
 -- all that came, the latest first
 abbrev pub arrivals : List Event → List Item

@@ -1,19 +1,15 @@
 -- The history of a host: the items that its acts bring, in the order in which packets become whole.
 use Rattle.std.specs.Prelude.{List, [], ◌∷◌, ◌++◌}
+use Rattle.packet_stream.specs.Items.{added, onto}
+use Rattle.redir_host.specs.guest.Guest.{guest_items}
 use Rattle.redir_host.specs.step.Acts.{Act, Piece, Perform, Offer, Unplug, guest_bytes}
 use Rattle.redir_host.specs.step.Items.{Item, Asked, Wrong, Performs, Offers, Unplugs}
-use Rattle.redir_host.specs.guest.Guest.{added}
 
 abbrev pub brought : List Act → Act → List Item
-brought acts (Piece b) = added (guest_bytes acts) b
+brought acts (Piece b) = added guest_items (guest_bytes acts) b
 brought acts (Perform ep) = Performs ep ∷ []
 brought acts (Offer ep) = Offers ep ∷ []
 brought acts Unplug = Unplugs ∷ []
-
--- items that came one after another, put on those before them
-abbrev pub onto : List Item → List Item → List Item
-onto [] before = before
-onto (x ∷ xs) before = onto xs (x ∷ before)
 
 -- all that came, the latest first
 abbrev pub history : List Act → List Item

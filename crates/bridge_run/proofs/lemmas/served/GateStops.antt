@@ -4,19 +4,20 @@ use Rattle.std.specs.List.{cons_option, flat_map}
 use Rattle.std.specs.Prelude.{IsSomeAnd}
 use Rattle.std.proofs.lemmas.Grind.{flat_map-append}
 use Rattle.usb_base.specs.declared.refusal.Refusal.{Refusal}
+use Rattle.packet_stream.specs.Items.{onto}
 use Rattle.gate_history.specs.step.Events.{Event as GateEvent}
 use Rattle.gate_history.specs.declared.item.Item.{Item}
 use Rattle.gate_history.specs.step.Marks.{Mark}
 use Rattle.gate_history.specs.step.Meaning.{mark_of}
 use Rattle.gate_history.specs.step.Past.{is_left_out, put, past}
-use Rattle.gate_history.specs.step.History.{onto, arrivals}
+use Rattle.gate_history.specs.step.History.{arrivals}
 use Rattle.gate_history.specs.step.Wants.{IsHeld, FirstWants}
 use Rattle.gate_history.specs.state.State.{State, state_of}
 use Rattle.gate_history.specs.write.All.{all_of}
 use Rattle.gate_history.specs.write.Bytes.{client_bytes_of, host_bytes_of, out_client, out_host}
 use Rattle.gate_history.specs.Headline.{client_output, host_output, notes as told_notes}
 use Rattle.gate_history.specs.declared.note.Note.{Note}
-use Rattle.gate_history.proofs.lemmas.step.Piece.{onto-append}
+use Rattle.packet_stream.proofs.Pieces.{onto-append}
 use Rattle.gate_core.specs.state.Kept.{GateKept}
 use Rattle.gate_core.specs.step.Stands.{Stops, Takes}
 use Rattle.bridge_run.specs.declared.served.after_loss.AfterLoss.{AfterLoss}

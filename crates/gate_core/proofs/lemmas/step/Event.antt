@@ -7,9 +7,10 @@ use Rattle.usb_base.specs.declared.memory.Memory.{Memory}
 use Rattle.usb_base.specs.declared.reason.Reason.{Reason}
 use Rattle.packet_stream.specs.Split.{Reader, Position, split}
 use Rattle.packet_stream.specs.Streams.{StreamView, passed}
-use Rattle.packet_stream.specs.Items.{added}
+use Rattle.packet_stream.specs.Items.{added, onto}
 use Rattle.packet_stream.proofs.Laws.{IsSteady}
 use Rattle.packet_stream.proofs.Following.{follows-holds}
+use Rattle.packet_stream.proofs.Pieces.{items}
 use Rattle.redir_data.specs.declared.state.RedirState.{RedirState}
 use Rattle.gate_parts.specs.declared.write.outputs.Outputs.{Outputs}
 use Rattle.gate_core.specs.declared.step.inner.Inner.{Inner}
@@ -19,7 +20,7 @@ use Rattle.gate_history.specs.declared.item.Item.{Item}
 use Rattle.gate_history.specs.state.Sides.{client_over, host_over}
 use Rattle.redir_data.specs.Streams.{stream_start}
 use Rattle.gate_history.specs.step.Streams.{client_reader, client_start, host_reader}
-use Rattle.gate_history.specs.step.History.{brought, onto, arrivals, history}
+use Rattle.gate_history.specs.step.History.{brought, arrivals, history}
 use Rattle.gate_history.specs.step.Came.{asked, told}
 use Rattle.gate_core.specs.step.Stands.{IsLeftBy, StreamStands, StandsFor, HasAll, Stands, Stops, HasPast}
 use Rattle.gate_history.specs.step.Wants.{IsHeld, FirstWants}
@@ -96,29 +97,29 @@ record Sees {S P T Q : Type 0} (own : Half S P) (other : Half T Q) : Type 0 wher
   steady : IsSteady own.stream.reader
   other_steady : IsSteady other.stream.reader
   came : (xs ys : List Item) → own.others ys ≡ own.others xs → other.came ys ≡ other.came xs
-  over : (xs : List Item) → own.other_over xs ≡ other.stream.over xs
+  over : (xs : List Item) → own.other_over xs ≡ other.over xs
 
 -- both streams stand for these items, wherever memory ran out
 record Both {S P T Q : Type 0} (own : Half S P) (other : Half T Q) (mine : StreamView S) (theirs : StreamView T) (bytes their_bytes : List ℕ) (xs : List Item) : Type 0 where
-  own_stands : StreamStands own.stream.reader own.stream.start mine bytes (own.came xs) (own.stream.over xs)
-  other_stands : StreamStands other.stream.reader other.stream.start theirs their_bytes (other.came xs) (other.stream.over xs)
+  own_stands : StreamStands own.stream.reader own.stream.start mine bytes (own.came xs) (own.over xs)
+  other_stands : StreamStands other.stream.reader other.stream.start theirs their_bytes (other.came xs) (other.over xs)
 
 module _ {S P T Q : Type 0} (first : ℕ) (own : Half S P) (other : Half T Q) (sees : Sees own other) (old : StreamView S) (theirs : StreamView T) (events : List Event) (bytes their_bytes : List ℕ)
-    (all : HasAll own.stream.reader own.stream.start old bytes (own.came (arrivals events)) (own.stream.over (arrivals events)))
-    (their_all : HasAll other.stream.reader other.stream.start theirs their_bytes (other.came (arrivals events)) (other.stream.over (arrivals events))) where
+    (all : HasAll own.stream.reader own.stream.start old bytes (own.came (arrivals events)) (own.over (arrivals events)))
+    (their_all : HasAll other.stream.reader other.stream.start theirs their_bytes (other.came (arrivals events)) (other.over (arrivals events))) where
   -- of the other side nothing has changed
-  theirs-same : (xs : List Item) → own.others xs ≡ own.others (arrivals events) → own.other_over xs ≡ own.other_over (arrivals events) → HasAll other.stream.reader other.stream.start theirs their_bytes (other.came xs) (other.stream.over xs)
+  theirs-same : (xs : List Item) → own.others xs ≡ own.others (arrivals events) → own.other_over xs ≡ own.other_over (arrivals events) → HasAll other.stream.reader other.stream.start theirs their_bytes (other.came xs) (other.over xs)
   theirs-same xs came over =
-      all-same other.stream.reader other.stream.start theirs theirs their_bytes (other.came (arrivals events)) (other.came xs) (other.stream.over (arrivals events)) (other.stream.over xs)
+      all-same other.stream.reader other.stream.start theirs theirs their_bytes (other.came (arrivals events)) (other.came xs) (other.over (arrivals events)) (other.over xs)
       refl (sees.came (arrivals events) xs came) (sym (sees.over xs) ∙ over ∙ sees.over (arrivals events)) their_all
 
-  theirs-stand : (xs : List Item) → own.others xs ≡ own.others (arrivals events) → own.other_over xs ≡ own.other_over (arrivals events) → StreamStands other.stream.reader other.stream.start theirs their_bytes (other.came xs) (other.stream.over xs)
-  theirs-stand xs came over = stands-all other.stream.reader sees.other_steady other.stream.start theirs their_bytes (other.came xs) (other.stream.over xs) (theirs-same xs came over)
+  theirs-stand : (xs : List Item) → own.others xs ≡ own.others (arrivals events) → own.other_over xs ≡ own.other_over (arrivals events) → StreamStands other.stream.reader other.stream.start theirs their_bytes (other.came xs) (other.over xs)
+  theirs-stand xs came over = stands-all other.stream.reader sees.other_steady other.stream.start theirs their_bytes (other.came xs) (other.over xs) (theirs-same xs came over)
 
   unput-both : (new : StreamView S) → new ≡ passed old → Both own other new theirs bytes their_bytes (arrivals events)
   unput-both new is = record {
-    own_stands = stands-all own.stream.reader sees.steady own.stream.start new bytes (own.came (arrivals events)) (own.stream.over (arrivals events))
-        (all-passed own.stream.reader sees.steady own.stream.start old new bytes (own.came (arrivals events)) (own.stream.over (arrivals events)) all is);
+    own_stands = stands-all own.stream.reader sees.steady own.stream.start new bytes (own.came (arrivals events)) (own.over (arrivals events))
+        (all-passed own.stream.reader sees.steady own.stream.start old new bytes (own.came (arrivals events)) (own.over (arrivals events)) all is);
     other_stands = theirs-stand (arrivals events) refl refl;
   }
 
@@ -126,7 +127,7 @@ module _ {S P T Q : Type 0} (first : ℕ) (own : Half S P) (other : Half T Q) (s
   halted-both new t piece out_old out_new h = record { own_stands = h.stands; other_stands = theirs-stand (onto h.taken (arrivals events)) h.others_are h.other_over }
 
 -- the event was taken up to an item that memory ran out for
-halted-event : {S P : Type 0} (first : ℕ) (own : Half S P) (new : StreamView S) (t : Translator) (g : Inner) (events : List Event) (e : Event) (bytes piece : List ℕ) (out_old out_new : Outputs) → brought events e ≡ added own.stream bytes piece →
+halted-event : {S P : Type 0} (first : ℕ) (own : Half S P) (new : StreamView S) (t : Translator) (g : Inner) (events : List Event) (e : Event) (bytes piece : List ℕ) (out_old out_new : Outputs) → brought events e ≡ added (items own.stream) bytes piece →
     (h : Halted first own new t bytes piece (arrivals events) out_old out_new) → StandsFor first (kept_of g) (e ∷ events) (onto h.taken (arrivals events)) → Stops first (kept_of g) events e out_old.to_client out_new.to_client out_old.to_host out_new.to_host
 halted-event first own new t g events e bytes piece out_old out_new brings h stands = record {
   taken = h.taken;

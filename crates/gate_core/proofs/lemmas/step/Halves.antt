@@ -4,22 +4,20 @@ use Rattle.usb_base.specs.declared.memory.Memory.{Memory}
 use Rattle.usb_base.specs.declared.reason.Reason.{Reason}
 use Rattle.packet_stream.specs.Split.{Reader}
 use Rattle.packet_stream.specs.Streams.{StreamView, passed, Follows, Nexts, Changes, capped}
-use Rattle.packet_stream.specs.Items.{SideStream, added}
+use Rattle.packet_stream.specs.Items.{added, onto}
+use Rattle.packet_stream.proofs.Pieces.{SideStream, items}
 use Rattle.usbip_urb.specs.declared.client.ClientPacket.{ClientPacket}
 use Rattle.redir_wire.specs.declared.packet.Header.{Header}
 use Rattle.redir_data.specs.declared.packet.RedirPacket.{RedirPacket}
 use Rattle.redir_data.specs.declared.state.RedirState.{RedirState}
 use Rattle.gate_history.specs.declared.item.Item.{Item as RawItem, Item}
-use Rattle.gate_history.specs.declared.item.Item.TheVariants.{Asked, ClientWrong, Told, HostWrong}
-use Rattle.redir_data.specs.Streams.{stream_start}
-use Rattle.gate_history.specs.step.Streams.{client_reader, client_start, host_reader}
 use Rattle.gate_history.specs.step.Came.{asked, told}
 use Rattle.gate_history.specs.step.Fits.{IsItem, ItemFits}
-use Rattle.gate_history.specs.step.History.{onto}
 use Rattle.gate_history.specs.step.Past.{is_left_out, past}
 use Rattle.gate_history.specs.step.Wants.{takes_memory, Wants}
 use Rattle.gate_history.specs.state.Sides.{client_over, host_over}
 use Rattle.gate_history.specs.state.State.{state_of}
+use Rattle.gate_history.proofs.lemmas.step.Piece.{client_stream, host_stream}
 use Rattle.gate_parts.specs.declared.write.outputs.Outputs.{Outputs}
 use Rattle.gate_core.specs.declared.state.kept.Kept.{Kept as Translator}
 use Rattle.gate_core.specs.step.Stands.{Translates, StreamStands, HasAll}
@@ -33,6 +31,7 @@ Packets = List (ℕ × ClientPacket) × List (ℕ × (Header × RedirPacket))
 
 pub record Half (S P : Type 0) : Type 0 where
   pub stream : SideStream S P Reason Item
+  pub over : List Item → Bool
   -- its packets among the items, those of the other side, and whether that is over
   pub came : List Item → List (ℕ × P)
   pub others : List Item → Packets
@@ -40,7 +39,8 @@ pub record Half (S P : Type 0) : Type 0 where
 
 abbrev pub client_half : ℕ → Half (Unit {0}) ClientPacket
 client_half first = record {
-  stream = record { reader = client_reader; start = client_start; packet = Asked; wrong = ClientWrong; over = λ xs. client_over (past first xs) };
+  stream = client_stream;
+  over = λ xs. client_over (past first xs);
   came = asked;
   others = λ xs. ([], told xs);
   other_over = λ xs. host_over (past first xs);
@@ -48,7 +48,8 @@ client_half first = record {
 
 abbrev pub host_half : ℕ → Half RedirState (Header × RedirPacket)
 host_half first = record {
-  stream = record { reader = host_reader; start = stream_start; packet = λ place p. Told place p.0 p.1; wrong = HostWrong; over = λ xs. host_over (past first xs) };
+  stream = host_stream;
+  over = λ xs. host_over (past first xs);
   came = told;
   others = λ xs. (asked xs, []);
   other_over = λ xs. client_over (past first xs);
@@ -58,14 +59,14 @@ host_half first = record {
 pub record IsSide {S P : Type 0} (first : ℕ) (h : Half S P) (r : Reader S P Reason) (takes : P → Bool) (over_in : Translator → Bool) (raw_packet : ℕ → P → RawItem) (raw_wrong : ℕ → Reason → RawItem) : Type 0 where
   pub reader : h.stream.reader ≡ r
   pub takes_is : (n : ℕ) (p : P) → takes p ≡ takes_memory (h.stream.packet n p)
-  pub over_past : (xs ys : List Item) → past first xs ≡ past first ys → h.stream.over xs ≡ h.stream.over ys
+  pub over_past : (xs ys : List Item) → past first xs ≡ past first ys → h.over xs ≡ h.over ys
   pub other_past : (xs ys : List Item) → past first xs ≡ past first ys → h.other_over xs ≡ h.other_over ys
-  pub over_is : (t : Translator) (xs : List Item) → Translates first t xs → over_in t ≡ h.stream.over xs
+  pub over_is : (t : Translator) (xs : List Item) → Translates first t xs → over_in t ≡ h.over xs
   pub came_packet : (xs : List Item) (n : ℕ) (p : P) → h.came (h.stream.packet n p ∷ xs) ≡ h.came xs ++ (n, p) ∷ []
   -- its items are left out where it is over
-  pub out_packet : (xs : List Item) (n : ℕ) (p : P) → is_left_out (state_of first (past first xs)) (h.stream.packet n p) ≡ h.stream.over xs
-  pub out_wrong : (xs : List Item) (n : ℕ) (why : Reason) → is_left_out (state_of first (past first xs)) (h.stream.wrong n why) ≡ h.stream.over xs
-  pub over_wrong : (xs : List Item) (n : ℕ) (why : Reason) → h.stream.over (h.stream.wrong n why ∷ xs) ≡ true
+  pub out_packet : (xs : List Item) (n : ℕ) (p : P) → is_left_out (state_of first (past first xs)) (h.stream.packet n p) ≡ h.over xs
+  pub out_wrong : (xs : List Item) (n : ℕ) (why : Reason) → is_left_out (state_of first (past first xs)) (h.stream.wrong n why) ≡ h.over xs
+  pub over_wrong : (xs : List Item) (n : ℕ) (why : Reason) → h.over (h.stream.wrong n why ∷ xs) ≡ true
   pub is_packet : (n at : ℕ) (p : P) → n ≡ capped at → IsItem (raw_packet n p) (h.stream.packet at p)
   pub is_wrong : (n at : ℕ) (why : Reason) → n ≡ capped at → IsItem (raw_wrong n why) (h.stream.wrong at why)
   -- its items leave the other side as it is
@@ -78,7 +79,7 @@ pub record IsSide {S P : Type 0} (first : ℕ) (h : Half S P) (r : Reader S P Re
 
 -- behind these items, which its bytes have brought
 pub record IsAt {S P : Type 0} (first : ℕ) (h : Half S P) (kept : StreamView S) (t : Translator) (bytes : List ℕ) (before : List Item) : Type 0 where
-  pub all : HasAll h.stream.reader h.stream.start kept bytes (h.came before) (h.stream.over before)
+  pub all : HasAll h.stream.reader h.stream.start kept bytes (h.came before) (h.over before)
   pub translates : Translates first t before
 
 -- behind some items, and it goes on
@@ -86,7 +87,7 @@ pub record GoesOn {S P : Type 0} (first : ℕ) (h : Half S P) (kept : StreamView
   pub items : List Item
   pub bytes : List ℕ
   pub follows : Follows h.stream.reader h.stream.start kept bytes (h.came items)
-  pub runs : h.stream.over items ≡ false
+  pub runs : h.over items ≡ false
   pub translates : Translates first t items
 
 -- a packet that comes next, wherever it stands, is an item that the translator can take
@@ -99,20 +100,20 @@ FitsNext {S = S} {P = P} half r takes raw_packet =
 
 -- all that the piece brought was taken or is left out
 pub record Finished {S P : Type 0} (first : ℕ) (h : Half S P) (kept : StreamView S) (t : Translator) (bytes piece : List ℕ) (before : List Item) (out_old out_new : Outputs) : Type 0 where
-  pub all : HasAll h.stream.reader h.stream.start kept (bytes ++ piece) (h.came (onto (added h.stream bytes piece) before)) (h.stream.over (onto (added h.stream bytes piece) before))
-  pub translates : Translates first t (onto (added h.stream bytes piece) before)
-  pub sends : Sends first out_old out_new before (onto (added h.stream bytes piece) before)
-  pub others_are : h.others (onto (added h.stream bytes piece) before) ≡ h.others before
-  pub other_over : h.other_over (onto (added h.stream bytes piece) before) ≡ h.other_over before
+  pub all : HasAll h.stream.reader h.stream.start kept (bytes ++ piece) (h.came (onto (added (items h.stream) bytes piece) before)) (h.over (onto (added (items h.stream) bytes piece) before))
+  pub translates : Translates first t (onto (added (items h.stream) bytes piece) before)
+  pub sends : Sends first out_old out_new before (onto (added (items h.stream) bytes piece) before)
+  pub others_are : h.others (onto (added (items h.stream) bytes piece) before) ≡ h.others before
+  pub other_over : h.other_over (onto (added (items h.stream) bytes piece) before) ≡ h.other_over before
 
 -- memory ran out for one of the items that the piece brought: those before it were taken
 pub record Halted {S P : Type 0} (first : ℕ) (h : Half S P) (kept : StreamView S) (t : Translator) (bytes piece : List ℕ) (before : List Item) (out_old out_new : Outputs) : Type 0 where
   pub taken : List Item
   pub next : Item
   pub behind : List Item
-  pub parts : added h.stream bytes piece ≡ taken ++ next ∷ behind
+  pub parts : added (items h.stream) bytes piece ≡ taken ++ next ∷ behind
   pub wants : Wants first (onto taken before) next
-  pub stands : StreamStands h.stream.reader h.stream.start kept (bytes ++ piece) (h.came (onto taken before)) (h.stream.over (onto taken before))
+  pub stands : StreamStands h.stream.reader h.stream.start kept (bytes ++ piece) (h.came (onto taken before)) (h.over (onto taken before))
   pub translates : Translates first t (onto taken before)
   pub sends : Sends first out_old out_new before (onto taken before)
   pub others_are : h.others (onto taken before) ≡ h.others before

@@ -10,17 +10,17 @@ use Rattle.usb_base.specs.declared.reason.Reason.{Reason}
 use Rattle.usb_base.proofs.Numbers.{AreBytes-append}
 use Rattle.packet_stream.specs.declared.read.ReadError.{ReadError}
 use Rattle.packet_stream.specs.declared.read.ReadError.TheVariants.{Refused, Memory as OutOfMemory}
-use Rattle.packet_stream.specs.Split.{Reader, Splitting, split}
+use Rattle.packet_stream.specs.Split.{Reader, split}
 use Rattle.packet_stream.specs.Streams.{StreamView, passed, after_piece, Follows, Nexts, Puts, Changes}
-use Rattle.packet_stream.specs.Items.{packets, wrongs, items, added}
+use Rattle.packet_stream.specs.Items.{added, onto}
 use Rattle.packet_stream.specs.Takers.{Taking as TakenBy, TakenStream, ended_if, TakesAnswer, Finishes, Reaches, TakesPiece as TakesBytes}
+use Rattle.packet_stream.proofs.Pieces.{packets, wrongs, items, onto-append}
 use Rattle.packet_stream.proofs.Takers.{reaches-keeps, piece-keeps}
 use Rattle.gate_history.specs.declared.item.Item.{Item as RawItem, Item}
 use Rattle.gate_parts.specs.declared.write.outputs.Outputs.{Outputs}
 use Rattle.gate_core.specs.declared.state.kept.Kept.{Kept as Translator}
 use Rattle.gate_history.specs.state.State.{state_of}
 use Rattle.gate_history.specs.step.Past.{is_left_out, past}
-use Rattle.gate_history.specs.step.History.{onto}
 use Rattle.gate_history.specs.step.Wants.{Wants}
 use Rattle.gate_core.specs.step.Stands.{Translates, HasAll, IsLeftBy}
 use Rattle.gate_core.specs.inner.Holds.{DoesNothing}
@@ -34,7 +34,6 @@ use Rattle.gate_core.proofs.lemmas.step.Take.{Taken, over-put, taken-put, taken-
 use Rattle.gate_core.proofs.lemmas.step.Translator.{sends-none, translates-past, sends-past, past-skipped, translates-item, sends-item}
 use Rattle.gate_core.proofs.lemmas.step.Halves.{Half, IsAt, GoesOn, FitsNext, Finished, Halted, IsUnput, TakesPiece}
 use Rattle.gate_core.proofs.lemmas.step.Sides.{Side, side-of, TakenSide}
-use Rattle.gate_history.proofs.lemmas.step.Piece.{onto-append}
 
 -- ---- lists of items
 
@@ -48,7 +47,7 @@ came-onto {P = P} first d (i ∷ more) xs =
 -- ---- what is left out of a side that is over
 
 record Skips {S P : Type 0} (first : ℕ) (d : Side S P first) (x : Item) : Type 0 where
-  pub out : (xs : List Item) → is_left_out (state_of first (past first xs)) x ≡ d.half.stream.over xs
+  pub out : (xs : List Item) → is_left_out (state_of first (past first xs)) x ≡ d.half.over xs
   pub others : (xs : List Item) → d.half.others (x ∷ xs) ≡ d.half.others xs
 
 each-packet : {S P : Type 0} (first : ℕ) (d : Side S P first) (found : List (ℕ × P)) → Each (Skips first d) (packets d.half.stream found)
@@ -59,8 +58,10 @@ each-wrong : {S P : Type 0} (first : ℕ) (d : Side S P first) (o : Option (ℕ 
 each-wrong first d None = tt
 each-wrong first d (Some w) = (record { out = λ xs. d.laws.out_wrong xs w.0 w.1; others = λ xs. d.laws.others_wrong xs w.0 w.1 }, tt)
 
-each-item : {S P : Type 0} (first : ℕ) (d : Side S P first) (x : Splitting S P Reason) → Each (Skips first d) (items d.half.stream x)
-each-item first d x = Each-append (Skips first d) (packets d.half.stream x.packets) (wrongs d.half.stream x.wrong) (each-packet first d x.packets) (each-wrong first d x.wrong)
+each-item : {S P : Type 0} (first : ℕ) (d : Side S P first) (bytes : List ℕ) → Each (Skips first d) (items d.half.stream bytes)
+each-item first d bytes =
+    let x = split d.half.stream.reader d.half.stream.start bytes in
+    Each-append (Skips first d) (packets d.half.stream x.packets) (wrongs d.half.stream x.wrong) (each-packet first d x.packets) (each-wrong first d x.wrong)
 
 each-drop : {X : Type 0} (P : X → Type 0) (n : ℕ) (xs : List X) → Each P xs → Each P (drop n xs)
 each-drop P zero xs e = e
@@ -71,17 +72,16 @@ each-right : {X : Type 0} (P : X → Type 0) (xs ys : List X) → Each P (xs ++ 
 each-right P [] ys e = e
 each-right P (x ∷ xs) ys e = each-right P xs ys e.1
 
-each-later : {S P : Type 0} (first : ℕ) (d : Side S P first) (bytes piece : List ℕ) (taken later : List Item) → added d.half.stream bytes piece ≡ taken ++ later → Each (Skips first d) later
+each-later : {S P : Type 0} (first : ℕ) (d : Side S P first) (bytes piece : List ℕ) (taken later : List Item) → added (items d.half.stream) bytes piece ≡ taken ++ later → Each (Skips first d) later
 each-later first d bytes piece taken later parts =
     each-right (Skips first d) taken later (subst (Each (Skips first d)) parts
-    (each-drop (Skips first d) (length (items d.half.stream (split d.half.stream.reader d.half.stream.start bytes))) (items d.half.stream (split d.half.stream.reader d.half.stream.start (bytes ++ piece)))
-    (each-item first d (split d.half.stream.reader d.half.stream.start (bytes ++ piece)))))
+    (each-drop (Skips first d) (length (items d.half.stream bytes)) (items d.half.stream (bytes ++ piece)) (each-item first d (bytes ++ piece))))
 
 record Skipped {S P : Type 0} (first : ℕ) (d : Side S P first) (xs ys : List Item) : Type 0 where
   pub past-is : past first ys ≡ past first xs
   pub others-are : d.half.others ys ≡ d.half.others xs
 
-skip-all : {S P : Type 0} (first : ℕ) (d : Side S P first) (later xs : List Item) → d.half.stream.over xs ≡ true → Each (Skips first d) later → Skipped first d xs (onto later xs)
+skip-all : {S P : Type 0} (first : ℕ) (d : Side S P first) (later xs : List Item) → d.half.over xs ≡ true → Each (Skips first d) later → Skipped first d xs (onto later xs)
 skip-all first d [] xs over e = record { past-is = refl; others-are = refl }
 skip-all first d (x ∷ later) xs over e =
     let same : past first (x ∷ xs) ≡ past first xs = past-skipped first xs x (e.0.out xs ∙ over) in
@@ -93,18 +93,18 @@ skip-all first d (x ∷ later) xs over e =
 pub record Taking {S P : Type 0} (first : ℕ) (h : Half S P) (kept : StreamView S) (t : Translator) (bytes piece : List ℕ) (before : List Item) (out_old out_new : Outputs) : Type 0 where
   pub taken : List Item
   pub stream : Taken h.stream kept bytes piece (h.came before) taken
-  pub over_is : kept.over ≡ h.stream.over (onto taken before)
+  pub over_is : kept.over ≡ h.over (onto taken before)
   pub translates : Translates first t (onto taken before)
   pub sends : Sends first out_old out_new before (onto taken before)
   pub others_are : h.others (onto taken before) ≡ h.others before
   pub other_over : h.other_over (onto taken before) ≡ h.other_over before
 
 pub taking-first : {S P : Type 0} (first : ℕ) (d : Side S P first) (old new : StreamView S) (t : Translator) (bytes piece : List ℕ) (before : List Item) (out : Outputs) → AreBytes piece →
-    HasAll d.half.stream.reader d.half.stream.start old bytes (d.half.came before) (d.half.stream.over before) → Translates first t before → new ≡ after_piece old piece → Puts d.half.stream.reader piece old new →
+    HasAll d.half.stream.reader d.half.stream.start old bytes (d.half.came before) (d.half.over before) → Translates first t before → new ≡ after_piece old piece → Puts d.half.stream.reader piece old new →
     Taking first d.half new t bytes piece before out out
 taking-first first d old new t bytes piece before out are all translates is puts = record {
   taken = [];
-  stream = taken-put d.half.stream d.steady old new bytes piece (d.half.came before) (d.half.stream.over before) are all is puts;
+  stream = taken-put d.half.stream d.steady old new bytes piece (d.half.came before) (d.half.over before) are all is puts;
   over_is = over-put old new piece is ∙ all.over_is;
   translates = translates;
   sends = sends-none first out before;
@@ -132,8 +132,8 @@ ended-over kept false over e going = going (sym e) ∙ e
 
 taking-one : {S P : Type 0} (first : ℕ) (d : Side S P first) (old new : StreamView S) (t u : Translator) (bytes piece : List ℕ) (before : List Item) (out_old out out_new : Outputs) (item : RawItem) (x : Item) →
     (k : Taking first d.half old t bytes piece before out_old out) → old.over ≡ false → Taken d.half.stream new bytes piece (d.half.came before) (k.taken ++ x ∷ []) → IsItem item x →
-    ((xs : List Item) → is_left_out (state_of first (past first xs)) x ≡ d.half.stream.over xs) → ((xs : List Item) → d.half.others (x ∷ xs) ≡ d.half.others xs) → ((xs : List Item) → d.half.other_over (x ∷ xs) ≡ d.half.other_over xs) →
-    ((xs : List Item) → d.half.stream.over (x ∷ xs) ≡ false → new.over ≡ false) →
+    ((xs : List Item) → is_left_out (state_of first (past first xs)) x ≡ d.half.over xs) → ((xs : List Item) → d.half.others (x ∷ xs) ≡ d.half.others xs) → ((xs : List Item) → d.half.other_over (x ∷ xs) ≡ d.half.other_over xs) →
+    ((xs : List Item) → d.half.over (x ∷ xs) ≡ false → new.over ≡ false) →
     TakesItem t u item out out_new → Taking first d.half (ended_if (d.flag u) new) u bytes piece before out_old out_new
 taking-one first d old new t u bytes piece before out_old out out_new item x k runs stream is left others other going takes =
     let xs = onto k.taken before in
@@ -145,7 +145,7 @@ taking-one first d old new t u bytes piece before out_old out out_new item x k r
     record {
       taken = k.taken ++ x ∷ [];
       stream = taken-ended d.half.stream new bytes piece (d.half.came before) (k.taken ++ x ∷ []) stream (d.flag u);
-      over_is = ended-over new (d.flag u) (d.half.stream.over (x ∷ xs)) (d.laws.over_is u (x ∷ xs) translates) (going xs) ∙ ap d.half.stream.over (sym behind);
+      over_is = ended-over new (d.flag u) (d.half.over (x ∷ xs)) (d.laws.over_is u (x ∷ xs) translates) (going xs) ∙ ap d.half.over (sym behind);
       translates = subst (Translates first u) (sym behind) translates;
       sends = subst (Sends first out_old out_new before) (sym behind)
           (sends-item first t u before xs x out_old out out_new k.sends taken does);
@@ -182,14 +182,14 @@ finished-going : {S P : Type 0} (first : ℕ) (d : Side S P first) (takes : P �
 finished-going {S = S} {P = P} first d takes old new t bytes piece before out_old out_new changes nexts k runs =
     let a = taken-all d.half.stream takes old new bytes piece (d.half.came before) k.taken k.stream changes nexts runs in
     let xs = onto k.taken before in
-    let same : onto (added d.half.stream bytes piece) before ≡ xs = ap (λ (l : List Item). onto l before) a.parts in
+    let same : onto (added (items d.half.stream) bytes piece) before ≡ xs = ap (λ (l : List Item). onto l before) a.parts in
     let came : d.half.came xs ≡ d.half.came before ++ a.more = ap (λ (l : List Item). d.half.came (onto l before)) a.are ∙ came-onto first d a.more before in
-    let over : d.half.stream.over xs ≡ false = sym k.over_is ∙ runs in
-    let all : HasAll d.half.stream.reader d.half.stream.start new (bytes ++ piece) (d.half.came xs) (d.half.stream.over xs) =
-    subst (λ (l : List (ℕ × P)). HasAll d.half.stream.reader d.half.stream.start new (bytes ++ piece) l (d.half.stream.over xs)) (sym came)
+    let over : d.half.over xs ≡ false = sym k.over_is ∙ runs in
+    let all : HasAll d.half.stream.reader d.half.stream.start new (bytes ++ piece) (d.half.came xs) (d.half.over xs) =
+    subst (λ (l : List (ℕ × P)). HasAll d.half.stream.reader d.half.stream.start new (bytes ++ piece) l (d.half.over xs)) (sym came)
     (subst (HasAll d.half.stream.reader d.half.stream.start new (bytes ++ piece) (d.half.came before ++ a.more)) (sym over) a.all) in
     record {
-      all = subst (λ (l : List Item). HasAll d.half.stream.reader d.half.stream.start new (bytes ++ piece) (d.half.came l) (d.half.stream.over l)) (sym same) all;
+      all = subst (λ (l : List Item). HasAll d.half.stream.reader d.half.stream.start new (bytes ++ piece) (d.half.came l) (d.half.over l)) (sym same) all;
       translates = subst (Translates first t) (sym same) k.translates;
       sends = subst (Sends first out_old out_new before) (sym same) k.sends;
       others_are = ap d.half.others same ∙ k.others_are;
@@ -202,12 +202,12 @@ finished-over : {S P : Type 0} (first : ℕ) (d : Side S P first) (old new : Str
 finished-over {S = S} first d old new t bytes piece before out_old out_new are more is k ends =
     let cut = cut-passed d.half.stream old new bytes piece k.taken is (k.stream.cut ends) in
     let xs = onto k.taken before in
-    let over : d.half.stream.over xs ≡ true = sym k.over_is ∙ ends in
+    let over : d.half.over xs ≡ true = sym k.over_is ∙ ends in
     let skipped = skip-all first d cut.later xs over (each-later first d bytes piece k.taken cut.later cut.parts) in
-    let ys = onto (added d.half.stream bytes piece) before in
+    let ys = onto (added (items d.half.stream) bytes piece) before in
     let same : ys ≡ onto cut.later xs = ap (λ (l : List Item). onto l before) cut.parts ∙ onto-append k.taken cut.later before in
     let past-is : past first ys ≡ past first xs = ap (past first) same ∙ skipped.past-is in
-    let still : d.half.stream.over ys ≡ true = d.laws.over_past ys xs past-is ∙ over in
+    let still : d.half.over ys ≡ true = d.laws.over_past ys xs past-is ∙ over in
     record {
       all = record {
         over_is = ap (λ (k : StreamView S). k.over) is ∙ ends ∙ sym still;
@@ -256,7 +256,7 @@ lacks-more first d memory a b (Ok (Some i)) takes = tt
 lacks-more first d memory a b (Err e) takes = tt
 
 wants-by : {S P : Type 0} (first : ℕ) (d : Side S P first) (memory : Memory) (a b : ItemTaker) (xs : List Item) (answer : Result (Option (ℕ × P)) ReadError) (x : Item) →
-    IsNextBy d.half.stream d.takes answer x → TakesAnswer (taking_of d) answer (Err memory) a b → Translates first a.translator.now xs → d.half.stream.over xs ≡ false → Wants first xs x
+    IsNextBy d.half.stream d.takes answer x → TakesAnswer (taking_of d) answer (Err memory) a b → Translates first a.translator.now xs → d.half.over xs ≡ false → Wants first xs x
 wants-by first d memory a b xs (Ok None) x is takes translates over = absurd is
 wants-by {P = P} first d memory a b xs (Ok (Some i)) x is takes translates over =
     subst (Wants first xs) (sym is.2) (record {
@@ -283,7 +283,7 @@ halted {S = S} {P = P} first d old new memory a b bytes piece before out_old ans
     let stuck = taken-stuck d.half.stream d.takes old new bytes piece (d.half.came before) k.taken answer more k.stream changes nexts in
     let xs = onto k.taken before in
     let came : d.half.came xs ≡ d.half.came before ++ stuck.more = ap (λ (l : List Item). d.half.came (onto l before)) stuck.are ∙ came-onto first d stuck.more before in
-    let over : d.half.stream.over xs ≡ false = sym k.over_is ∙ runs in
+    let over : d.half.over xs ≡ false = sym k.over_is ∙ runs in
     let nothing = lacks-nothing first d memory a b answer takes in
     record {
       taken = k.taken;

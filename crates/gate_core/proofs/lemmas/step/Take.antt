@@ -8,11 +8,11 @@ use Rattle.packet_stream.specs.declared.read.ReadError.{ReadError}
 use Rattle.packet_stream.specs.declared.read.ReadError.TheVariants.{Refused, Memory}
 use Rattle.packet_stream.specs.Split.{Reader, Position, split}
 use Rattle.packet_stream.specs.Streams.{StreamView, passed, ended, after_piece, after_piece_by, Follows, Drained, Closed, Answered, Nexts, Puts, Changes, capped}
-use Rattle.packet_stream.specs.Items.{SideStream, packets, wrongs, added}
+use Rattle.packet_stream.specs.Items.{added}
 use Rattle.packet_stream.specs.Takers.{ended_if}
 use Rattle.packet_stream.proofs.Laws.{IsSteady}
 use Rattle.packet_stream.proofs.Following.{drained-follows, follows-front, follows-holds, over_after}
-use Rattle.packet_stream.proofs.Pieces.{added-more, added-front}
+use Rattle.packet_stream.proofs.Pieces.{SideStream, packets, wrongs, items, added-right, added-wrong, added-front}
 use Rattle.gate_core.specs.step.Stands.{HasAll, IsLeftBy}
 
 -- what is known of the stream before the piece
@@ -32,7 +32,7 @@ pub record Cut {S P I : Type 0} (s : SideStream S P Reason I) (kept : StreamView
   pub none : kept.held ≡ []
   pub empty : kept.rest ≡ []
   pub later : List I
-  pub parts : added s bytes piece ≡ taken ++ later
+  pub parts : added (items s) bytes piece ≡ taken ++ later
 
 pub record Taken {S P I : Type 0} (s : SideStream S P Reason I) (kept : StreamView S) (bytes piece : List ℕ) (given : List (ℕ × P)) (taken : List I) : Type 0 where
   pub going : kept.over ≡ false → Going s kept bytes piece given taken
@@ -70,7 +70,7 @@ taken-put {S = S} {P = P} {I = I} s steady old new bytes piece given over are al
       record {
         none = ap (λ (k : StreamView S). k.held) same ∙ all.none ended;
         empty = ap (λ (k : StreamView S). k.rest) same ∙ all.empty ended;
-        later = added s bytes piece;
+        later = added (items s) bytes piece;
         parts = refl;
       };
 }
@@ -131,10 +131,8 @@ taken-wrong {S = S} {P = P} {I = I} s takes old new bytes piece given taken plac
     let item : List I = s.wrong w.at why ∷ [] in
     let x = split s.reader s.start (bytes ++ piece) in
     let more : x.packets ≡ (split s.reader s.start bytes).packets ++ g.more = w.packets ∙ ap (λ (l : List (ℕ × P)). l ++ g.more) (sym g.before.packets) in
-    let parts : added s bytes piece ≡ taken ++ item =
-    added-more s bytes piece g.more g.before.right more
-    ∙ ap (λ (o : Option (ℕ × Reason)). packets s g.more ++ wrongs s o) w.wrong
-    ∙ ap (λ (l : List I). l ++ item) (sym g.are) in
+    let parts : added (items s) bytes piece ≡ taken ++ item =
+    added-wrong s bytes piece g.more w.at why g.before.right more w.wrong ∙ ap (λ (l : List I). l ++ item) (sym g.are) in
     record {
       at = w.at;
       place-is = w.place-is;
@@ -182,7 +180,7 @@ taken-ended s kept bytes piece given taken t true = record {
 pub record Drained-of {S P I : Type 0} (s : SideStream S P Reason I) (new : StreamView S) (bytes piece : List ℕ) (given : List (ℕ × P)) (taken : List I) : Type 0 where
   pub more : List (ℕ × P)
   pub are : taken ≡ packets s more
-  pub parts : added s bytes piece ≡ taken
+  pub parts : added (items s) bytes piece ≡ taken
   pub all : HasAll s.reader s.start new (bytes ++ piece) (given ++ more) false
 
 pub taken-all : {S P I : Type 0} (s : SideStream S P Reason I) (takes : P → Bool) (old new : StreamView S) (bytes piece : List ℕ) (given : List (ℕ × P)) (taken : List I) →
@@ -196,10 +194,7 @@ taken-all {S = S} {P = P} {I = I} s takes old new bytes piece given taken t chan
     record {
       more = g.more;
       are = g.are;
-      parts = added-more s bytes piece g.more g.before.right more
-          ∙ ap (λ (o : Option (ℕ × Reason)). packets s g.more ++ wrongs s o) d.right
-          ∙ append-nil (packets s g.more)
-          ∙ sym g.are;
+      parts = added-right s bytes piece g.more g.before.right more d.right ∙ sym g.are;
       all = record {
         over_is = over;
         none = λ ends. absurd (true≢false (sym ends));
@@ -241,7 +236,7 @@ pub record Stuck {S P I : Type 0} (s : SideStream S P Reason I) (takes : P → B
   -- the first of those that are left
   pub next : I
   pub behind : List I
-  pub parts : added s bytes piece ≡ taken ++ next ∷ behind
+  pub parts : added (items s) bytes piece ≡ taken ++ next ∷ behind
   pub next-is : IsNextBy s takes answer next
   pub left : IsLeftBy s.reader new (split s.reader s.start (bytes ++ piece)) (given ++ more) new.over
   pub none : new.over ≡ true → new.held ≡ []
@@ -303,9 +298,7 @@ taken-stuck {S = S} {P = P} {I = I} s takes old new bytes piece given taken (Err
       are = g.are;
       next = item;
       behind = [];
-      parts = added-more s bytes piece g.more g.before.right all
-          ∙ ap (λ (o : Option (ℕ × Reason)). packets s g.more ++ wrongs s o) w.wrong
-          ∙ ap (λ (l : List I). l ++ item ∷ []) (sym g.are);
+      parts = added-wrong s bytes piece g.more w.at why g.before.right all w.wrong ∙ ap (λ (l : List I). l ++ item ∷ []) (sym g.are);
       next-is = (w.at, w.place-is, refl);
       left = subst (IsLeftBy s.reader new x (given ++ g.more)) (sym over) closed;
       none = λ _. ap (λ (k : StreamView S). k.held) changes.1;

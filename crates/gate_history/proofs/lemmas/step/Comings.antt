@@ -3,12 +3,13 @@ use Rattle.std.proofs.Common.{◌≡◌, ℕ, ◌==◌, Bool, true, false, zero,
 use Rattle.std.specs.Prelude.{IfSome, drop}
 use Rattle.std.specs.List.{flat_map}
 use Rattle.std.proofs.lemmas.List.{append-nil}
-use Rattle.std.proofs.Math.Seq.{drop-length}
 use Rattle.usb_base.specs.Number.{AreBytes}
 use Rattle.usb_base.specs.declared.reason.Reason.{Reason}
 use Rattle.usb_base.proofs.Numbers.{AreBytes-append, AreBytes-left, AreBytes-right, le_at-below_16}
 use Rattle.packet_stream.specs.Split.{Position, past as behind, Splitting, Spells, split, further_by}
+use Rattle.packet_stream.specs.Items.{added, onto}
 use Rattle.packet_stream.proofs.Laws.{IsSteady, reads_steady, split-more}
+use Rattle.packet_stream.proofs.Pieces.{wrong_items, onto-append, added-more, added-none}
 use Rattle.packet_stream.proofs.Splits.{is_splitting}
 use Rattle.usbip_urb.specs.declared.client.ClientPacket.{ClientPacket}
 use Rattle.usbip_urb.specs.declared.client.ClientPacket.TheVariants.{Op, Urb}
@@ -24,14 +25,14 @@ use Rattle.redir_data.specs.declared.state.RedirState.{RedirState}
 use Rattle.redir_data.specs.Streams.{start, after, stream_format, stream_start}
 use Rattle.redir_data.specs.sound.Joined.{stream_sound}
 use Rattle.gate_history.specs.step.Events.{Event, ClientPiece, ClientEnd, HostPiece, HostEnd, client_bytes, host_bytes}
-use Rattle.gate_history.specs.step.History.{client_split, host_split, client_items, host_items, added, onto, arrivals, wrong_items}
+use Rattle.gate_history.specs.step.History.{client_split, host_split, client_items, host_items, arrivals}
 use Rattle.gate_history.specs.declared.item.Item.{Item}
 use Rattle.gate_history.specs.declared.item.Item.TheVariants.{Asked, ClientWrong, ClientLeft, Told, HostWrong, HostLeft}
 use Rattle.gate_history.specs.write.Readable.{piece_bytes}
 use Rattle.gate_history.specs.client.Requests.{transfer_by}
 use Rattle.gate_history.specs.step.Came.{told}
 use Rattle.gate_history.specs.step.Streams.{client_start, host_reader}
-use Rattle.gate_history.proofs.lemmas.step.Piece.{host-added, onto-append}
+use Rattle.gate_history.proofs.lemmas.step.Piece.{host_stream}
 use Rattle.gate_history.proofs.lemmas.step.Empty.{split-empty}
 use Rattle.gate_history.proofs.lemmas.step.Capabilities.{states, fits-at}
 use Rattle.gate_history.proofs.lemmas.Lists.{Each, Each-append}
@@ -133,15 +134,14 @@ comes-piece bytes piece are all ys c = by x.wrong refl
     by None right =
         let more = (split host_reader x.position (x.rest ++ piece)).packets in
         let same : y.packets ≡ x.packets ++ more = ap (λ (z : Splitting RedirState (Header × RedirPacket) Reason). z.packets) (split-more host_reader host-steady stream_start bytes piece are ∙ ap (further_by host_reader x piece) right) in
-        let parts = host-added bytes piece x.packets more y.wrong refl right same refl in
+        let parts = added-more host_stream bytes piece more right same in
         let told = comes-told (bytes ++ piece) all x.packets more same ys c in
         let ended = comes-own (x.packets ++ more) (wrong_items HostWrong y.wrong) (onto (map told_item more) ys) (host-wrong-own y.wrong) told in
         let joined : onto (wrong_items HostWrong y.wrong) (onto (map told_item more) ys) ≡ onto (added host_items bytes piece) ys = sym (onto-append (map told_item more) (wrong_items HostWrong y.wrong) ys) ∙ ap (λ (l : List Item). onto l ys) (sym parts) in
         subst (λ (l : List Item). Comes y.packets l) joined (ended.0, ended.1 ∙ sym same)
     by (Some w) wrong =
         let same : y ≡ x = split-more host_reader host-steady stream_start bytes piece are ∙ ap (further_by host_reader x piece) wrong in
-        let items : host_items (bytes ++ piece) ≡ host_items bytes = ap (λ (z : Splitting RedirState (Header × RedirPacket) Reason). map told_item z.packets ++ wrong_items HostWrong z.wrong) same in
-        let none : added host_items bytes piece ≡ [] = ap (drop (length (host_items bytes))) items ∙ drop-length (host_items bytes) in
+        let none : added host_items bytes piece ≡ [] = added-none host_stream bytes piece same in
         subst (λ (l : List Item). Comes y.packets (onto l ys)) (sym none) (c.0, c.1 ∙ sym (ap (λ (z : Splitting RedirState (Header × RedirPacket) Reason). z.packets) same))
 
 -- ---- all events

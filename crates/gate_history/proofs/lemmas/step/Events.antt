@@ -1,11 +1,12 @@
 -- One event more is its items, one after another.
 use Rattle.std.proofs.Common.{◌≡◌, ℕ, List, [], ◌∷◌, ◌++◌, refl, sym, ap, ◌∙◌, append_assoc}
 use Rattle.std.proofs.lemmas.List.{append-nil}
+use Rattle.packet_stream.specs.Items.{onto}
 use Rattle.gate_history.specs.declared.item.Item.{Item}
 use Rattle.gate_history.specs.step.Events.{Event}
 use Rattle.gate_history.specs.step.Marks.{Mark}
 use Rattle.gate_history.specs.state.State.{State, state_of}
-use Rattle.gate_history.specs.step.History.{brought, onto, arrivals, history}
+use Rattle.gate_history.specs.step.History.{brought, arrivals, history}
 use Rattle.gate_history.specs.write.All.{all_of}
 use Rattle.gate_history.specs.step.Machine.{step, run, given, all_given, steps, given_by}
 use Rattle.gate_history.proofs.lemmas.step.Runs.{state-run, all-run}

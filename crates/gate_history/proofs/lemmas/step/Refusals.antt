@@ -10,6 +10,7 @@ use Rattle.usb_base.specs.declared.reason.Reason.TheVariants.{NotImported, Alrea
 use Rattle.usb_base.specs.declared.refusal.Refusal.{Refusal}
 use Rattle.usb_base.specs.Endpoint.{is_in_endpoint}
 use Rattle.usb_base.specs.Status.{status_of}
+use Rattle.packet_stream.proofs.Pieces.{wrong_items}
 use Rattle.usbip_op.specs.declared.packet.OpPacket.TheVariants as op
 use Rattle.usbip_urb.specs.declared.packet.UrbPacket.TheVariants as urb
 use Rattle.usbip_urb.specs.declared.client.ClientPacket.{ClientPacket}
@@ -37,7 +38,7 @@ use Rattle.gate_history.specs.state.State.{State, state_of, submits, has_number}
 use Rattle.gate_history.specs.step.Meaning.{importable, imported_as, accepted_as, answered_as, answer_to, by_response, arrives, by_arrival, meaning, mark_of}
 use Rattle.gate_history.specs.host.Responses.{Response, Data, outcome, response_of, mismatch, told_outcome}
 use Rattle.gate_history.specs.step.Past.{is_left_out, past}
-use Rattle.gate_history.specs.step.History.{client_split, host_split, client_items, host_items, wrong_items}
+use Rattle.gate_history.specs.step.History.{client_split, host_split, client_items, host_items}
 use Rattle.gate_history.specs.write.Output.{present}
 use Rattle.gate_history.specs.write.Notes.{when, came_notes, submit_notes, answer_notes, is_by_answer, refusal_notes, notes_of}
 use Rattle.gate_history.specs.write.All.{all_of}

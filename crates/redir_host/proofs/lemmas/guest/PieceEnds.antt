@@ -4,14 +4,14 @@ use Rattle.std.specs.Prelude.{OnOk, OnErr}
 use Rattle.std.proofs.lemmas.List.{append-nil}
 use Rattle.usb_base.specs.Number.{AreBytes}
 use Rattle.usb_base.specs.declared.memory.Memory.{Memory as NoMemory}
-use Rattle.usb_base.specs.declared.reason.Reason.{Reason}
 use Rattle.usb_base.proofs.Numbers.{AreBytes-append}
 use Rattle.packet_stream.specs.Streams.{StreamView as Stream, Drained, Nexts, Changes}
 use Rattle.packet_stream.specs.Takers.{TakenStream, TakesAnswer, Finishes, IsUnput, TakesPiece as TakesBytes}
 use Rattle.packet_stream.specs.declared.read.ReadError.{ReadError}
 use Rattle.packet_stream.specs.declared.read.ReadError.TheVariants.{Refused as IsRefused, Memory}
+use Rattle.packet_stream.specs.Items.{added}
 use Rattle.packet_stream.proofs.Following.{follows-front}
-use Rattle.packet_stream.proofs.Pieces.{added-more, added-front}
+use Rattle.packet_stream.proofs.Pieces.{wrongs, added-right, added-wrong, added-front}
 use Rattle.redir_wire.specs.declared.packet.Header.{Header}
 use Rattle.redir_data.specs.Packets.{takes_memory as redir_takes_memory}
 use Rattle.redir_data.specs.declared.packet.RedirPacket.{RedirPacket}
@@ -25,13 +25,13 @@ use Rattle.redir_host.specs.state.Kept.{HostKept}
 use Rattle.redir_host.specs.declared.write.note.HostNote.{HostNote}
 use Rattle.redir_host.specs.declared.step.taker.GuestTaker.{GuestTaker}
 use Rattle.redir_host.specs.step.Acts.{Act, Piece, guest_bytes}
-use Rattle.redir_host.specs.guest.Guest.{guest_reader, guest_split, asked, wrongs, added}
+use Rattle.redir_host.specs.guest.Guest.{guest_reader, guest_split, guest_items}
 use Rattle.redir_host.specs.step.History.{history}
 use Rattle.redir_host.specs.step.Items.{Item, Asked, Wrong}
 use Rattle.redir_host.specs.step.Machine.{all_given, bytes_of, notes_of, steps}
 use Rattle.redir_host.specs.step.Stands.{told_state, IsReadBy, HostStands, TakesAct, Stops, TakesPiece, StopsIn}
 use Rattle.redir_host.specs.step.Wants.{Wants, takes_memory}
-use Rattle.redir_host.proofs.lemmas.guest.Pieces.{Found, HasTaken, IsBefore, IsGoing, IsWithin, IsWithinBy, guest_taking, going-at, within, side, host-all, given-all, read-given, sent_of}
+use Rattle.redir_host.proofs.lemmas.guest.Pieces.{Found, HasTaken, IsBefore, IsGoing, IsWithin, IsWithinBy, guest_stream, asked, guest_taking, going-at, within, host-all, given-all, read-given, sent_of}
 
 pub before : {S : Type 0} (m : Meaning S) (s : S) (old : HostKept S) (acts : List Act) → HostStands m s old acts → IsBefore old.stream old.host (guest_bytes acts)
 before m s old acts stands = record { read = stands.stream; sound = stands.sound; state = stands.state }
@@ -42,7 +42,7 @@ before m s old acts stands = record { read = stands.stream; sound = stands.sound
 record IsDone {S : Type 0} (m : Meaning S) (bytes piece : List ℕ) (first : GuestTaker S) (now : TakenStream RedirState (GuestTaker S)) : Type 0 where
   pub read : IsReadBy now.stream (guest_split (bytes ++ piece)) now.stream.over
   pub state : now.taker.host.now.guest ≡ told_state start (guest_split (bytes ++ piece)).packets
-  pub taken : HasTaken m first.host.now now.taker.host.now first.out.now now.taker.out.now first.notes.now now.taker.notes.now (added bytes piece)
+  pub taken : HasTaken m first.host.now now.taker.host.now first.out.now now.taker.out.now first.notes.now now.taker.notes.now (added guest_items bytes piece)
 
 done-by : {S : Type 0} (m : Meaning S) (bytes piece : List ℕ) (first : GuestTaker S) (last : TakenStream RedirState (GuestTaker S)) (new : Stream RedirState) → Changes {P = Header × RedirPacket} (Ok None) last.stream new → Nexts {P = Header × RedirPacket} guest_reader redir_takes_memory (Ok None) last.stream new →
     (over : Bool) → last.stream.over ≡ over → IsWithinBy m bytes piece first last over → IsDone m bytes piece first (record { stream = new; taker = last.taker })
@@ -51,10 +51,7 @@ done-by {S = S} m bytes piece first last new changes nexts false going g =
     let over : new.over ≡ false = ap (λ (k : Stream RedirState). k.over) changes ∙ going in
     let d : Drained new y ((guest_split bytes).packets ++ g.more) = nexts stream_start (bytes ++ piece) ((guest_split bytes).packets ++ g.more) g.follows over in
     let drained : Drained new y y.packets = record { packets = refl; right = d.right; rest = d.rest; place = d.place; state = d.state } in
-    let parts : added bytes piece ≡ map asked g.more =
-    added-more side bytes piece g.more g.right d.packets
-    ∙ ap (λ (o : Option (ℕ × Reason)). map asked g.more ++ wrongs o) d.right
-    ∙ append-nil (map asked g.more) in
+    let parts : added guest_items bytes piece ≡ map asked g.more = added-right guest_stream bytes piece g.more g.right d.packets d.right in
     record {
       read = subst (IsReadBy new y) (sym over) drained;
       state = g.state ∙ ap (told_state start) (sym d.packets);
@@ -78,7 +75,7 @@ core_of failed now = record { stream = now.stream; host = now.taker.host.now; fa
 takes-act : {S : Type 0} (m : Meaning S) (s : S) (failed : Bool) (old new : TakenStream RedirState (GuestTaker S)) (acts : List Act) (piece : List ℕ) → AreBytes piece → HostStands m s (core_of failed old) acts → IsDone m (guest_bytes acts) piece old.taker new →
     TakesAct m s (core_of failed new) acts (Piece piece) old.taker.out.now new.taker.out.now old.taker.notes.now new.taker.notes.now
 takes-act m s failed old new acts piece are stands d =
-    let xs = added (guest_bytes acts) piece in
+    let xs = added guest_items (guest_bytes acts) piece in
     let k = core_of failed old in
     record {
       does = record {
@@ -105,7 +102,7 @@ stops-unput {S = S} m s failed old new acts piece stands unput =
     let d : Drained old.stream x x.packets = subst (IsReadBy old.stream x) unput.some.1 stands.stream.read in
     record {
       taken = [];
-      later = added (guest_bytes acts) piece;
+      later = added guest_items (guest_bytes acts) piece;
       parts = refl;
       sent = ap (λ (t : GuestTaker S). t.out.now) unput.taker ∙ sym (append-nil old.taker.out.now);
       wanted = inl (refl, (unput.some.0, d.right));
@@ -117,7 +114,7 @@ asks-memory header (Plain p) takes = takes
 asks-memory header (Carrying p) takes = takes
 
 stops-next : {S : Type 0} (m : Meaning S) (s : S) (failed : Bool) (old last : TakenStream RedirState (GuestTaker S)) (acts : List Act) (piece out : List ℕ) (next : Item) (behind : List Item) → HostStands m s (core_of failed old) acts →
-    (g : IsGoing m (guest_bytes acts) piece old.taker last) → added (guest_bytes acts) piece ≡ map asked g.more ++ next ∷ behind → out ≡ last.taker.out.now → Wants m last.taker.host.now next → Stops m s acts (Piece piece) old.taker.out.now out
+    (g : IsGoing m (guest_bytes acts) piece old.taker last) → added guest_items (guest_bytes acts) piece ≡ map asked g.more ++ next ∷ behind → out ≡ last.taker.out.now → Wants m last.taker.host.now next → Stops m s acts (Piece piece) old.taker.out.now out
 stops-next {S = S} m s failed old last acts piece out next behind stands g parts cut wants =
     let xs = map asked g.more in
     record {
@@ -138,20 +135,20 @@ stops-by m s failed old last new t acts piece memory (Ok (Some i)) stands w chan
     let n = nexts stream_start (bytes ++ piece) given g.follows in
     let one : List Found = (n.at, i.1) ∷ [] in
     let front = follows-front guest_reader stream_start new (bytes ++ piece) (given ++ one) n.follows in
-    stops-next m s failed old last acts piece t.out.now (asked (n.at, i.1)) (map asked front.0 ++ wrongs (guest_split (bytes ++ piece)).wrong) stands g
-    (added-front side bytes piece g.more ((n.at, i.1) ∷ front.0) g.right (front.1 ∙ append_assoc given one front.0)) takes.1.0 (inr takes.1.1)
+    stops-next m s failed old last acts piece t.out.now (asked (n.at, i.1)) (map asked front.0 ++ wrongs guest_stream (guest_split (bytes ++ piece)).wrong) stands g
+    (added-front guest_stream bytes piece g.more ((n.at, i.1) ∷ front.0) g.right (front.1 ∙ append_assoc given one front.0)) takes.1.0 (inr takes.1.1)
 stops-by m s failed old last new t acts piece memory (Err (IsRefused place why)) stands w changes nexts takes =
     let bytes = guest_bytes acts in
     let g = going-at m bytes piece old.taker last changes.0 w in
     let n = nexts stream_start (bytes ++ piece) ((guest_split bytes).packets ++ g.more) g.follows in
     stops-next m s failed old last acts piece t.out.now (Wrong place why) [] stands g
-    (added-more side bytes piece g.more g.right n.packets ∙ ap (λ (o : Option (ℕ × Reason)). map asked g.more ++ wrongs o) n.wrong ∙ ap (λ (at : ℕ). map asked g.more ++ Wrong at why ∷ []) (sym n.place-is)) takes.1.0 (inr takes.1.1)
+    (added-wrong guest_stream bytes piece g.more n.at why g.right n.packets n.wrong ∙ ap (λ (at : ℕ). map asked g.more ++ Wrong at why ∷ []) (sym n.place-is)) takes.1.0 (inr takes.1.1)
 stops-by {S = S} m s failed old last new t acts piece memory (Err (Memory _)) stands w changes nexts takes =
     let bytes = guest_bytes acts in
     let g = going-at m bytes piece old.taker last changes.0 w in
     let n = nexts stream_start (bytes ++ piece) ((guest_split bytes).packets ++ g.more) g.follows in
-    stops-next m s failed old last acts piece t.out.now (asked n.next) (map asked n.left ++ wrongs (guest_split (bytes ++ piece)).wrong) stands g
-    (added-front side bytes piece g.more (n.next ∷ n.left) g.right n.packets) (ap (λ (u : GuestTaker S). u.out.now) takes.1) (inl (asks-memory n.next.1.0 n.next.1.1 n.takes-some))
+    stops-next m s failed old last acts piece t.out.now (asked n.next) (map asked n.left ++ wrongs guest_stream (guest_split (bytes ++ piece)).wrong) stands g
+    (added-front guest_stream bytes piece g.more (n.next ∷ n.left) g.right n.packets) (ap (λ (u : GuestTaker S). u.out.now) takes.1) (inl (asks-memory n.next.1.0 n.next.1.1 n.takes-some))
 
 -- ---- the calls
 

@@ -1,18 +1,18 @@
 -- A piece of the guest's bytes: what each packet is, and what the host makes of all that the piece brings.
-use Rattle.std.proofs.Common.{◌≡◌, ℕ, Bool, true, false, List, [], ◌∷◌, ◌++◌, length, map, drop, Option, Some, None, Result, Ok, Err, refl, sym, ap, subst, ◌∙◌, append_assoc}
-use Rattle.std.proofs.lemmas.List.{append-nil, map-append, drop_at}
+use Rattle.std.proofs.Common.{◌≡◌, ℕ, Bool, true, false, List, [], ◌∷◌, ◌++◌, length, map, Option, Some, None, Result, Ok, Err, refl, sym, ap, subst, ◌∙◌, append_assoc}
+use Rattle.std.proofs.lemmas.List.{append-nil, map-append}
 use Rattle.usb_base.specs.Number.{AreBytes}
 use Rattle.usb_base.specs.declared.memory.Memory.{Memory as NoMemory}
 use Rattle.usb_base.specs.declared.reason.Reason.{Reason}
-use Rattle.packet_stream.specs.Items.{SideStream}
 use Rattle.packet_stream.specs.Split.{Position, Splitting, past, further_by, Spells}
 use Rattle.packet_stream.specs.Streams.{StreamView as Stream, after_piece, Follows, Drained, Nexts, Puts, Changes, capped}
 use Rattle.packet_stream.specs.Takers.{Taking, TakenStream, taken_by, TakesAnswer, Reaches, TakesPiece}
 use Rattle.packet_stream.specs.declared.read.ReadError.{ReadError}
 use Rattle.packet_stream.specs.declared.read.ReadError.TheVariants.{Refused as IsRefused, Memory}
+use Rattle.packet_stream.specs.Items.{added}
 use Rattle.packet_stream.proofs.Following.{drained-follows, follows-front, over_after}
 use Rattle.packet_stream.proofs.Laws.{IsSteady, reads_steady, split-more}
-use Rattle.packet_stream.proofs.Pieces.{added-more}
+use Rattle.packet_stream.proofs.Pieces.{SideStream, added-wrong, added-none}
 use Rattle.packet_stream.proofs.Splits.{is_splitting}
 use Rattle.packet_stream.proofs.Takers.{reaches-keeps, piece-keeps}
 use Rattle.redir_wire.specs.declared.packet.Header.{Header}
@@ -29,7 +29,7 @@ use Rattle.redir_host.specs.state.Kept.{HostKept}
 use Rattle.redir_host.specs.declared.write.note.HostNote.{HostNote}
 use Rattle.redir_host.specs.declared.step.taker.GuestTaker.{GuestTaker}
 use Rattle.redir_host.specs.step.Acts.{Act}
-use Rattle.redir_host.specs.guest.Guest.{guest_reader, guest_split, guest_items, asked, wrongs, added}
+use Rattle.redir_host.specs.guest.Guest.{guest_reader, guest_split, guest_items}
 use Rattle.redir_host.specs.step.History.{brought, history}
 use Rattle.redir_host.specs.step.Items.{Item, Asked, Wrong}
 use Rattle.redir_host.specs.step.Machine.{move, all_given, bytes_of, notes_of, steps, given_by}
@@ -49,6 +49,12 @@ use Rattle.redir_host.proofs.lemmas.step.Acts.{act-gives, steps-append, given-ap
 
 abbrev pub Found : Type 0
 Found = ℕ × (Header × RedirPacket)
+
+abbrev pub guest_stream : SideStream RedirState (Header × RedirPacket) Reason Item
+guest_stream = record { reader = guest_reader; start = stream_start; packet = λ place p. Asked p.0.id p.1; wrong = λ place why. Wrong (capped place) why }
+
+abbrev pub asked : Found → Item
+asked p = Asked p.1.0.id p.1.1
 
 pub guest-steady : IsSteady guest_reader
 guest-steady = reads_steady (stream_format ToHost) after (stream_sound ToHost)
@@ -132,7 +138,7 @@ pub record IsOver {S : Type 0} (m : Meaning S) (bytes piece : List ℕ) (first :
   pub at : ℕ × Reason
   pub wrong : (guest_split (bytes ++ piece)).wrong ≡ Some at
   pub state : now.taker.host.now.guest ≡ told_state start (guest_split (bytes ++ piece)).packets
-  pub taken : HasTaken m first.host.now now.taker.host.now first.out.now now.taker.out.now first.notes.now now.taker.notes.now (added bytes piece)
+  pub taken : HasTaken m first.host.now now.taker.host.now first.out.now now.taker.out.now first.notes.now now.taker.notes.now (added guest_items bytes piece)
 
 abbrev pub IsWithinBy : {S : Type 0} → Meaning S → List ℕ → List ℕ → GuestTaker S → TakenStream RedirState (GuestTaker S) → Bool → Type 0
 IsWithinBy m bytes piece first now false = IsGoing m bytes piece first now
@@ -151,13 +157,6 @@ going-at m bytes piece first now is w = subst (IsWithinBy m bytes piece first no
 
 still : (bytes piece : List ℕ) (w : ℕ × Reason) → AreBytes bytes → (guest_split bytes).wrong ≡ Some w → guest_split (bytes ++ piece) ≡ guest_split bytes
 still bytes piece w fits wrong = split-more guest_reader guest-steady stream_start bytes piece fits ∙ ap (further_by guest_reader (guest_split bytes) piece) wrong
-
-none-added : (bytes piece : List ℕ) → guest_split (bytes ++ piece) ≡ guest_split bytes → added bytes piece ≡ []
-none-added bytes piece same =
-    let xs = guest_items bytes in
-    ap (λ (x : Splitting RedirState (Header × RedirPacket) Reason). drop (length xs) (map asked x.packets ++ wrongs x.wrong)) same
-    ∙ ap (drop (length xs)) (sym (append-nil xs))
-    ∙ drop_at xs [] (length xs) refl
 
 -- what is known of the guest's bytes before the piece
 pub record IsBefore {S : Type 0} (kept : Stream RedirState) (host : Host S) (bytes : List ℕ) : Type 0 where
@@ -186,7 +185,7 @@ first-by {S = S} m old new first bytes piece are b puts true over =
       at = w.0;
       wrong = ap (λ (y : Splitting RedirState (Header × RedirPacket) Reason). y.wrong) same ∙ w.1;
       state = b.state ∙ ap (λ (y : Splitting RedirState (Header × RedirPacket) Reason). told_state start y.packets) (sym same);
-      taken = subst (HasTaken m first.host.now first.host.now first.out.now first.out.now first.notes.now first.notes.now) (sym (none-added bytes piece same))
+      taken = subst (HasTaken m first.host.now first.host.now first.out.now first.out.now first.notes.now first.notes.now) (sym (added-none guest_stream bytes piece same))
           (taken-none m first.host.now first.out.now first.notes.now b.sound);
     }
 
@@ -197,10 +196,6 @@ within-first m old new first bytes piece are b is puts =
     (first-by m old new first bytes piece are b puts old.over refl)
 
 -- ---- what comes next
-
--- the items of a piece that is taken so far
-abbrev pub side : SideStream RedirState (Header × RedirPacket) Reason Item
-side = record { reader = guest_reader; start = stream_start; packet = λ place p. Asked p.0.id p.1; wrong = λ at why. Wrong (capped at) why; over = λ xs. false }
 
 one-by : {S : Type 0} (m : Meaning S) → IsGadget m → (bytes piece : List ℕ) (first : GuestTaker S) (old new : TakenStream RedirState (GuestTaker S)) (answer : Result (Option Found) ReadError) → IsWithin m bytes piece first old →
     Changes answer old.stream new.stream → Nexts guest_reader redir_takes_memory answer old.stream new.stream → TakesAnswer (guest_taking m) answer (Ok tt) old.taker new.taker → IsWithin m bytes piece first new
@@ -232,10 +227,8 @@ one-by {S = S} m lawful bytes piece first old new (Err (IsRefused place why)) w 
     let mid = old.taker.host.now in
     let n = nexts stream_start (bytes ++ piece) (x.packets ++ g.more) g.follows in
     let host : new.taker.host.now ≡ mid = takes.1.0.makes.host in
-    let parts : added bytes piece ≡ map asked g.more ++ Wrong place why ∷ [] =
-    added-more side bytes piece g.more g.right n.packets
-    ∙ ap (λ (o : Option (ℕ × Reason)). map asked g.more ++ wrongs o) n.wrong
-    ∙ ap (λ (at : ℕ). map asked g.more ++ Wrong at why ∷ []) (sym n.place-is) in
+    let parts : added guest_items bytes piece ≡ map asked g.more ++ Wrong place why ∷ [] =
+    added-wrong guest_stream bytes piece g.more n.at why g.right n.packets n.wrong ∙ ap (λ (at : ℕ). map asked g.more ++ Wrong at why ∷ []) (sym n.place-is) in
     within-at m bytes piece first new true (ap (λ (k : Stream RedirState). k.over) changes.1) (record {
       at = (n.at, why);
       wrong = n.wrong;

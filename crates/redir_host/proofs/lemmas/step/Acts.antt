@@ -1,10 +1,11 @@
 -- One act more is its items, one after another.
 use Rattle.std.proofs.Common.{◌≡◌, List, [], ◌∷◌, ◌++◌, refl, sym, ap, ◌∙◌, append_assoc}
 use Rattle.std.proofs.lemmas.List.{append-nil}
+use Rattle.packet_stream.specs.Items.{onto}
 use Rattle.model_device.specs.Meaning.{Meaning}
 use Rattle.redir_host.specs.declared.state.host.Host.{Host}
 use Rattle.redir_host.specs.step.Acts.{Act}
-use Rattle.redir_host.specs.step.History.{brought, onto, history}
+use Rattle.redir_host.specs.step.History.{brought, history}
 use Rattle.redir_host.specs.step.Items.{Item}
 use Rattle.redir_host.specs.step.Machine.{move, run, bytes_of, all_given, steps, given_by}
 use Rattle.redir_host.specs.step.Moves.{Move}
