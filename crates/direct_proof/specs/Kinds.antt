@@ -1,13 +1,14 @@
 -- Streams are of IN endpoints, stand at their places, and are of one type everywhere.
 use Rattle.std.specs.Prelude.{◌≡◌, ℕ, ◌≤◌, ◌<◌, true, List, length, Option, Some, None, get_or, ◌⊎◌}
-use Rattle.usb_base.specs.Endpoint.{endpoint_index, is_iso}
+use Rattle.usb_base.specs.Endpoint.{endpoint_index}
 use Rattle.usb_base.specs.declared.endpoint.EpKind.TheVariants as kind
 use Rattle.usb_base.specs.declared.endpoint.TheConstants.{ENDPOINTS}
 use Rattle.model_device.specs.Gadget.{IsNamed}
-use Rattle.redir_host.specs.declared.state.running.StreamKind.{StreamKind}
+use Rattle.redir_data.specs.declared.stream_kind.StreamKind.{StreamKind}
+use Rattle.redir_data.specs.StreamKinds.{is_kind_of}
 use Rattle.gate_history.specs.state.Ups.{Up, stream_of}
 use Rattle.direct_proof.specs.Loads.{IsComing}
-use Rattle.direct_proof.specs.Tagged.{Answered, Packed, Stated, Tagged, is_kind}
+use Rattle.direct_proof.specs.Tagged.{Answered, Packed, Stated, Tagged}
 
 -- an IN endpoint's address
 pub record IsIn (ep : ℕ) : Type 0 where
@@ -31,7 +32,7 @@ StreamIsIn (Some ep) = IsIn ep
 -- a stream that is up is of its row's kind everywhere
 abbrev pub OfKind : Option Up → StreamKind → Type 0
 OfKind None k = Unit {0}
-OfKind (Some up) k = is_kind k (is_iso up.row.kind) ≡ true
+OfKind (Some up) k = is_kind_of k up.row.kind ≡ true
 
 abbrev pub StartOfKind : List (Option Up) → Option (StreamKind × ℕ) → Type 0
 StartOfKind ups None = Unit {0}

@@ -4,7 +4,6 @@ use Rattle.usb_base.specs.declared.transfer.StreamPacket.{StreamPacket}
 use Rattle.redir_data.specs.declared.packet.RedirPacket.{RedirPacket}
 use Rattle.redir_host.specs.guest.Line.{Waiting as InLine, Reset, packet_line}
 use Rattle.gate_history.specs.state.Ups.{Up, stream_of}
-use Rattle.usb_base.specs.Endpoint.{is_iso}
 use Rattle.direct_run.specs.Moves.{World}
 use Rattle.direct_device.specs.Direct.{Direct}
 use Rattle.direct_proof.specs.Requests.{Debt, Entry, at_device, at_host, live_of, ran_of}
@@ -43,7 +42,7 @@ at_hosts (e ∷ es) = at_host e ++ at_hosts es
 
 abbrev pub way_of : Option Up → ℕ → List Tagged → List StreamPacket
 way_of None ep bs = []
-way_of (Some up) ep bs = packets_in (is_iso up.row.kind) ep bs
+way_of (Some up) ep bs = packets_in up.row.kind ep bs
 
 abbrev pub view : {S : Type 0} → World S → Shared → Direct S
 view w j = record {

@@ -1,5 +1,6 @@
 -- The wire to the gateway, with more than the gateway sees of an answer.
-use Rattle.std.specs.Prelude.{ℕ, ◌==◌, ◌&&◌, not, Bool, if◌then◌else◌, List, [], ◌∷◌, ◌++◌}
+use Rattle.std.specs.Prelude.{ℕ, ◌==◌, ◌&&◌, if◌then◌else◌, List, [], ◌∷◌, ◌++◌}
+use Rattle.usb_base.specs.declared.endpoint.EpKind.{EpKind}
 use Rattle.usb_base.specs.declared.endpoint.EpTable.{EpTable}
 use Rattle.usb_base.specs.declared.transfer.StreamPacket.{StreamPacket}
 use Rattle.redir_wire.specs.declared.packet.Connect.{Connect}
@@ -12,8 +13,9 @@ use Rattle.redir_host.specs.write.Answers.{answer_by}
 use Rattle.redir_host.specs.device.Facts.{connect_of, ep_info_of}
 use Rattle.redir_host.specs.device.Offering.{stream_packet}
 use Rattle.redir_host.specs.write.Output.{host_hello}
-use Rattle.redir_host.specs.declared.state.running.StreamKind.{StreamKind}
-use Rattle.redir_host.specs.declared.state.running.StreamKind.TheVariants.{Interrupt, Iso}
+use Rattle.redir_data.specs.declared.stream_kind.StreamKind.{StreamKind}
+use Rattle.redir_data.specs.declared.stream_kind.StreamKind.TheVariants.{Interrupt, Iso}
+use Rattle.redir_data.specs.StreamKinds.{is_kind_of}
 use Rattle.gate_history.specs.state.Facts.{tell}
 use Rattle.gate_history.specs.step.Meaning.{fact_of}
 use Rattle.gate_history.specs.declared.facts.Facts.{Facts}
@@ -48,22 +50,18 @@ abbrev pub ran_in : Tagged → List Coming
 ran_in (Answered c) = c ∷ []
 ran_in _ = []
 
-abbrev pub is_kind : StreamKind → Bool → Bool
-is_kind Iso iso = iso
-is_kind Interrupt iso = not iso
-
--- the packets of an endpoint's stream of this type
-abbrev pub packet_in : Bool → ℕ → Tagged → List StreamPacket
-packet_in iso e (Packed k ep p) = if (ep == e) && is_kind k iso then p ∷ [] else []
-packet_in iso e _ = []
+-- the packets of the stream of an endpoint of this type
+abbrev pub packet_in : EpKind → ℕ → Tagged → List StreamPacket
+packet_in kind e (Packed k ep p) = if (ep == e) && is_kind_of k kind then p ∷ [] else []
+packet_in kind e _ = []
 
 abbrev pub runs_in : List Tagged → List Coming
 runs_in [] = []
 runs_in (b ∷ bs) = ran_in b ++ runs_in bs
 
-abbrev pub packets_in : Bool → ℕ → List Tagged → List StreamPacket
-packets_in iso e [] = []
-packets_in iso e (b ∷ bs) = packet_in iso e b ++ packets_in iso e bs
+abbrev pub packets_in : EpKind → ℕ → List Tagged → List StreamPacket
+packets_in kind e [] = []
+packets_in kind e (b ∷ bs) = packet_in kind e b ++ packets_in kind e bs
 
 -- the facts that the gateway will have once the wire is read
 abbrev pub told : Facts → List Tagged → Facts

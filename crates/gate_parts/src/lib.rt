@@ -14,7 +14,7 @@ pub use host::response::{
 };
 pub use state::id::draw;
 pub use state::stream_ids::{SentIds, StreamIds, lifted};
-pub use state::streams::{Streams, is_ended, is_iso};
+pub use state::streams::{Streams, is_ended};
 pub use write::answer::{write_all_sent, write_ret_unlink, write_without_packets};
 pub use write::ask::{
     acknowledge, packet_count, wire_packet, write_cancel, write_cancel_of, write_hello,

@@ -4,6 +4,7 @@ pub mod Places
 pub mod Carrying
 pub mod Packets
 pub mod Streams
+pub mod StreamKinds
 pub mod Written
 pub mod inner
 pub mod sound

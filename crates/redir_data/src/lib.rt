@@ -9,6 +9,7 @@ mod read;
 mod redir;
 mod state;
 mod stream;
+mod stream_kind;
 mod write;
 
 pub use laws::{
@@ -20,4 +21,5 @@ pub use read::read_data;
 pub use redir::{FIRST_DATA, read_redir};
 pub use state::RedirState;
 pub use stream::{FromGuest, FromHost, Guest, Host, Sender, SentBy};
+pub use stream_kind::StreamKind;
 pub use write::{move_data, write_data, write_iso_out};

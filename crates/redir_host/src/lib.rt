@@ -17,7 +17,7 @@ pub use state::host::Host;
 pub use state::queue::Queue;
 pub use state::request::{Form, Request};
 pub use state::requests::Requests;
-pub use state::running::{Running, StreamKind, Streams};
+pub use state::running::{Running, Streams};
 pub use step::host_core::HostCore;
 pub use write::hello::write_hello;
 pub use write::note::{HostNote, HostNotes, Offered, Performed};

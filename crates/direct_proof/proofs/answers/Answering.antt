@@ -10,6 +10,7 @@ use Rattle.usbip_urb.specs.declared.client.ClientPacket.TheVariants.{Urb}
 use Rattle.redir_wire.specs.declared.packet.Header.{Header}
 use Rattle.redir_data.specs.declared.packet.RedirPacket.{RedirPacket}
 use Rattle.redir_data.specs.Sent.{sent_header}
+use Rattle.redir_data.specs.declared.stream_kind.StreamKind.TheVariants.{Interrupt}
 use Rattle.control_route.specs.declared.route.Route.{Route}
 use Rattle.control_route.specs.declared.route.Route.TheVariants as route
 use Rattle.model_device.specs.Transfer.{IsOutcome}
@@ -85,7 +86,7 @@ answer-means st place k id r (Wire Bulk) configuration o fits is named found =
     ∙ ap (Answers id) (read-as o named)
 answer-means st place k id r (Wire InterruptOut) configuration o fits is named found =
     let h = sent_header st.agreed (id, answer_packet configuration r (Wire InterruptOut) o) in
-    ap (λ (b : Bool). cond b (by_arrival st r.transfer.ep false (status_byte o.status) o.body) (by_response st place h (cond b None (Some (Data r.transfer.ep 2 (outcome (status_byte o.status) o.done o.body)))))) fits.2
+    ap (λ (b : Bool). cond b (by_arrival st r.transfer.ep Interrupt (status_byte o.status) o.body) (by_response st place h (cond b None (Some (Data r.transfer.ep 2 (outcome (status_byte o.status) o.done o.body)))))) fits.2
     ∙ data-means st place k h r (Wire InterruptOut) 2 (outcome (status_byte o.status) o.done o.body) found refl (few-done o.done r.transfer.wanted is.done)
     ∙ ap (Answers id) (read-as o named)
 answer-means st place k id r (Routed x) configuration o fits is named found = routed x found (answer-seen r (Routed x) configuration o fits named)

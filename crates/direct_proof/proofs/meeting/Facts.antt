@@ -1,5 +1,5 @@
 -- The gateway reads a fact of the device: nothing but what it knows of the device changes.
-use Rattle.std.proofs.Common.{◌≡◌, ℕ, ◌||◌, Bool, true, false, cond, List, [], ◌∷◌, ◌++◌, map, Option, Some, None, is_some, refl, sym, ap, ◌∙◌, subst, inl, inr, ◌⊎◌, true≢false}
+use Rattle.std.proofs.Common.{◌≡◌, ℕ, ◌||◌, true, false, cond, List, [], ◌∷◌, ◌++◌, map, Option, Some, None, is_some, refl, sym, ap, ◌∙◌, subst, inl, inr, ◌⊎◌, true≢false}
 use Rattle.std.specs.List.{list_any}
 use Rattle.std.proofs.lemmas.Bool.{both_ways, or_right}
 use Rattle.usb_base.specs.declared.endpoint.EpTable.{EpTable}
@@ -13,7 +13,7 @@ use Rattle.gate_history.specs.step.Marks.{Idle, Agrees}
 use Rattle.gate_history.specs.state.State.{State}
 use Rattle.gate_history.specs.step.Meaning.{meaning, mark_as, fact_of}
 use Rattle.gate_history.specs.state.Facts.{tell}
-use Rattle.usb_base.specs.Endpoint.{is_iso}
+use Rattle.usb_base.specs.declared.endpoint.EpKind.{EpKind}
 use Rattle.gate_history.specs.state.Ups.{Up, stream_of}
 use Rattle.direct_run.specs.Moves.{World, GateReads}
 use Rattle.direct_run.specs.Packets.{both_caps}
@@ -36,7 +36,7 @@ use Rattle.direct_proof.proofs.meeting.Told.{told_world, idle-made, agrees-made}
 -- how far the two have met once it is read
 pub record MeetsOn {S : Type 0} (w : World S) (j : Shared) (b : Tagged) (bs : List Tagged) (caps : Caps) : Type 0 where
   pub no_ran : ran_in b ≡ []
-  pub no_packet : (iso : Bool) (ep : ℕ) → packet_in iso ep b ≡ []
+  pub no_packet : (kind : EpKind) (ep : ℕ) → packet_in kind ep b ≡ []
   pub gate : list_any is_greeting bs ≡ false → caps ≡ both_caps
   pub before : w.host.guest.first ≡ true → bs ≡ []
   pub behind : is_some (tell w.gate.facts (fact_of (on_wire b).1)).connect ≡ true → (list_any is_greeting bs ≡ false) × (list_any is_plug bs ≡ false) × (w.host.guest.first ≡ false)
@@ -99,7 +99,7 @@ module _ {S : Type 0} (m : Meaning S) (w : World S) (j : Shared) (place : ℕ) (
     where
       ways : (up : Option Up) (ep : ℕ) → way_of up ep (b ∷ bs) ≡ way_of up ep bs
       ways None ep = refl
-      ways (Some up) ep = ap (λ l. l ++ packets_in (is_iso up.row.kind) ep bs) (on.no_packet (is_iso up.row.kind) ep)
+      ways (Some up) ep = ap (λ l. l ++ packets_in up.row.kind ep bs) (on.no_packet up.row.kind ep)
 
 -- the gateway reads on
 fact-moved : {S : Type 0} (m : Meaning S) (w : World S) (j : Shared) (place : ℕ) (b : Tagged) (bs : List Tagged) → Related m w (with_back j (b ∷ bs)) → meaning w.gate (Told place (sent_header w.gate.agreed (on_wire b)) (on_wire b).1) ≡ Idle →
@@ -110,12 +110,12 @@ fact-moved m w j place b bs rel idle = ap (gate_reads w place) rel.answers
 
 pub keep-table : {S : Type 0} (m : Meaning S) (w : World S) (j : Shared) (place : ℕ) (t : EpTable) (bs : List Tagged) → Related m w (with_back j (ToldTable t ∷ bs)) → Keeps m w (with_back j (ToldTable t ∷ bs)) (move m w (GateReads place))
 keep-table m w j place t bs rel = keep-told m w j place (ToldTable t) bs w.gate.agreed rel
-    (record { no_ran = refl; no_packet = λ iso ep. refl; gate = rel.meets.gate; before = λ h. absurd (true≢false (sym (early-greets (ToldTable t) bs (rel.before h).back))); behind = rel.meets.behind; known = λ h. h; announced = λ a. a; tells = λ a. a; plugged = rel.meets.plugged })
+    (record { no_ran = refl; no_packet = λ kind ep. refl; gate = rel.meets.gate; before = λ h. absurd (true≢false (sym (early-greets (ToldTable t) bs (rel.before h).back))); behind = rel.meets.behind; known = λ h. h; announced = λ a. a; tells = λ a. a; plugged = rel.meets.plugged })
     (fact-moved m w j place (ToldTable t) bs rel refl)
 
 pub keep-faces : {S : Type 0} (m : Meaning S) (w : World S) (j : Shared) (place : ℕ) (t : InterfaceInfo) (bs : List Tagged) → Related m w (with_back j (ToldFaces t ∷ bs)) → Keeps m w (with_back j (ToldFaces t ∷ bs)) (move m w (GateReads place))
 keep-faces m w j place t bs rel = keep-told m w j place (ToldFaces t) bs w.gate.agreed rel
-    (record { no_ran = refl; no_packet = λ iso ep. refl; gate = rel.meets.gate; before = λ h. absurd (true≢false (sym (early-greets (ToldFaces t) bs (rel.before h).back))); behind = rel.meets.behind; known = λ h. h; announced = λ a. a; tells = λ a. a; plugged = rel.meets.plugged })
+    (record { no_ran = refl; no_packet = λ kind ep. refl; gate = rel.meets.gate; before = λ h. absurd (true≢false (sym (early-greets (ToldFaces t) bs (rel.before h).back))); behind = rel.meets.behind; known = λ h. h; announced = λ a. a; tells = λ a. a; plugged = rel.meets.plugged })
     (fact-moved m w j place (ToldFaces t) bs rel refl)
 
 -- the device's coming
@@ -123,7 +123,7 @@ pub keep-plugged : {S : Type 0} (m : Meaning S) (w : World S) (j : Shared) (plac
 keep-plugged m w j place c bs rel = keep-told m w j place (Plugged c) bs w.gate.agreed rel
     (record {
       no_ran = refl;
-      no_packet = λ iso ep. refl;
+      no_packet = λ kind ep. refl;
       gate = rel.meets.gate;
       before = λ h. absurd (both_ways w.host.guest.first met h);
       behind = λ h. ((rel.meets.once.0 refl).0, (rel.meets.once.0 refl).1, met);
@@ -142,7 +142,7 @@ pub keep-greeted : {S : Type 0} (m : Meaning S) (w : World S) (j : Shared) (plac
 keep-greeted m w j place bs rel = keep-told m w j place Greeted bs both_caps rel
     (record {
       no_ran = refl;
-      no_packet = λ iso ep. refl;
+      no_packet = λ kind ep. refl;
       gate = λ h. refl;
       before = λ h. early (rel.before h).back;
       behind = λ h. absurd (true≢false (rel.meets.behind h).0);

@@ -14,7 +14,6 @@ use Rattle.gate_history.proofs.lemmas.Lists.{Each-append}
 use Rattle.gate_history.specs.write.Bytes.{gateway_hello}
 use Rattle.gate_history.specs.declared.facts.Facts.{Facts}
 use Rattle.gate_history.specs.state.Ups.{Up, stream_of}
-use Rattle.usb_base.specs.Endpoint.{is_iso}
 use Rattle.direct_run.specs.Moves.{World, HostReads}
 use Rattle.direct_run.specs.Packets.{both_caps}
 use Rattle.direct_proof.specs.Moves.{move, host_reads, host_takes}
@@ -129,7 +128,7 @@ keep-hello {S = S} m w j rel fresh = go w.host.unplugged refl
 
         ways : (up : Option Up) (ep : ℕ) → way_of up ep (j.back ++ cs) ≡ way_of up ep j.back
         ways None ep = refl
-        ways (Some up) ep = packets_in-append (is_iso up.row.kind) ep j.back cs ∙ append-nil (packets_in (is_iso up.row.kind) ep j.back)
+        ways (Some up) ep = packets_in-append up.row.kind ep j.back cs ∙ append-nil (packets_in up.row.kind ep j.back)
 
         plug : PlugOnce cs
         plug = ((λ h. absurd (true≢false (sym h))), ((λ h. absurd (true≢false (sym h))), ((λ h. (refl, refl)), tt)))

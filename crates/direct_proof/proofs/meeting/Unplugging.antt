@@ -12,7 +12,7 @@ use Rattle.redir_host.specs.step.Moves.{quiet as host_quiet}
 use Rattle.gate_history.proofs.lemmas.Lists.{Each-append}
 use Rattle.gate_history.specs.declared.facts.Facts.{Facts}
 use Rattle.gate_history.specs.state.Ups.{Up, stream_of}
-use Rattle.usb_base.specs.Endpoint.{is_iso}
+use Rattle.usb_base.specs.declared.endpoint.EpKind.{EpKind}
 use Rattle.direct_run.specs.Moves.{World, Unplugs}
 use Rattle.direct_proof.specs.Moves.{move, quiet, host_made}
 use Rattle.direct_proof.specs.Requests.{Coming, ran_of}
@@ -106,9 +106,9 @@ module _ {S : Type 0} (m : Meaning S) (w : World S) (j : Shared) (rel : Related 
       same-back none (inl e) = inl ((λ i. e i ++ none i))
       same-back none (inr e) = inr ((λ i. e i ++ none i))
 
-  ways : (cs : List Tagged) → ((iso : Bool) (ep : ℕ) → packets_in iso ep cs ≡ []) → (up : Option Up) (ep : ℕ) → way_of up ep (j.back ++ cs) ≡ way_of up ep j.back
+  ways : (cs : List Tagged) → ((kind : EpKind) (ep : ℕ) → packets_in kind ep cs ≡ []) → (up : Option Up) (ep : ℕ) → way_of up ep (j.back ++ cs) ≡ way_of up ep j.back
   ways cs none None ep = refl
-  ways cs none (Some up) ep = packets_in-append (is_iso up.row.kind) ep j.back cs ∙ ap (λ l. packets_in (is_iso up.row.kind) ep j.back ++ l) (none (is_iso up.row.kind) ep) ∙ append-nil (packets_in (is_iso up.row.kind) ep j.back)
+  ways cs none (Some up) ep = packets_in-append up.row.kind ep j.back cs ∙ ap (λ l. packets_in up.row.kind ep j.back ++ l) (none up.row.kind ep) ∙ append-nil (packets_in up.row.kind ep j.back)
 
   unplugs : Keeps m w j (move m w Unplugs)
   unplugs = go w.host.guest.first refl
@@ -131,7 +131,7 @@ module _ {S : Type 0} (m : Meaning S) (w : World S) (j : Shared) (rel : Related 
           (related (Bye ∷ []) refl refl refl (tt, tt) (tt, tt) refl (λ x. refl) (λ fence p. ((λ h. absurd (true≢false (sym h))), tt)) (bye-behind j.back (rel.farewell.bye on)) (λ h. absurd (both_ways w.host.guest.first f h)))
           (λ i. record (view w j) {
             ran = cond w.gate.imported (map ran_of (sym (runs_in-append j.back (Bye ∷ []) ∙ append-nil (runs_in j.back)) i)) [];
-            way = λ ep. sym (ways (Bye ∷ []) (λ iso k. refl) (stream_of w.gate.streams ep) ep) i;
+            way = λ ep. sym (ways (Bye ∷ []) (λ kind k. refl) (stream_of w.gate.streams ep) ep) i;
           })
 
 -- it may be gone already

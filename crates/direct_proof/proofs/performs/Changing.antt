@@ -23,7 +23,6 @@ use Rattle.redir_host.specs.device.Performing.{performs_any, does, with_id}
 use Rattle.redir_host.proofs.lemmas.state.Each.{each_front, each_behind}
 use Rattle.gate_history.specs.declared.verdict.Verdict.{Verdict}
 use Rattle.gate_history.specs.declared.verdict.Verdict.TheVariants.{Now, Wire, Routed, IsoOut, Stream}
-use Rattle.usb_base.specs.Endpoint.{is_iso}
 use Rattle.gate_history.specs.client.Verdict.{changes}
 use Rattle.gate_history.specs.state.Ups.{stream_of, Up}
 use Rattle.gate_history.specs.state.Facts.{tell}
@@ -270,7 +269,7 @@ module _ {S : Type 0} (m : Meaning S) (laws : IsGadget m) (w : World S) (j : Sha
 
       ways : (up : Option Up) (k : ℕ) → way_of up k (j.back ++ cs) ≡ way_of up k j.back
       ways None k = refl
-      ways (Some up) k = packets_in-append (is_iso up.row.kind) k j.back cs ∙ ap (λ l. packets_in (is_iso up.row.kind) k j.back ++ l) (packets-flushed (is_iso up.row.kind) k gone (ToldTable (m.table done.0) ∷ ToldFaces (m.interfaces done.0) ∷ Answered c ∷ [])) ∙ append-nil (packets_in (is_iso up.row.kind) k j.back)
+      ways (Some up) k = packets_in-append up.row.kind k j.back cs ∙ ap (λ l. packets_in up.row.kind k j.back ++ l) (packets-flushed up.row.kind k gone (ToldTable (m.table done.0) ∷ ToldFaces (m.interfaces done.0) ∷ Answered c ∷ [])) ∙ append-nil (packets_in up.row.kind k j.back)
 
   pub keep-changed : Keeps m w j (move m w (Performs ep))
   keep-changed = keeps-deed m w j (sent_shared j left cs) (move m w (Performs ep)) (Perform (queue_byte ep) (number e.load)) (record {

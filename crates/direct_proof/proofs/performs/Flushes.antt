@@ -4,6 +4,7 @@ use Rattle.std.specs.List.{AllByRecursion as Each}
 use Rattle.usb_base.specs.declared.endpoint.EpTable.{EpTable}
 use Rattle.usb_base.specs.Endpoint.{row_of}
 use Rattle.usb_base.specs.declared.status.UsbStatus.TheVariants.{Cancelled}
+use Rattle.usb_base.specs.declared.endpoint.EpKind.{EpKind}
 use Rattle.redir_wire.specs.declared.packet.RedirControl.TheVariants as plain
 use Rattle.redir_data.specs.declared.packet.RedirPacket.{RedirPacket}
 use Rattle.redir_data.specs.declared.packet.RedirPacket.TheVariants.{Plain}
@@ -125,9 +126,9 @@ pub runs-flushed : (es : List Entry) (bs : List Tagged) → runs_in (map flushed
 runs-flushed [] bs = refl
 runs-flushed (e ∷ es) bs = ap (λ (l : List Coming). flushed_of e ∷ l) (runs-flushed es bs)
 
-pub packets-flushed : (iso : Bool) (ep : ℕ) (es : List Entry) (bs : List Tagged) → packets_in iso ep (map flushed_tag es ++ bs) ≡ packets_in iso ep bs
-packets-flushed iso ep [] bs = refl
-packets-flushed iso ep (e ∷ es) bs = packets-flushed iso ep es bs
+pub packets-flushed : (kind : EpKind) (ep : ℕ) (es : List Entry) (bs : List Tagged) → packets_in kind ep (map flushed_tag es ++ bs) ≡ packets_in kind ep bs
+packets-flushed kind ep [] bs = refl
+packets-flushed kind ep (e ∷ es) bs = packets-flushed kind ep es bs
 
 pub clean-flushed : (fence : Option ℕ) (down : ℕ → Bool) (p : Bool) (es : List Entry) (bs : List Tagged) → Clean fence down p bs → Clean fence down p (map flushed_tag es ++ bs)
 clean-flushed fence down p [] bs h = h

@@ -20,6 +20,7 @@ use Rattle.redir_data.specs.declared.packet.RedirData.{RedirData}
 use Rattle.redir_data.specs.declared.packet.RedirData.TheVariants as moving
 use Rattle.redir_data.specs.declared.packet.RedirPacket.{RedirPacket}
 use Rattle.redir_data.specs.declared.packet.RedirPacket.TheVariants.{Plain, Carrying}
+use Rattle.redir_data.specs.declared.stream_kind.StreamKind.{StreamKind}
 use Rattle.gate_history.specs.write.Answers.{ret_unlink}
 use Rattle.gate_history.specs.declared.item.Item.{Item}
 use Rattle.gate_history.specs.declared.item.Item.TheVariants.{Asked, ClientWrong, ClientLeft, Told, HostWrong, HostLeft}
@@ -71,9 +72,9 @@ response-says : (st : State) (place : ℕ) (h : Header) (response : Option Respo
 response-says st place h None = silent st (by_response st place h None) refl refl refl refl
 response-says st place h (Some response) = answer-says st place h response _
 
-arrival-says : (st : State) (ep : ℕ) (iso : Bool) (packet : StreamPacket) (o : Option Up) → Replying st (arrives st ep iso packet o)
-arrival-says st ep iso packet None = silent st (arrives st ep iso packet None) refl refl refl refl
-arrival-says st ep iso packet (Some up) = silent st (arrives st ep iso packet (Some up)) refl refl refl refl
+arrival-says : (st : State) (ep : ℕ) (kind : StreamKind) (packet : StreamPacket) (o : Option Up) → Replying st (arrives st ep kind packet o)
+arrival-says st ep kind packet None = silent st (arrives st ep kind packet None) refl refl refl refl
+arrival-says st ep kind packet (Some up) = silent st (arrives st ep kind packet (Some up)) refl refl refl refl
 
 data-says : (st : State) (place : ℕ) (h : Header) (d : RedirData) → Replying st (told_meaning st place h (Carrying d))
 data-says st place h (moving.Interrupt endpoint status length body) =

@@ -7,6 +7,7 @@ use Rattle.unlink_race.specs.Searches.{waits_for}
 use Rattle.gate_history.specs.declared.note.Note.{Note}
 use Rattle.gate_core.specs.declared.state.kept.Kept.{Kept}
 use Rattle.usb_base.specs.Number.{capped}
+use Rattle.redir_data.specs.declared.stream_kind.StreamKind.{StreamKind}
 use Rattle.gate_history.specs.state.Ups.{Up}
 use Rattle.gate_history.specs.step.Meaning.{is_held}
 use Rattle.gate_history.specs.declared.request.Request.{Request}
@@ -29,11 +30,11 @@ pub record HasEnded (ep : ℕ) (up up_new : Up) (old new : Kept) : Type 0 where
 abbrev pub with_packet : StreamPacket → Up → Up
 with_packet packet up = record up { held = up.held ++ packet ∷ [] }
 
-abbrev pub received_bytes : ℕ → Bool → StreamPacket → Up → List Live → List ℕ
-received_bytes ep iso packet up rows = if is_held iso up then up_bytes ep (with_packet packet up) rows else []
+abbrev pub received_bytes : ℕ → StreamKind → StreamPacket → Up → List Live → List ℕ
+received_bytes ep kind packet up rows = if is_held kind up then up_bytes ep (with_packet packet up) rows else []
 
-abbrev pub received_notes : ℕ → Bool → StreamPacket → Up → List Live → List Note
-received_notes ep iso packet up rows = if is_held iso up then filled_notes (up_fill ep (with_packet packet up) rows) else []
+abbrev pub received_notes : ℕ → StreamKind → StreamPacket → Up → List Live → List Note
+received_notes ep kind packet up rows = if is_held kind up then filled_notes (up_fill ep (with_packet packet up) rows) else []
 
 -- nothing has changed
 pub record Stays (up up_new : Up) (old new : Kept) : Type 0 where
@@ -45,8 +46,8 @@ HasReceivedIf ep true packet up up_new old new = HasEnded ep (with_packet packet
 HasReceivedIf ep false packet up up_new old new = Stays up up_new old new
 
 -- it is held and may fill requests, or is lost
-abbrev pub HasReceived : ℕ → Bool → StreamPacket → (up up_new : Up) → (old new : Kept) → Type 0
-HasReceived ep iso packet up up_new old new = HasReceivedIf ep (is_held iso up) packet up up_new old new
+abbrev pub HasReceived : ℕ → StreamKind → StreamPacket → (up up_new : Up) → (old new : Kept) → Type 0
+HasReceived ep kind packet up up_new old new = HasReceivedIf ep (is_held kind up) packet up up_new old new
 
 -- ---- of a request that waits for a stream that is up
 

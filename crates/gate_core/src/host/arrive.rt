@@ -14,7 +14,8 @@ ghost use Rattle.gate_parts.specs.write.Outputs.{with_answers, HasSome};
 
 use crate::state::kept::Kept;
 use gate_history::Note;
-use gate_parts::{Outputs, StreamIn, finish_fronts, is_iso, write_fillings};
+use gate_parts::{Outputs, StreamIn, finish_fronts, write_fillings};
+use redir_data::StreamKind;
 use stream_buffers::Up;
 use usb_base::{EpAddr, Memory, StreamPacket};
 
@@ -29,9 +30,9 @@ impl Kept {
         requires kept { IsKept self.old }
         ensures kept { IsKept self.new }
         ensures ok { (st : State) → Holds self.old st → IsSound st
-            → OnOk result (Does st (mark_as st (arrives st stream.endpoint stream.is_iso packet (stream_of st.streams stream.endpoint)) None) self.old self.new out.old out.new) }
+            → OnOk result (Does st (mark_as st (arrives st stream.endpoint stream.kind packet (stream_of st.streams stream.endpoint)) None) self.old self.new out.old out.new) }
         ensures err { OnErr result (StopsShort self.old self.new out.old out.new) }
-        ensures wants { (st : State) → Holds self.old st → OnErr result (GivesSome st (mark_as st (arrives st stream.endpoint stream.is_iso packet (stream_of st.streams stream.endpoint)) None)) }
+        ensures wants { (st : State) → Holds self.old st → OnErr result (GivesSome st (mark_as st (arrives st stream.endpoint stream.kind packet (stream_of st.streams stream.endpoint)) None)) }
     {
         let Some(ep) = EpAddr::new(stream.endpoint) else {
             return Ok(());
@@ -39,30 +40,30 @@ impl Kept {
         let Some(mut up) = self.streams.take(ep) else {
             return Ok(());
         };
-        let received = self.receive(ep, &mut up, stream.is_iso, packet, out);
+        let received = self.receive(ep, &mut up, stream.kind, packet, out);
         self.streams.put(ep, up);
         received
     }
 
-    /// A packet of a stream came. It is held where it is of the stream's type and there is room; any other is lost.
+    /// A packet of a stream came. It is held where it is of the stream's kind and there is room; any other is lost.
     fn receive(
         &mut self,
         ep: EpAddr,
         up: &mut Up,
-        iso: bool,
+        kind: StreamKind,
         packet: StreamPacket,
         out: &mut Outputs,
     ) -> Result<(), Memory>
         requires kept { IsKept self.old }
         ensures kept { IsKept self.new }
-        ensures received { OnOk result (HasReceived ep iso packet up.old up.new self.old self.new) }
-        ensures sent { OnOk result (out.new ≡ with_answers out.old (received_bytes ep iso packet up.old self.old.lives.live) (Arrived ep ∷ received_notes ep iso packet up.old self.old.lives.live)) }
+        ensures received { OnOk result (HasReceived ep kind packet up.old up.new self.old self.new) }
+        ensures sent { OnOk result (out.new ≡ with_answers out.old (received_bytes ep kind packet up.old self.old.lives.live) (Arrived ep ∷ received_notes ep kind packet up.old self.old.lives.live)) }
         ensures same { OnErr result (self.new ≡ self.old) }
         ensures same_up { OnErr result (up.new ≡ up.old) }
         ensures err { OnErr result (HasSome out.old out.new) }
     {
         out.notes.push(Note::Arrived { ep })?;
-        if is_iso(up) != iso || !up.receive(packet)? {
+        if !kind.is_kind_of(up.row().kind) || !up.receive(packet)? {
             return Ok(());
         }
         match self.fill(ep, up, out) {

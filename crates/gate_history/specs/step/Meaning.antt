@@ -1,6 +1,5 @@
 -- What an item means, by what the past says: its effect, the fact that it tells, and the ids of its packets.
-use Rattle.std.specs.Bool.{beq}
-use Rattle.std.specs.Prelude.{ℕ, ◌+◌, ◌==◌, ◌&&◌, not, Bool, true, false, if◌then◌else◌, List, [], ◌∷◌, ◌++◌, length, map, filter, Option, Some, None, is_none}
+use Rattle.std.specs.Prelude.{ℕ, ◌+◌, ◌==◌, ◌&&◌, not, Bool, if◌then◌else◌, List, [], ◌∷◌, ◌++◌, length, map, filter, Option, Some, None, is_none}
 use Rattle.std.specs.List.{find}
 use Rattle.std.specs.Option.{option_map_or}
 use Rattle.usb_base.specs.declared.side.Side.{Side}
@@ -10,7 +9,7 @@ use Rattle.usb_base.specs.declared.reason.Reason.TheVariants.{NotImported, Alrea
 use Rattle.usb_base.specs.declared.refusal.Refusal.{Refusal}
 use Rattle.usb_base.specs.declared.transfer.Outcome.{Outcome}
 use Rattle.usb_base.specs.declared.transfer.StreamPacket.{StreamPacket}
-use Rattle.usb_base.specs.Endpoint.{row_of, is_in_endpoint, is_iso}
+use Rattle.usb_base.specs.Endpoint.{row_of, is_in_endpoint}
 use Rattle.stream_buffers.specs.Held.{is_full}
 use Rattle.usb_base.specs.Status.{status_of}
 use Rattle.usbip_op.specs.declared.packet.OpPacket.TheVariants as op
@@ -23,6 +22,9 @@ use Rattle.redir_wire.specs.Header.{head_size}
 use Rattle.redir_data.specs.declared.packet.RedirData.TheVariants as data_packet
 use Rattle.redir_data.specs.declared.packet.RedirPacket.{RedirPacket}
 use Rattle.redir_data.specs.declared.packet.RedirPacket.TheVariants.{Plain, Carrying}
+use Rattle.redir_data.specs.declared.stream_kind.StreamKind.{StreamKind}
+use Rattle.redir_data.specs.declared.stream_kind.StreamKind.TheVariants.{Iso, Interrupt}
+use Rattle.redir_data.specs.StreamKinds.{is_kind_of}
 use Rattle.usbip_urb.specs.declared.client.ClientPacket.{ClientPacket}
 use Rattle.usbip_urb.specs.declared.client.ClientPacket.TheVariants.{Op, Urb}
 use Rattle.gate_history.specs.declared.item.Item.{Item}
@@ -122,16 +124,16 @@ answer_to st place h response asked =
 abbrev pub by_response : State → ℕ → Header → Option Response → Effect
 by_response st place h response = option_map_or (λ r. answer_to st place h r (find (has_id h.id) (submits st ++ st.abandoned))) response Idle
 
--- a packet of a stream is held where the stream is of its type and has room; any other is lost
-abbrev pub is_held : Bool → Up → Bool
-is_held iso up = beq iso (is_iso up.row.kind) && not (is_full up.held)
+-- a packet of a stream is held where the stream is of its kind and has room; any other is lost
+abbrev pub is_held : StreamKind → Up → Bool
+is_held kind up = is_kind_of kind up.row.kind && not (is_full up.held)
 
-abbrev pub arrives : State → ℕ → Bool → StreamPacket → Option Up → Effect
-arrives st ep iso packet stream =
-    option_map_or (λ up. Arrives ep (if is_held iso up then fill up.row.max_packet (waiting st ep) (up.held ++ packet ∷ []) else none_filled up.held)) stream Idle
+abbrev pub arrives : State → ℕ → StreamKind → StreamPacket → Option Up → Effect
+arrives st ep kind packet stream =
+    option_map_or (λ up. Arrives ep (if is_held kind up then fill up.row.max_packet (waiting st ep) (up.held ++ packet ∷ []) else none_filled up.held)) stream Idle
 
-abbrev pub by_arrival : State → ℕ → Bool → ℕ → List ℕ → Effect
-by_arrival st ep iso status body = arrives st ep iso (record { status = status_of status; body = body }) (stream_of st.streams ep)
+abbrev pub by_arrival : State → ℕ → StreamKind → ℕ → List ℕ → Effect
+by_arrival st ep kind status body = arrives st ep kind (record { status = status_of status; body = body }) (stream_of st.streams ep)
 
 -- those of an IN endpoint's stream go by no id
 abbrev pub told_meaning : State → ℕ → Header → RedirPacket → Effect
@@ -140,9 +142,9 @@ told_meaning st place h (Plain plain.Disconnect) = Disconnects h.id
 told_meaning st place h (Plain (plain.IsoStatus status endpoint)) = StreamTold h.id endpoint (status_of status)
 told_meaning st place h (Plain (plain.InterruptStatus status endpoint)) = StreamTold h.id endpoint (status_of status)
 told_meaning st place h (Carrying (data_packet.Interrupt endpoint status length body)) =
-    if is_in_endpoint endpoint then by_arrival st endpoint false status body
+    if is_in_endpoint endpoint then by_arrival st endpoint Interrupt status body
     else by_response st place h (response_of (Carrying (data_packet.Interrupt endpoint status length body)))
-told_meaning st place h (Carrying (data_packet.Iso endpoint status length body)) = if is_in_endpoint endpoint then by_arrival st endpoint true status body else Idle
+told_meaning st place h (Carrying (data_packet.Iso endpoint status length body)) = if is_in_endpoint endpoint then by_arrival st endpoint Iso status body else Idle
 told_meaning st place h p = by_response st place h (response_of p)
 
 abbrev pub meaning : State → Item → Effect

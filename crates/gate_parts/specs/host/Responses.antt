@@ -9,6 +9,7 @@ use Rattle.usbip_urb.specs.declared.client.ClientPacket.{ClientPacket}
 use Rattle.redir_wire.specs.Table.{data_row, plain_row}
 use Rattle.redir_data.specs.declared.packet.RedirData.{RedirData}
 use Rattle.redir_data.specs.declared.packet.RedirData.TheVariants as data_packet
+use Rattle.redir_data.specs.declared.stream_kind.StreamKind.TheVariants.{Iso, Interrupt}
 use Rattle.unlink_race.specs.declared.live.Live.{Live}
 use Rattle.unlink_race.specs.declared.live.LiveKind.{LiveKind}
 use Rattle.unlink_race.specs.declared.live.LiveKind.TheVariants as live_kind
@@ -32,10 +33,10 @@ status_outcome status tells value = got (status_of status) (if tells then value 
 
 -- ---- packets of streams
 
--- the IN endpoint of whose stream a packet is, and whether it is an isochronous one
+-- the IN endpoint of whose stream a packet is, and the kind that it is of
 abbrev pub stream_in : RedirData → Option StreamIn
-stream_in (data_packet.Interrupt endpoint status length body) = if is_in_endpoint endpoint then Some (record { endpoint = endpoint; is_iso = false }) else None
-stream_in (data_packet.Iso endpoint status length body) = if is_in_endpoint endpoint then Some (record { endpoint = endpoint; is_iso = true }) else None
+stream_in (data_packet.Interrupt endpoint status length body) = if is_in_endpoint endpoint then Some (record { endpoint = endpoint; kind = Interrupt }) else None
+stream_in (data_packet.Iso endpoint status length body) = if is_in_endpoint endpoint then Some (record { endpoint = endpoint; kind = Iso }) else None
 stream_in _ = None
 
 abbrev pub packet_in : RedirData → StreamPacket

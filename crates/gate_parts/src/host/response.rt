@@ -12,7 +12,7 @@ ghost use Rattle.redir_wire.specs.Header.{head_size};
 ghost use Rattle.gate_history.specs.state.Flight.{wide_ids};
 
 use control_route::Route;
-use redir_data::RedirData;
+use redir_data::{RedirData, StreamKind};
 use redir_wire::{Caps, DataKind, PlainKind, RedirControl, header_size};
 use std::alloc::Global;
 use unlink_race::{Live, LiveKind};
@@ -250,7 +250,7 @@ fn status_outcome(alloc: Global, status: u8, tells: bool, value: u8) -> Result<O
 pub struct StreamIn {
     /// The byte of an IN endpoint, which may be no address.
     pub endpoint: u8,
-    pub is_iso: bool,
+    pub kind: StreamKind,
 }
 
 /// The IN endpoint of whose stream a packet is, if it is one's.
@@ -260,11 +260,11 @@ pub fn stream_in(packet: &RedirData) -> Option<StreamIn>
     match packet {
         RedirData::Interrupt { endpoint, .. } if *endpoint >= 0x80 => Some(StreamIn {
             endpoint: *endpoint,
-            is_iso: false,
+            kind: StreamKind::Interrupt,
         }),
         RedirData::Iso { endpoint, .. } if *endpoint >= 0x80 => Some(StreamIn {
             endpoint: *endpoint,
-            is_iso: true,
+            kind: StreamKind::Iso,
         }),
         _ => None,
     }

@@ -1,7 +1,7 @@
 //! The streams of endpoints that are up.
 
 ghost use Rattle.std.specs.Prelude.{◌≡◌, [], Some, None, length, option_copied, slice_set};
-ghost use Rattle.usb_base.specs.Endpoint.{endpoint_index, is_iso};
+ghost use Rattle.usb_base.specs.Endpoint.{endpoint_index};
 ghost use Rattle.usb_base.specs.declared.endpoint.TheConstants.{ENDPOINTS};
 ghost use Rattle.gate_history.specs.state.Ups.{no_streams, stream_at, raise, lower, lower_at, unless, is_ended};
 
@@ -10,7 +10,7 @@ use std::alloc::Global;
 use std::array::from_fn;
 use std::marker::Model;
 use stream_buffers::Up;
-use usb_base::{ENDPOINTS, EpAddr, EpKind, EpRow};
+use usb_base::{ENDPOINTS, EpAddr, EpRow};
 
 /// The streams that are up, by their endpoints' places in a table; contracts see them as that list.
 #[derive(Drop)]
@@ -124,11 +124,4 @@ pub fn is_ended(up: &Up, by: Option<Route>) -> bool
         Some(route) => touches(&route, up.row().interface),
         None => true,
     }
-}
-
-/// Whether the packets of a stream are isochronous.
-pub fn is_iso(up: &Up) -> bool
-    ensures { result ≡ is_iso up.now.row.kind }
-{
-    up.row().kind == EpKind::Iso
 }

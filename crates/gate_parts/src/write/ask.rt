@@ -16,7 +16,6 @@ ghost use Rattle.gate_parts.specs.state.Rows.{cancel_bytes, is_cancelled_row};
 ghost use Rattle.gate_history.specs.step.Marks.{Disconnects};
 ghost use Rattle.gate_history.specs.write.Output.{acknowledgements};
 
-use crate::state::streams::is_iso;
 use control_route::Route;
 use gate_history::{PACKETS_PER_URB, Pipe, STREAM_URBS};
 use redir_data::RedirData;
@@ -162,7 +161,7 @@ pub fn write_stop(up: &Up, id: u64, caps: Caps, out: &mut Bytes) -> Result<(), M
     ensures err { OnErr result (out.new ≡ out.old) }
 {
     let endpoint = up.ep().byte();
-    if is_iso(up) {
+    if up.row().kind == EpKind::Iso {
         write_control(&RedirControl::StopIso { endpoint }, id, caps, out)
     } else {
         write_control(&RedirControl::StopInterrupt { endpoint }, id, caps, out)

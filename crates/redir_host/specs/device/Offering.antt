@@ -13,8 +13,8 @@ use Rattle.redir_host.specs.declared.state.host.Host.{Host}
 use Rattle.redir_host.specs.declared.write.note.Offered.{Offered}
 use Rattle.redir_host.specs.declared.write.note.Offered.TheVariants.{Sent, Nothing, Closed, Unplugged}
 use Rattle.redir_host.specs.declared.state.running.Running.{Running}
-use Rattle.redir_host.specs.declared.state.running.StreamKind.{StreamKind}
-use Rattle.redir_host.specs.declared.state.running.StreamKind.TheVariants.{Iso, Interrupt}
+use Rattle.redir_data.specs.declared.stream_kind.StreamKind.{StreamKind}
+use Rattle.redir_data.specs.declared.stream_kind.StreamKind.TheVariants.{Iso, Interrupt}
 use Rattle.redir_host.specs.step.Moves.{Move, quiet, replies}
 use Rattle.redir_host.specs.guest.Packets.{runs_at}
 

@@ -1,9 +1,7 @@
 -- What a packet of the guest makes of its host.
-use Rattle.std.specs.Prelude.{ℕ, ◌%◌, ◌==◌, ◌&&◌, ◌||◌, not, nat_lt, Bool, true, false, if◌then◌else◌, List, [], ◌∷◌, ◌++◌, filter, Option, Some, None}
+use Rattle.std.specs.Prelude.{ℕ, ◌%◌, ◌==◌, ◌&&◌, ◌||◌, not, nat_lt, Bool, true, if◌then◌else◌, List, [], ◌∷◌, ◌++◌, filter, Option, Some, None}
 use Rattle.std.specs.List.{find}
 use Rattle.usb_base.specs.Endpoint.{is_in_endpoint, row_of}
-use Rattle.usb_base.specs.declared.endpoint.EpKind.{EpKind}
-use Rattle.usb_base.specs.declared.endpoint.EpKind.TheVariants as kind
 use Rattle.usb_base.specs.declared.endpoint.EpTable.{EpTable}
 use Rattle.usb_base.specs.declared.status.UsbStatus.{UsbStatus}
 use Rattle.usb_base.specs.declared.status.UsbStatus.TheVariants.{Success, Inval}
@@ -25,8 +23,9 @@ use Rattle.redir_host.specs.declared.state.request.Form.{Form}
 use Rattle.redir_host.specs.declared.state.request.Form.TheVariants as form
 use Rattle.redir_host.specs.declared.state.request.Request.{Request}
 use Rattle.redir_host.specs.declared.state.running.Running.{Running}
-use Rattle.redir_host.specs.declared.state.running.StreamKind.{StreamKind}
-use Rattle.redir_host.specs.declared.state.running.StreamKind.TheVariants.{Iso, Interrupt}
+use Rattle.redir_data.specs.declared.stream_kind.StreamKind.{StreamKind}
+use Rattle.redir_data.specs.declared.stream_kind.StreamKind.TheVariants.{Iso, Interrupt}
+use Rattle.redir_data.specs.StreamKinds.{is_kind_of}
 use Rattle.redir_host.specs.state.Queues.{is_cancelled_by, after_cancel, leaves_mark}
 use Rattle.redir_host.specs.device.Facts.{connect_of, facts_of}
 use Rattle.redir_host.specs.guest.Asking.{asking_of, routed}
@@ -61,12 +60,7 @@ cancel_move {S = S} h id (Some q) =
 
 -- ---- streams
 
-abbrev pub is_kind_of : StreamKind → EpKind → Bool
-is_kind_of Iso kind.Iso = true
-is_kind_of Interrupt kind.Interrupt = true
-is_kind_of _ _ = false
-
--- an IN endpoint of the stream's type
+-- an IN endpoint of the stream's kind
 abbrev pub can_start : EpTable → StreamKind → ℕ → Bool
 can_start table k ep = nat_lt (ep % 128) 16 && (is_in_endpoint ep && is_kind_of k (row_of table ep).kind)
 

@@ -8,11 +8,10 @@ ghost use Rattle.redir_host.specs.state.Sound.{IsSound};
 ghost use Rattle.redir_host.specs.step.Wants.{GivesSome};
 
 use crate::state::host::Host;
-use crate::state::running::StreamKind;
 use crate::write::note::Offered;
 use crate::write::packet::write;
 use model_device::Gadget;
-use redir_data::{RedirData, RedirPacket};
+use redir_data::{RedirData, RedirPacket, StreamKind};
 use redir_wire::RedirControl;
 use std::alloc::Global;
 use usb_base::{Bytes, EpAddr, Memory, StreamPacket};

@@ -9,7 +9,7 @@ ghost use Rattle.redir_wire.specs.Header.{IdFits, is_wide};
 ghost use Rattle.redir_host.specs.guest.Asking.{asking_of};
 ghost use Rattle.redir_host.specs.step.Machine.{bytes_of};
 ghost use Rattle.redir_host.specs.step.Makes.{IdFitsOf, IsTaken, Makes, Takes};
-ghost use Rattle.redir_host.specs.guest.Packets.{can_start, cancel_move, data_move, greets, is_kind_of, packet_move, packet_move_by, queued, start_move, status_of, stop_move};
+ghost use Rattle.redir_host.specs.guest.Packets.{can_start, cancel_move, data_move, greets, packet_move, packet_move_by, queued, start_move, status_of, stop_move};
 ghost use Rattle.redir_host.specs.state.Queues.{is_cancelled_by};
 ghost use Rattle.redir_host.specs.write.Readable.{GreetsInRange, InRange, TakesInRange};
 ghost use Rattle.redir_host.specs.state.Sound.{IsSound};
@@ -21,15 +21,14 @@ use crate::guest::asking::asking_of;
 use crate::guest::routed::{get_alt, get_configuration, set_alt, set_configuration};
 use crate::state::host::Host;
 use crate::state::request::{Asking, Form, Request};
-use crate::state::running::StreamKind;
 use crate::write::answer::{write_cancelled, write_ended};
 use crate::write::note::{HostNote, HostNotes};
 use crate::write::packet::write;
 use model_device::Gadget;
-use redir_data::{RedirData, RedirPacket};
+use redir_data::{RedirData, RedirPacket, StreamKind};
 use redir_wire::{Header, RedirControl};
 use std::alloc::Global;
-use usb_base::{Bytes, EpAddr, EpKind, EpTable, Memory, Transfer, UsbStatus};
+use usb_base::{Bytes, EpAddr, EpTable, Memory, Transfer, UsbStatus};
 
 impl<G: Gadget> Host<G> {
     /// Takes a packet of the guest. An unplugged host reads on, but does nothing. For want of memory `out` stands.
@@ -228,18 +227,9 @@ fn stream_endpoint(table: &EpTable, kind: StreamKind, endpoint: u8) -> Option<Ep
     ensures { result ≡ (if can_start table.now kind endpoint then Some endpoint else None) }
 {
     match EpAddr::new(endpoint) {
-        Some(ep) if ep.is_in() && is_kind_of(kind, table.row(ep).kind) => Some(ep),
+        Some(ep) if ep.is_in() && kind.is_kind_of(table.row(ep).kind) => Some(ep),
         _ => None,
     }
-}
-
-fn is_kind_of(stream: StreamKind, kind: EpKind) -> bool
-    ensures { result ≡ is_kind_of stream kind }
-{
-    matches!(
-        (stream, kind),
-        (StreamKind::Iso, EpKind::Iso) | (StreamKind::Interrupt, EpKind::Interrupt)
-    )
 }
 
 /// How a stream's start or stop went.

@@ -7,16 +7,10 @@ ghost use Rattle.redir_host.specs.device.Changes.{runs_on};
 
 use crate::device::change::is_touched;
 use control_route::Route;
+use redir_data::StreamKind;
 use std::alloc::Global;
 use std::marker::Model;
 use usb_base::{EpAddr, EpTable, Memory};
-
-/// What a stream was started as. Its packets are of this type until it is stopped, whatever its endpoint is then.
-#[derive(Clone, Copy)]
-pub enum StreamKind {
-    Iso,
-    Interrupt,
-}
 
 /// A stream that runs: packets of this IN endpoint go to the guest as the device has them.
 #[derive(Clone, Copy)]

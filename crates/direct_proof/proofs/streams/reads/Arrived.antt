@@ -3,19 +3,19 @@ use Rattle.std.proofs.Common.{◌≡◌, ℕ, suc, ◌⊎◌, inl, inr, Bool, tr
 use Rattle.usb_base.specs.declared.transfer.StreamPacket.{StreamPacket}
 use Rattle.stream_buffers.specs.Held.{is_full}
 use Rattle.usbip_urb.specs.declared.client.ClientPacket.TheVariants.{Urb}
-use Rattle.redir_host.specs.declared.state.running.StreamKind.{StreamKind}
+use Rattle.redir_data.specs.declared.stream_kind.StreamKind.{StreamKind}
+use Rattle.redir_data.specs.StreamKinds.{is_kind_of}
 use Rattle.model_device.specs.Meaning.{Meaning}
 use Rattle.gate_history.specs.host.Fillings.{Fill}
 use Rattle.gate_history.specs.state.Sound.{IsSound}
 use Rattle.gate_history.specs.step.Meaning.{mark_as, arrives}
-use Rattle.usb_base.specs.Endpoint.{is_iso}
 use Rattle.gate_history.specs.state.Ups.{Up, stream_of, hold}
 use Rattle.direct_device.specs.Direct.{Direct}
 use Rattle.direct_device.specs.Acting.{Answer, Arrive, received, arrived_by}
 use Rattle.direct_device.specs.Legal.{CanArrive}
 use Rattle.direct_run.specs.Moves.{World, GateReads}
 use Rattle.direct_proof.specs.Moves.{move, quiet, gate_reads, gate_made}
-use Rattle.direct_proof.specs.Tagged.{Tagged, Packed, on_wire, packets_in, is_kind}
+use Rattle.direct_proof.specs.Tagged.{Tagged, Packed, on_wire, packets_in}
 use Rattle.direct_proof.specs.Shared.{Shared, way_of, view}
 use Rattle.direct_proof.specs.Requests.{live_of}
 use Rattle.direct_proof.specs.Related.{Related}
@@ -30,7 +30,7 @@ use Rattle.direct_proof.proofs.streams.fills.Filling.{Holds, holds-again, hold-t
 use Rattle.direct_proof.proofs.streams.reads.Reading.{read_world, read-here, read-related, packet-of}
 use Rattle.direct_proof.proofs.streams.reads.Quiet.{idle-made}
 use Rattle.direct_proof.proofs.streams.reads.Stating.{each-refl}
-use Rattle.direct_proof.proofs.streams.reads.Arriving.{arrival-means, arrives-as, filling_of, kind_iso, stay_by, told_by_fills, sent_by_fills, arrived_world, arrives-made, debts-stay}
+use Rattle.direct_proof.proofs.streams.reads.Arriving.{arrival-means, arrives-as, filling_of, stay_by, told_by_fills, sent_by_fills, arrived_world, arrives-made, debts-stay}
 use Rattle.direct_proof.proofs.streams.fills.FillsDone.{DoesFill, does-fill, does-none, holds-at, differ-of}
 use Rattle.direct_proof.proofs.meeting.First.{all-down}
 use Rattle.direct_proof.proofs.streams.reads.Ways.{way-lost, way-first, way-taken, way-rows}
@@ -50,7 +50,7 @@ module _ {S : Type 0} (m : Meaning S) (w : World S) (j : Shared) (place : ℕ) (
   abbrev left : World S
   left = record w { to_gate = map on_wire bs }
 
-  came : move m w (GateReads place) ≡ gate_made left (mark_as w.gate (arrives w.gate ep (kind_iso k) p (stream_of w.gate.streams ep)) None)
+  came : move m w (GateReads place) ≡ gate_made left (mark_as w.gate (arrives w.gate ep k p (stream_of w.gate.streams ep)) None)
   came =
       ap (gate_reads w place) rel.answers
       ∙ (λ i. cond (rel.sides.reads i) (quiet left) (gate_made left (arrival-means w.gate place k ep p is-in.low rel.tagged.0.2 i)))
@@ -60,7 +60,7 @@ module _ {S : Type 0} (m : Meaning S) (w : World S) (j : Shared) (place : ℕ) (
 
   lost-packet : stream_of w.gate.streams ep ≡ None → Keeps m w before (move m w (GateReads place))
   lost-packet down = keeps-quiet m w before later (move m w (GateReads place)) (read_world w bs (suc w.gate.items) w.gate.live w.gate.streams w.gate.fence)
-      (came ∙ ap (λ (o : Option Up). gate_made left (mark_as w.gate (arrives w.gate ep (kind_iso k) p o) None)) down ∙ idle-made left)
+      (came ∙ ap (λ (o : Option Up). gate_made left (mark_as w.gate (arrives w.gate ep k p o) None)) down ∙ idle-made left)
       (read-related m w j (Packed k ep p) bs rel (suc w.gate.items) w.gate.live w.gate.streams w.gate.fence (record {
         packet = packet-of k ep p;
         rows = rows-refl w.gate.streams;
@@ -75,7 +75,7 @@ module _ {S : Type 0} (m : Meaning S) (w : World S) (j : Shared) (place : ℕ) (
       (λ i. record (view w later) { way = λ e. way-lost w.gate.streams ep k p bs down e i })
 
   module _ (up : Up) (here : stream_of w.gate.streams ep ≡ Some up) where
-    kind : is_kind k (is_iso up.row.kind) ≡ true
+    kind : is_kind_of k up.row.kind ≡ true
     kind = subst (λ (o : Option Up). OfKind o k) here rel.tagged.0.3
 
     abbrev d : Direct S
@@ -84,7 +84,7 @@ module _ {S : Type 0} (m : Meaning S) (w : World S) (j : Shared) (place : ℕ) (
     abbrev taken : Direct S
     taken = record d { streams = hold ep (received up p) w.gate.streams; way = λ e. way_of (stream_of w.gate.streams e) e bs }
 
-    on-way : d.way ep ≡ p ∷ packets_in (is_iso up.row.kind) ep bs
+    on-way : d.way ep ≡ p ∷ packets_in up.row.kind ep bs
     on-way = ap (λ (o : Option Up). way_of o ep (Packed k ep p ∷ bs)) here ∙ way-first ep k p bs up kind
 
     arrive-does : Does m d (Arrive ep ∷ []) taken []
@@ -127,7 +127,7 @@ module _ {S : Type 0} (m : Meaning S) (w : World S) (j : Shared) (place : ℕ) (
 
     held-packet : Keeps m w before (move m w (GateReads place))
     held-packet = keeps-made m w before later (move m w (GateReads place)) new (map Urb (sent_by_fills ep f.fillings w.gate.live)) (Arrive ep ∷ map Answer (told_by_fills ep f.fillings w.gate.live))
-        (came ∙ ap (λ (o : Option Up). gate_made left (mark_as w.gate (arrives w.gate ep (kind_iso k) p o) None)) here ∙ ap (λ e. gate_made left (mark_as w.gate e None)) (arrives-as w.gate k ep p up kind) ∙ arrives-made left ep f)
+        (came ∙ ap (λ (o : Option Up). gate_made left (mark_as w.gate (arrives w.gate ep k p o) None)) here ∙ ap (λ e. gate_made left (mark_as w.gate e None)) (arrives-as w.gate k ep p up kind) ∙ arrives-made left ep f)
         (read-related m w j (Packed k ep p) bs rel (suc w.gate.items) (stay_by ep f.fillings w.gate.live) (hold ep f.left w.gate.streams) w.gate.fence (record {
           packet = packet-of k ep p;
           rows = hold-rows ep f.left w.gate.streams is-in rel.ups.count_is;

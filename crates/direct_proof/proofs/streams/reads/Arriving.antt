@@ -1,17 +1,16 @@
 -- The gateway reads a packet of a stream: it is held, or lost, and what is held fills those that wait.
-use Rattle.std.specs.Bool.{beq}
 use Rattle.std.proofs.Common.{◌≡◌, ℕ, suc, ◌≤◌, ◌==◌, ◌&&◌, not, nat_lt, Bool, true, false, cond, List, [], ◌∷◌, ◌++◌, map, filter, Option, Some, None, is_none, refl, sym, ap, ◌∙◌, arith, append-nil}
 use Rattle.std.specs.Option.{option_map}
 use Rattle.std.specs.List.{flat_map}
-use Rattle.usb_base.specs.Endpoint.{is_in_endpoint, is_iso}
+use Rattle.usb_base.specs.Endpoint.{is_in_endpoint}
 use Rattle.usb_base.specs.declared.status.UsbStatus.{UsbStatus}
 use Rattle.usb_base.specs.declared.transfer.StreamPacket.{StreamPacket}
 use Rattle.stream_buffers.specs.Held.{is_full}
 use Rattle.usbip_urb.specs.declared.client.ClientPacket.TheVariants.{Urb}
 use Rattle.usbip_urb.specs.declared.packet.UrbPacket.{UrbPacket}
 use Rattle.redir_data.specs.declared.packet.RedirPacket.{RedirPacket}
-use Rattle.redir_host.specs.declared.state.running.StreamKind.{StreamKind}
-use Rattle.redir_host.specs.declared.state.running.StreamKind.TheVariants.{Iso, Interrupt}
+use Rattle.redir_data.specs.declared.stream_kind.StreamKind.{StreamKind}
+use Rattle.redir_data.specs.declared.stream_kind.StreamKind.TheVariants.{Iso, Interrupt}
 use Rattle.gate_history.specs.declared.request.Request.{Request}
 use Rattle.gate_history.specs.declared.item.Item.TheVariants.{Told}
 use Rattle.gate_history.specs.host.Fillings.{Fill, Filling, fill, none_filled, given_to}
@@ -36,16 +35,13 @@ use Rattle.direct_device.specs.Acting.{Deed, Answer, Arrive}
 use Rattle.direct_run.specs.Moves.{World}
 use Rattle.direct_proof.specs.Moves.{gate_made}
 use Rattle.redir_data.specs.Sent.{sent_header}
+use Rattle.redir_data.specs.StreamKinds.{is_kind_of}
 use Rattle.direct_proof.specs.Requests.{Debt, load_of, debts_of}
-use Rattle.direct_proof.specs.Tagged.{Packed, on_wire, is_kind}
+use Rattle.direct_proof.specs.Tagged.{Packed, on_wire}
 use Rattle.model_device.specs.Gadget.{IsNamed}
 use Rattle.direct_proof.proofs.streams.fills.Fills.{ends_by, asking_at}
 
 -- ---- what it means
-
-abbrev pub kind_iso : StreamKind → Bool
-kind_iso Iso = true
-kind_iso Interrupt = false
 
 in-byte : (n : ℕ) → 128 ≤ n → is_in_endpoint n ≡ true
 in-byte n h = ap not (high n h)
@@ -59,13 +55,13 @@ in-front b x y h = ap (λ (c : Bool). cond c x y) h
 abbrev pub arrival : State → ℕ → StreamKind → ℕ → StreamPacket → Mark
 arrival st place k ep p = mark_as st (meaning st (Told place (sent_header st.agreed (on_wire (Packed k ep p))) (on_wire (Packed k ep p)).1)) (fact_of (on_wire (Packed k ep p)).1)
 
-pub arrival-means : (st : State) (place : ℕ) (k : StreamKind) (ep : ℕ) (p : StreamPacket) → 128 ≤ ep → IsNamed p.status → arrival st place k ep p ≡ mark_as st (arrives st ep (kind_iso k) p (stream_of st.streams ep)) None
+pub arrival-means : (st : State) (place : ℕ) (k : StreamKind) (ep : ℕ) (p : StreamPacket) → 128 ≤ ep → IsNamed p.status → arrival st place k ep p ≡ mark_as st (arrives st ep k p (stream_of st.streams ep)) None
 arrival-means st place Iso ep p h n =
     ap (λ (e : Effect). mark_as st e None) (in-front (is_in_endpoint ep) _ _ (in-byte ep h))
-    ∙ ap (λ (x : UsbStatus). mark_as st (arrives st ep true (record { status = x; body = p.body }) (stream_of st.streams ep)) None) n
+    ∙ ap (λ (x : UsbStatus). mark_as st (arrives st ep Iso (record { status = x; body = p.body }) (stream_of st.streams ep)) None) n
 arrival-means st place Interrupt ep p h n =
     ap (λ (e : Effect). mark_as st e None) (in-front (is_in_endpoint ep) _ _ (in-byte ep h))
-    ∙ ap (λ (x : UsbStatus). mark_as st (arrives st ep false (record { status = x; body = p.body }) (stream_of st.streams ep)) None) n
+    ∙ ap (λ (x : UsbStatus). mark_as st (arrives st ep Interrupt (record { status = x; body = p.body }) (stream_of st.streams ep)) None) n
 
 -- what it fills
 abbrev pub filling_of : State → ℕ → StreamPacket → Up → Bool → Fill
@@ -77,21 +73,11 @@ waiting-are st ep =
     ap (map (λ (s : Submission). s.request)) (filter-map (waits_at ep) (λ (p : Pending). p.submit) st.live)
     ∙ map-map (λ (s : Submission). s.request) (λ (p : Pending). p.submit) (filter (λ (p : Pending). waits_at ep p.submit) st.live)
 
-pub arrives-as : (st : State) (k : StreamKind) (ep : ℕ) (p : StreamPacket) (up : Up) → is_kind k (is_iso up.row.kind) ≡ true → arrives st ep (kind_iso k) p (Some up) ≡ Arrives ep (filling_of st ep p up (is_full up.held))
-arrives-as st k ep p up kind = held k kind ∙ by (is_full up.held)
+pub arrives-as : (st : State) (k : StreamKind) (ep : ℕ) (p : StreamPacket) (up : Up) → is_kind_of k up.row.kind ≡ true → arrives st ep k p (Some up) ≡ Arrives ep (filling_of st ep p up (is_full up.held))
+arrives-as st k ep p up kind =
+    ap (λ (b : Bool). Arrives ep (cond (b && not (is_full up.held)) (fill up.row.max_packet (waiting st ep) (up.held ++ p ∷ [])) (none_filled up.held))) kind
+    ∙ by (is_full up.held)
   where
-    full : Bool → Effect
-    full b = Arrives ep (cond (not b) (fill up.row.max_packet (waiting st ep) (up.held ++ p ∷ [])) (none_filled up.held))
-
-    alike : (k : StreamKind) (b : Bool) → beq (kind_iso k) b ≡ is_kind k b
-    alike Iso true = refl
-    alike Iso false = refl
-    alike Interrupt true = refl
-    alike Interrupt false = refl
-
-    held : (k : StreamKind) → is_kind k (is_iso up.row.kind) ≡ true → arrives st ep (kind_iso k) p (Some up) ≡ Arrives ep (cond (not (is_full up.held)) (fill up.row.max_packet (waiting st ep) (up.held ++ p ∷ [])) (none_filled up.held))
-    held k e = ap (λ (b : Bool). Arrives ep (cond (b && not (is_full up.held)) (fill up.row.max_packet (waiting st ep) (up.held ++ p ∷ [])) (none_filled up.held))) (alike k (is_iso up.row.kind) ∙ e)
-
     by : (b : Bool) → Arrives ep (cond (not b) (fill up.row.max_packet (waiting st ep) (up.held ++ p ∷ [])) (none_filled up.held)) ≡ Arrives ep (filling_of st ep p up b)
     by true = refl
     by false = ap (λ (rs : List Request). Arrives ep (fill up.row.max_packet rs (up.held ++ p ∷ []))) (waiting-are st ep)

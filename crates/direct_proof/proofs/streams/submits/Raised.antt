@@ -137,4 +137,4 @@ module _ {S : Type 0} (m : Meaning S) (w : World S) (j : Shared) (ep id : ℕ) (
       go true i =
           let same : e ≡ ep = grind (arith, i) in
           (λ t. way_if ((ap (stream_of (ups m w j ep id row rel s h kinds same-row down long free)) same ∙ (up-here m w j ep id row rel s h kinds same-row down long free)) t) (way_of ((ap (stream_of w.gate.streams) same ∙ down) t) e j.back))
-          ∙ sym (ap (λ (o : Option Up). way_of o e j.back) (ap (stream_of (ups m w j ep id row rel s h kinds same-row down long free)) same ∙ (up-here m w j ep id row rel s h kinds same-row down long free)) ∙ packets-none (down_in w.gate.streams) (is_iso row.kind) e (ap (down_in w.gate.streams) same ∙ (was-down m w j ep id row rel s h kinds same-row down long free)) j.back s.fresh)
+          ∙ sym (ap (λ (o : Option Up). way_of o e j.back) (ap (stream_of (ups m w j ep id row rel s h kinds same-row down long free)) same ∙ (up-here m w j ep id row rel s h kinds same-row down long free)) ∙ packets-none (down_in w.gate.streams) row.kind e (ap (down_in w.gate.streams) same ∙ (was-down m w j ep id row rel s h kinds same-row down long free)) j.back s.fresh)

@@ -2,11 +2,13 @@
 use Rattle.std.proofs.Common.{◌≡◌, ℕ, ◌==◌, ◌&&◌, Bool, true, false, cond, List, [], ◌∷◌, ◌++◌, refl, sym, ap, ◌∙◌, arith}
 use Rattle.std.specs.List.{list_any, AllByRecursion as Each}
 use Rattle.std.proofs.lemmas.Bool.{both_ways, or_parts}
+use Rattle.usb_base.specs.declared.endpoint.EpKind.{EpKind}
+use Rattle.redir_data.specs.StreamKinds.{is_kind_of}
 use Rattle.redir_host.specs.declared.state.running.Running.{Running}
 use Rattle.redir_host.specs.guest.Packets.{runs_at}
 use Rattle.model_device.specs.Meaning.{Meaning}
 use Rattle.direct_run.specs.Moves.{World}
-use Rattle.direct_proof.specs.Tagged.{Tagged, Greeted, Plugged, ToldTable, ToldFaces, Answered, Packed, Stated, Bye, packets_in, packet_in, is_kind}
+use Rattle.direct_proof.specs.Tagged.{Tagged, Greeted, Plugged, ToldTable, ToldFaces, Answered, Packed, Stated, Bye, packets_in, packet_in}
 use Rattle.direct_proof.specs.Shared.{Shared}
 use Rattle.direct_proof.specs.Related.{Related}
 use Rattle.direct_proof.specs.Session.{Session}
@@ -15,11 +17,11 @@ use Rattle.direct_proof.proofs.streams.submits.Waited.{AfterWait}
 
 -- ---- a wire without packets of a stream that is down
 
-pub packets-none : (down : ℕ → Bool) (iso : Bool) (e : ℕ) → down e ≡ true → (bs : List Tagged) → Each (λ b. is_stale down b ≡ false) bs → packets_in iso e bs ≡ []
-packets-none down iso e h [] k = refl
-packets-none down iso e h (b ∷ bs) k = (λ i. go b k.0 i ++ packets-none down iso e h bs k.1 i)
+pub packets-none : (down : ℕ → Bool) (kind : EpKind) (e : ℕ) → down e ≡ true → (bs : List Tagged) → Each (λ b. is_stale down b ≡ false) bs → packets_in kind e bs ≡ []
+packets-none down kind e h [] k = refl
+packets-none down kind e h (b ∷ bs) k = (λ i. go b k.0 i ++ packets-none down kind e h bs k.1 i)
   where
-    go : (b : Tagged) → is_stale down b ≡ false → packet_in iso e b ≡ []
+    go : (b : Tagged) → is_stale down b ≡ false → packet_in kind e b ≡ []
     go Greeted z = refl
     go (Plugged c) z = refl
     go (ToldTable t) z = refl
@@ -29,7 +31,7 @@ packets-none down iso e h (b ∷ bs) k = (λ i. go b k.0 i ++ packets-none down 
     go Bye z = refl
     go (Packed x ep p) z = by (ep == e) refl
       where
-        by : (c : Bool) → (ep == e) ≡ c → cond (c && is_kind x iso) (p ∷ []) [] ≡ []
+        by : (c : Bool) → (ep == e) ≡ c → cond (c && is_kind_of x kind) (p ∷ []) [] ≡ []
         by false y = refl
         by true y = let same : ep ≡ e = grind (arith, y) in absurd (both_ways (down e) (ap down (sym same) ∙ z) h)
 

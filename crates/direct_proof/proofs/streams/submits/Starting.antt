@@ -14,14 +14,15 @@ use Rattle.usb_base.specs.declared.endpoint.EpTable.{EpTable}
 use Rattle.redir_wire.specs.declared.packet.RedirControl.TheVariants as plain
 use Rattle.redir_data.specs.declared.packet.RedirPacket.{RedirPacket}
 use Rattle.redir_data.specs.declared.packet.RedirPacket.TheVariants.{Plain}
-use Rattle.redir_host.specs.declared.state.running.StreamKind.{StreamKind}
-use Rattle.redir_host.specs.declared.state.running.StreamKind.TheVariants.{Iso, Interrupt}
-use Rattle.redir_host.specs.guest.Packets.{can_start, is_kind_of}
+use Rattle.redir_data.specs.declared.stream_kind.StreamKind.{StreamKind}
+use Rattle.redir_data.specs.declared.stream_kind.StreamKind.TheVariants.{Iso, Interrupt}
+use Rattle.redir_data.specs.StreamKinds.{is_kind_of}
+use Rattle.redir_host.specs.guest.Packets.{can_start}
 use Rattle.gate_history.specs.state.StreamIds.{StreamIds, ids_of_streams, started}
 use Rattle.gate_history.specs.state.Ids.{times, holds}
 use Rattle.gate_history.specs.write.Packets.{start_packet}
 use Rattle.gate_history.proofs.lemmas.state.StreamIds.{AreLong, times-append}
-use Rattle.direct_proof.specs.Tagged.{Tagged, Stated, is_kind}
+use Rattle.direct_proof.specs.Tagged.{Tagged, Stated}
 use Rattle.direct_proof.specs.Kinds.{IsIn}
 use Rattle.direct_proof.specs.StreamIds.{IdIsKept, StreamIdIsKept, StatusIsKept, is_id, stream_id, stream_ids_on, status_id, statuses_on}
 use Rattle.direct_proof.specs.Running.{stream_endpoint, started_kind}
@@ -35,16 +36,14 @@ pub record IsStart (ep : ℕ) (row : EpRow) (p : RedirPacket) : Type 0 where
   pub kind : StreamKind
   pub stream : stream_endpoint p ≡ Some ep
   pub started-is : started_kind p ≡ Some (kind, ep)
-  pub right : is_kind kind (is_iso row.kind) ≡ true
-  pub fits : is_kind_of kind row.kind ≡ true
+  pub right : is_kind_of kind row.kind ≡ true
 
 start-iso : (ep : ℕ) (row : EpRow) → row.kind ≡ kind.Iso → IsStart ep row (start_packet ep row)
 start-iso ep row h = record {
   kind = Iso;
   stream = ap (λ (k : EpKind). stream_endpoint (Plain (cond (is_iso k) (plain.StartIso ep 8 4) (plain.StartInterrupt ep)))) h;
   started-is = ap (λ (k : EpKind). started_kind (Plain (cond (is_iso k) (plain.StartIso ep 8 4) (plain.StartInterrupt ep)))) h;
-  right = ap is_iso h;
-  fits = ap (is_kind_of Iso) h;
+  right = ap (is_kind_of Iso) h;
 }
 
 start-interrupt : (ep : ℕ) (row : EpRow) → row.kind ≡ kind.Interrupt → IsStart ep row (start_packet ep row)
@@ -52,8 +51,7 @@ start-interrupt ep row h = record {
   kind = Interrupt;
   stream = ap (λ (k : EpKind). stream_endpoint (Plain (cond (is_iso k) (plain.StartIso ep 8 4) (plain.StartInterrupt ep)))) h;
   started-is = ap (λ (k : EpKind). started_kind (Plain (cond (is_iso k) (plain.StartIso ep 8 4) (plain.StartInterrupt ep)))) h;
-  right = ap (λ (k : EpKind). not (is_iso k)) h;
-  fits = ap (is_kind_of Interrupt) h;
+  right = ap (is_kind_of Interrupt) h;
 }
 
 pub is-start : (ep : ℕ) (row : EpRow) → (row.kind ≡ kind.Iso) ⊎ (row.kind ≡ kind.Interrupt) → IsStart ep row (start_packet ep row)
@@ -61,7 +59,7 @@ is-start ep row (inl h) = start-iso ep row h
 is-start ep row (inr h) = start-interrupt ep row h
 
 pub can-start : (table : EpTable) (k : StreamKind) (ep : ℕ) (row : EpRow) → IsIn ep → row ≡ row_of table ep → is_kind_of k row.kind ≡ true → can_start table k ep ≡ true
-can-start table k ep row h same fits = λ i. small ep h i && (in-byte ep h i && (ap (λ (r : EpRow). is_kind_of k r.kind) (sym same) ∙ fits) i)
+can-start table k ep row h same right = λ i. small ep h i && (in-byte ep h i && (ap (λ (r : EpRow). is_kind_of k r.kind) (sym same) ∙ right) i)
   where
     small : (n : ℕ) → IsIn n → nat_lt (n % 128) 16 ≡ true
     small n k = grind (arith, k.low, k.high)

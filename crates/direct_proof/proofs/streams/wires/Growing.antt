@@ -3,18 +3,18 @@ use Rattle.std.proofs.Common.{◌≡◌, ℕ, ◌==◌, ◌&&◌, ◌||◌, Bool
 use Rattle.std.specs.List.{list_any, find}
 use Rattle.usb_base.specs.declared.transfer.StreamPacket.{StreamPacket}
 use Rattle.redir_data.specs.declared.packet.RedirPacket.{RedirPacket}
-use Rattle.redir_host.specs.declared.state.running.StreamKind.{StreamKind}
-use Rattle.redir_host.specs.declared.state.running.StreamKind.TheVariants.{Iso, Interrupt}
+use Rattle.redir_data.specs.declared.stream_kind.StreamKind.{StreamKind}
+use Rattle.redir_data.specs.declared.stream_kind.StreamKind.TheVariants.{Iso, Interrupt}
+use Rattle.redir_data.specs.StreamKinds.{is_kind_of}
 use Rattle.redir_host.specs.device.Offering.{stream_packet}
 use Rattle.gate_history.specs.state.Ids.{times}
 use Rattle.gate_history.specs.state.Facts.{tell}
 use Rattle.gate_history.specs.step.Meaning.{fact_of}
 use Rattle.gate_history.specs.state.Ups.{Up, stream_of}
 use Rattle.gate_history.specs.declared.facts.Facts.{Facts}
-use Rattle.usb_base.specs.Endpoint.{is_iso}
 use Rattle.direct_device.specs.Direct.{way_if}
 use Rattle.direct_proof.specs.Requests.{Coming}
-use Rattle.direct_proof.specs.Tagged.{Tagged, Packed, Stated, on_wire, runs_in, ran_in, told, packets_in, is_kind}
+use Rattle.direct_proof.specs.Tagged.{Tagged, Packed, Stated, on_wire, runs_in, ran_in, told, packets_in}
 use Rattle.direct_proof.specs.Shared.{way_of}
 use Rattle.direct_proof.specs.StreamIds.{Fenced, statuses_on}
 use Rattle.direct_proof.specs.Kinds.{OfKind}
@@ -52,7 +52,7 @@ fenced-same (Some f) fenced ps bs cs e h = (h.0, λ k. ap (times f) e ∙ h.1 k)
 
 pub way-stated : (up : Option Up) (e : ℕ) (bs : List Tagged) (k : StreamKind) (id ep status : ℕ) → way_of up e (bs ++ Stated k id ep status ∷ []) ≡ way_of up e bs
 way-stated None e bs k id ep status = refl
-way-stated (Some up) e bs k id ep status = packets_in-append (is_iso up.row.kind) e bs (Stated k id ep status ∷ []) ∙ append-nil (packets_in (is_iso up.row.kind) e bs)
+way-stated (Some up) e bs k id ep status = packets_in-append up.row.kind e bs (Stated k id ep status ∷ []) ∙ append-nil (packets_in up.row.kind e bs)
 
 flip : (a b : ℕ) (c : Bool) → (a == b) ≡ c → (b == a) ≡ c
 flip a b c e = swap a b ∙ e
@@ -67,11 +67,11 @@ way-offered ups bs k ep p kind e = go (stream_of ups e) refl (e == ep) refl
   where
     go : (o : Option Up) → stream_of ups e ≡ o → (b : Bool) → (e == ep) ≡ b → way_if o (cond b (way_of (stream_of ups ep) ep bs ++ p ∷ []) (way_of o e bs)) ≡ way_of o e (bs ++ Packed k ep p ∷ [])
     go None h b i = refl
-    go (Some up) h false i = sym (packets_in-append (is_iso up.row.kind) e bs (Packed k ep p ∷ []) ∙ (λ t. packets_in (is_iso up.row.kind) e bs ++ (cond (flip e ep false i t && is_kind k (is_iso up.row.kind)) (p ∷ []) [] ++ [])) ∙ append-nil (packets_in (is_iso up.row.kind) e bs))
+    go (Some up) h false i = sym (packets_in-append up.row.kind e bs (Packed k ep p ∷ []) ∙ (λ t. packets_in up.row.kind e bs ++ (cond (flip e ep false i t && is_kind_of k up.row.kind) (p ∷ []) [] ++ [])) ∙ append-nil (packets_in up.row.kind e bs))
     go (Some up) h true i =
         let same : e ≡ ep = grind (arith, i) in
         let here : stream_of ups ep ≡ Some up = ap (stream_of ups) (sym same) ∙ h in
-        let right : is_kind k (is_iso up.row.kind) ≡ true = subst (λ (o : Option Up). OfKind o k) here kind in
+        let right : is_kind_of k up.row.kind ≡ true = subst (λ (o : Option Up). OfKind o k) here kind in
         (λ t. way_of (here t) ep bs ++ p ∷ [])
-        ∙ (λ t. packets_in (is_iso up.row.kind) (sym same t) bs ++ p ∷ [])
-        ∙ sym (packets_in-append (is_iso up.row.kind) e bs (Packed k ep p ∷ []) ∙ (λ t. packets_in (is_iso up.row.kind) e bs ++ (cond (flip e ep true i t && right t) (p ∷ []) [] ++ [])))
+        ∙ (λ t. packets_in up.row.kind (sym same t) bs ++ p ∷ [])
+        ∙ sym (packets_in-append up.row.kind e bs (Packed k ep p ∷ []) ∙ (λ t. packets_in up.row.kind e bs ++ (cond (flip e ep true i t && right t) (p ∷ []) [] ++ [])))

@@ -6,7 +6,7 @@ use Rattle.redir_data.specs.declared.packet.RedirPacket.{RedirPacket}
 use Rattle.redir_data.specs.declared.packet.RedirPacket.TheVariants.{Plain, Carrying}
 use Rattle.redir_data.specs.declared.state.RedirState.{RedirState}
 use Rattle.redir_data.specs.Streams.{advanced}
-use Rattle.redir_host.specs.declared.state.running.StreamKind.{StreamKind}
+use Rattle.redir_data.specs.declared.stream_kind.StreamKind.{StreamKind}
 use Rattle.gate_history.specs.state.Ids.{times}
 use Rattle.gate_history.proofs.lemmas.state.StreamIds.{times-append}
 use Rattle.direct_proof.specs.Tagged.{Tagged, Stated}

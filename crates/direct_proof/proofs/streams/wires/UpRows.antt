@@ -4,14 +4,15 @@ use Rattle.std.specs.Prelude.{get_or, slice_set}
 use Rattle.std.specs.List.{AllByRecursion as Each}
 use Rattle.std.specs.Option.{option_map}
 use Rattle.std.proofs.lemmas.List.{get_or-set_same, get_or-set_other, length-set}
-use Rattle.usb_base.specs.Endpoint.{endpoint_index, is_iso}
+use Rattle.usb_base.specs.Endpoint.{endpoint_index}
 use Rattle.usb_base.specs.declared.endpoint.EpRow.{EpRow}
 use Rattle.usb_base.specs.declared.transfer.StreamPacket.{StreamPacket}
 use Rattle.redir_data.specs.declared.packet.RedirPacket.{RedirPacket}
 use Rattle.redir_host.specs.declared.state.running.Running.{Running}
-use Rattle.redir_host.specs.declared.state.running.StreamKind.{StreamKind}
+use Rattle.redir_data.specs.declared.stream_kind.StreamKind.{StreamKind}
+use Rattle.redir_data.specs.StreamKinds.{is_kind_of}
 use Rattle.gate_history.specs.state.Ups.{Up, stream_at, stream_of, hold}
-use Rattle.direct_proof.specs.Tagged.{Tagged, Answered, Packed, Stated, is_kind}
+use Rattle.direct_proof.specs.Tagged.{Tagged, Answered, Packed, Stated}
 use Rattle.direct_proof.specs.Kinds.{IsIn, OfKind, TaggedOfKind, StartOfKind, UpsFit, UpFits}
 use Rattle.direct_proof.specs.Session.{down_in}
 use Rattle.direct_proof.specs.Running.{started_kind}
@@ -65,7 +66,7 @@ same-down a b h = λ i e. none-by-row (stream_of b e) (stream_of a e) (h e) i
 pub kind-by-row : (o p : Option Up) (k : StreamKind) → option_map up_row o ≡ option_map up_row p → OfKind p k → OfKind o k
 kind-by-row None p k h f = tt
 kind-by-row (Some x) None k h f = absurd (cc)
-kind-by-row (Some x) (Some y) k h f = ap (λ (r : EpRow). is_kind k (is_iso r.kind)) (inner h) ∙ f
+kind-by-row (Some x) (Some y) k h f = ap (λ (r : EpRow). is_kind_of k r.kind) (inner h) ∙ f
   where
     inner : Some x.row ≡ Some y.row → x.row ≡ y.row
     inner z = cc

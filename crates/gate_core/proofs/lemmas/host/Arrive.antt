@@ -6,6 +6,7 @@ use Rattle.std.proofs.lemmas.Bool.{lt-ltb, ltb-true, cases_Bool}
 use Rattle.std.proofs.lemmas.List.{append-nil}
 use Rattle.usb_base.specs.Endpoint.{IsEndpoint, endpoint_index}
 use Rattle.usb_base.specs.declared.transfer.StreamPacket.{StreamPacket}
+use Rattle.redir_data.specs.declared.stream_kind.StreamKind.{StreamKind}
 use Rattle.gate_history.specs.declared.note.Note.TheVariants as note
 use Rattle.gate_parts.specs.declared.write.outputs.Outputs.{Outputs}
 use Rattle.gate_core.specs.declared.state.kept.Kept.{Kept}
@@ -158,16 +159,16 @@ pub on-ok : {T E : Type 0} {P Q R : Type 0} (r : Result T E) → (P → Q → R)
 on-ok (Ok v) f p q = f p q
 on-ok (Err e) f p q = tt
 
-pub does-receive : (st : State) (sound : IsSound st) (endpoint : ℕ) (iso : Bool) (packet : StreamPacket) (up up_new : Up) (old between mid new : Kept) (out out_new : Outputs) → Holds old st → IsKept old →
+pub does-receive : (st : State) (sound : IsSound st) (endpoint : ℕ) (kind : StreamKind) (packet : StreamPacket) (up up_new : Up) (old between mid new : Kept) (out out_new : Outputs) → Holds old st → IsKept old →
     IsEndpoint endpoint → stream_at old.streams endpoint ≡ Some up →
     between ≡ record old { streams = slice_set old.streams (endpoint_index endpoint) None } →
     new ≡ record mid { streams = slice_set mid.streams (endpoint_index endpoint) (Some up_new) } →
-    HasReceived endpoint iso packet up up_new between mid →
-    out_new ≡ with_answers out (received_bytes endpoint iso packet up between.lives.live) (note.Arrived endpoint ∷ received_notes endpoint iso packet up between.lives.live) →
-    Does st (mark_as st (arrives st endpoint iso packet (stream_of st.streams endpoint)) None) old new out out_new
-does-receive st sound endpoint iso packet up up_new old between mid new out out_new h k byte at between-is is received gives =
+    HasReceived endpoint kind packet up up_new between mid →
+    out_new ≡ with_answers out (received_bytes endpoint kind packet up between.lives.live) (note.Arrived endpoint ∷ received_notes endpoint kind packet up between.lives.live) →
+    Does st (mark_as st (arrives st endpoint kind packet (stream_of st.streams endpoint)) None) old new out out_new
+does-receive st sound endpoint kind packet up up_new old between mid new out out_new h k byte at between-is is received gives =
     let there : stream_of st.streams endpoint ≡ Some up = of-address st.streams endpoint byte ∙ ap (λ (ups : List (Option Up)). stream_at ups endpoint) (sym h.streams) ∙ at in
-    subst (λ (o : Option Up). Does st (mark_as st (arrives st endpoint iso packet o) None) old new out out_new) (sym there) (by (is_held iso up) received gives)
+    subst (λ (o : Option Up). Does st (mark_as st (arrives st endpoint kind packet o) None) old new out out_new) (sym there) (by (is_held kind up) received gives)
   where
     by : (b : Bool) → HasReceivedIf endpoint b packet up up_new between mid →
         out_new ≡ with_answers out (cond b (up_bytes endpoint (with_packet packet up) between.lives.live) []) (note.Arrived endpoint ∷ cond b (filled_notes (up_fill endpoint (with_packet packet up) between.lives.live)) []) →

@@ -21,6 +21,7 @@ use Rattle.redir_data.specs.declared.packet.RedirPacket.{RedirPacket}
 use Rattle.redir_data.specs.declared.packet.RedirData.{RedirData}
 use Rattle.redir_data.specs.declared.packet.RedirData.TheVariants as data_packet
 use Rattle.redir_data.specs.declared.packet.RedirPacket.TheVariants.{Plain, Carrying}
+use Rattle.redir_data.specs.declared.stream_kind.StreamKind.{StreamKind}
 use Rattle.usb_base.specs.declared.transfer.StreamPacket.{StreamPacket}
 use Rattle.usbip_urb.specs.Buffers.{laid}
 use Rattle.control_route.specs.declared.route.Route.{Route}
@@ -246,9 +247,9 @@ opening-response : (st : State) (place : ℕ) (h : Header) (response : Option Re
 opening-response st place h None = none st (by_response st place h None) refl refl tt
 opening-response st place h (Some response) = opening-answer st place h response _
 
-opening-arrival : (st : State) (ep : ℕ) (iso : Bool) (packet : StreamPacket) (o : Option Up) → IsOpening st (arrives st ep iso packet o)
-opening-arrival st ep iso packet None = none st (arrives st ep iso packet None) refl refl tt
-opening-arrival st ep iso packet (Some up) = none st (arrives st ep iso packet (Some up)) refl refl tt
+opening-arrival : (st : State) (ep : ℕ) (kind : StreamKind) (packet : StreamPacket) (o : Option Up) → IsOpening st (arrives st ep kind packet o)
+opening-arrival st ep kind packet None = none st (arrives st ep kind packet None) refl refl tt
+opening-arrival st ep kind packet (Some up) = none st (arrives st ep kind packet (Some up)) refl refl tt
 
 opening-data : (st : State) (place : ℕ) (h : Header) (d : RedirData) → IsOpening st (told_meaning st place h (Carrying d))
 opening-data st place h (data_packet.Interrupt endpoint status length body) =

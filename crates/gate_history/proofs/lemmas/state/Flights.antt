@@ -39,6 +39,7 @@ use Rattle.usb_base.specs.declared.transfer.StreamPacket.{StreamPacket}
 use Rattle.usb_base.specs.Endpoint.{endpoint_index, is_in_endpoint}
 use Rattle.usb_base.specs.Status.{is_success}
 use Rattle.redir_data.specs.declared.packet.RedirPacket.{RedirPacket}
+use Rattle.redir_data.specs.declared.stream_kind.StreamKind.{StreamKind}
 use Rattle.gate_history.specs.state.Ups.{Up, no_streams, stream_at, stream_of, unless, lower_at, hold, is_ended, opened_streams, moved_streams, streams_after, streams}
 use Rattle.gate_history.specs.state.StreamIds.{StreamIds, stream_ids_after, asking, stream_ids, ids_of_streams}
 use Rattle.gate_history.specs.declared.request.Request.{Request}
@@ -549,9 +550,9 @@ OpensFew e = Each (λ t. length t.request.descs ≤ MAX_PACKETS) (opened e)
 few-aside : HoldsAside OpensFew
 few-aside = record { idle = tt; replies = λ p. tt; imports = λ p. tt; answers = λ id o. tt; refuses = λ r. tt }
 
-few-arrival : (st : State) (ep : ℕ) (iso : Bool) (packet : StreamPacket) (o : Option Up) → OpensFew (arrives st ep iso packet o)
-few-arrival st ep iso packet None = tt
-few-arrival st ep iso packet (Some up) = tt
+few-arrival : (st : State) (ep : ℕ) (kind : StreamKind) (packet : StreamPacket) (o : Option Up) → OpensFew (arrives st ep kind packet o)
+few-arrival st ep kind packet None = tt
+few-arrival st ep kind packet (Some up) = tt
 
 few-data : (st : State) (place : ℕ) (h : Header) (d : RedirData) → OpensFew (told_meaning st place h (Carrying d))
 few-data st place h (data_packet.Interrupt endpoint status length body) =

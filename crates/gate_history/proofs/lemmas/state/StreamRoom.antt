@@ -1,11 +1,10 @@
 -- After every past each stream holds at most 1,024 packets.
-use Rattle.std.specs.Bool.{beq}
 use Rattle.std.proofs.Common.{◌≡◌, ℕ, ◌+◌, ◌<◌, ◌≤◌, Bool, true, false, cond, not, leb, List, [], ◌∷◌, ◌++◌, length, map, replicate, set, get_or, drop, Option, Some, None, refl, arith}
 use Rattle.std.specs.Prelude.{zero, suc, ◌%◌, ◌||◌, ◌&&◌, nat_lt, option_map, is_some, slice_set}
 use Rattle.std.proofs.lemmas.Bool.{leb-false, false≢true}
 use Rattle.std.proofs.lemmas.List.{length-append, length-drop}
 use Rattle.usb_base.specs.declared.transfer.StreamPacket.{StreamPacket}
-use Rattle.usb_base.specs.Endpoint.{endpoint_index, is_in_endpoint, is_iso}
+use Rattle.usb_base.specs.Endpoint.{endpoint_index, is_in_endpoint}
 use Rattle.usb_base.specs.Status.{is_success}
 use Rattle.usbip_urb.specs.declared.packet.UrbPacket.TheVariants as urb
 use Rattle.usbip_urb.specs.declared.client.ClientPacket.TheVariants.{Op, Urb}
@@ -15,6 +14,8 @@ use Rattle.redir_data.specs.declared.packet.RedirData.{RedirData}
 use Rattle.redir_data.specs.declared.packet.RedirData.TheVariants as data_packet
 use Rattle.redir_data.specs.declared.packet.RedirPacket.{RedirPacket}
 use Rattle.redir_data.specs.declared.packet.RedirPacket.TheVariants.{Plain, Carrying}
+use Rattle.redir_data.specs.declared.stream_kind.StreamKind.{StreamKind}
+use Rattle.redir_data.specs.StreamKinds.{is_kind_of}
 use Rattle.stream_buffers.specs.Cuts.{Cut}
 use Rattle.stream_buffers.specs.Interrupt.{last_of, interrupt_cut_at, interrupt_cut}
 use Rattle.stream_buffers.specs.Iso.{iso_outcome, iso_cut}
@@ -159,22 +160,22 @@ few-after e ups k h =
 few-aside : HoldsAside LeavesFew
 few-aside = record { idle = tt; replies = λ p. tt; imports = λ p. tt; answers = λ id o. tt; refuses = λ r. tt }
 
-not-full : (iso : Bool) (up : Up) → is_held iso up ≡ true → length up.held < MAX_HELD
-not-full iso up h = by (beq iso (is_iso up.row.kind)) (leb MAX_HELD (length up.held)) refl h
+not-full : (kind : StreamKind) (up : Up) → is_held kind up ≡ true → length up.held < MAX_HELD
+not-full kind up h = by (is_kind_of kind up.row.kind) (leb MAX_HELD (length up.held)) refl h
   where
     by : (a b : Bool) → leb MAX_HELD (length up.held) ≡ b → (a && not b) ≡ true → length up.held < MAX_HELD
     by true true e k = absurd (false≢true k)
     by true false e k = leb-false MAX_HELD (length up.held) e
     by false b e k = absurd (false≢true k)
 
-few-arrival : (st : State) (ep : ℕ) (iso : Bool) (packet : StreamPacket) (o : Option Up) → HoldsFew o → LeavesFew (arrives st ep iso packet o)
-few-arrival st ep iso packet None h = tt
-few-arrival st ep iso packet (Some up) h = by (is_held iso up) refl
+few-arrival : (st : State) (ep : ℕ) (kind : StreamKind) (packet : StreamPacket) (o : Option Up) → HoldsFew o → LeavesFew (arrives st ep kind packet o)
+few-arrival st ep kind packet None h = tt
+few-arrival st ep kind packet (Some up) h = by (is_held kind up) refl
   where
-    by : (b : Bool) → is_held iso up ≡ b → length (cond b (fill up.row.max_packet (waiting st ep) (up.held ++ packet ∷ [])) (none_filled up.held)).left ≤ MAX_HELD
+    by : (b : Bool) → is_held kind up ≡ b → length (cond b (fill up.row.max_packet (waiting st ep) (up.held ++ packet ∷ [])) (none_filled up.held)).left ≤ MAX_HELD
     by true e =
         let left = fill-few up.row.max_packet (waiting st ep) (up.held ++ packet ∷ []) in
-        omega (arith, left, length-append up.held (packet ∷ []), not-full iso up e)
+        omega (arith, left, length-append up.held (packet ∷ []), not-full kind up e)
     by false e = h
 
 module _ (st : State) (held : Each HoldsFew st.streams) where

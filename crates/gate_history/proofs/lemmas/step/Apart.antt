@@ -16,6 +16,7 @@ use Rattle.redir_data.specs.declared.packet.RedirPacket.{RedirPacket}
 use Rattle.redir_data.specs.declared.packet.RedirData.{RedirData}
 use Rattle.redir_data.specs.declared.packet.RedirData.TheVariants as data_packet
 use Rattle.redir_data.specs.declared.packet.RedirPacket.TheVariants.{Plain, Carrying}
+use Rattle.redir_data.specs.declared.stream_kind.StreamKind.{StreamKind}
 use Rattle.usb_base.specs.declared.transfer.StreamPacket.{StreamPacket}
 use Rattle.usb_base.specs.Endpoint.{is_in_endpoint}
 use Rattle.usbip_urb.specs.declared.client.ClientPacket.{ClientPacket}
@@ -105,9 +106,9 @@ host-response : (st : State) (place : ℕ) (h : Header) (response : Option Respo
 host-response st place h None = record { refuses = refl; ends = refl }
 host-response st place h (Some response) = host-answer st place h response _
 
-host-arrival : (st : State) (ep : ℕ) (iso : Bool) (packet : StreamPacket) (o : Option Up) → SparesClient (arrives st ep iso packet o)
-host-arrival st ep iso packet None = record { refuses = refl; ends = refl }
-host-arrival st ep iso packet (Some up) = record { refuses = refl; ends = refl }
+host-arrival : (st : State) (ep : ℕ) (kind : StreamKind) (packet : StreamPacket) (o : Option Up) → SparesClient (arrives st ep kind packet o)
+host-arrival st ep kind packet None = record { refuses = refl; ends = refl }
+host-arrival st ep kind packet (Some up) = record { refuses = refl; ends = refl }
 
 host-data : (st : State) (place : ℕ) (h : Header) (d : RedirData) → SparesClient (told_meaning st place h (Carrying d))
 host-data st place h (data_packet.Interrupt endpoint status length body) =
@@ -137,9 +138,9 @@ pub response-agrees : (st : State) (place : ℕ) (h : Header) (response : Option
 response-agrees st place h None = refl
 response-agrees st place h (Some response) = answer-agrees st place h response _
 
-arrival-agrees : (st : State) (ep : ℕ) (iso : Bool) (packet : StreamPacket) (o : Option Up) → agrees (arrives st ep iso packet o) ≡ None
-arrival-agrees st ep iso packet None = refl
-arrival-agrees st ep iso packet (Some up) = refl
+arrival-agrees : (st : State) (ep : ℕ) (kind : StreamKind) (packet : StreamPacket) (o : Option Up) → agrees (arrives st ep kind packet o) ≡ None
+arrival-agrees st ep kind packet None = refl
+arrival-agrees st ep kind packet (Some up) = refl
 
 none-agreed : (b : Bool) (e f : Effect) → agrees e ≡ None → agrees f ≡ None → agrees (cond b e f) ≡ None
 none-agreed b e f h k = by-test (λ x. agrees x ≡ None) b e f h k

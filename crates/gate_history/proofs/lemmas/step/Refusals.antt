@@ -22,6 +22,8 @@ use Rattle.redir_wire.specs.declared.packet.RedirControl.TheVariants as plain
 use Rattle.redir_data.specs.declared.packet.RedirData.TheVariants as data_packet
 use Rattle.redir_data.specs.declared.packet.RedirPacket.{RedirPacket}
 use Rattle.redir_data.specs.declared.packet.RedirPacket.TheVariants.{Plain, Carrying}
+use Rattle.redir_data.specs.declared.stream_kind.StreamKind.{StreamKind}
+use Rattle.redir_data.specs.declared.stream_kind.StreamKind.TheVariants.{Iso, Interrupt}
 use Rattle.gate_history.specs.declared.note.Note.{Note}
 use Rattle.gate_history.specs.declared.note.Note.TheVariants as note
 use Rattle.gate_history.specs.declared.item.Item.{Item}
@@ -80,17 +82,17 @@ by-response : (st : State) (place : ℕ) (h : Header) (o : Option Response) →
 by-response st place h None = refl
 by-response st place h (Some response) = answered-so st place h response (find (has_id h.id) (submits st ++ st.abandoned))
 
-arrives-all : (st : State) (ep : ℕ) (iso : Bool) (status : ℕ) (body : List ℕ) → refused_at (by_arrival st ep iso status body) ≡ None
-arrives-all st ep iso status body = elim (stream_of st.streams ep) as (λ o. refused_at (arrives st ep iso (record { status = status_of status; body = body }) o) ≡ None) [ None ↦ refl | Some up ↦ refl ]
+arrives-all : (st : State) (ep : ℕ) (kind : StreamKind) (status : ℕ) (body : List ℕ) → refused_at (by_arrival st ep kind status body) ≡ None
+arrives-all st ep kind status body = elim (stream_of st.streams ep) as (λ o. refused_at (arrives st ep kind (record { status = status_of status; body = body }) o) ≡ None) [ None ↦ refl | Some up ↦ refl ]
 
 streamed : (st : State) (place : ℕ) (h : Header) (ep status : ℕ) (body : List ℕ) (response : Response) (b : Bool) →
-    refused_at (cond b (by_arrival st ep false status body) (by_response st place h (cond b None (Some response))))
+    refused_at (cond b (by_arrival st ep Interrupt status body) (by_response st place h (cond b None (Some response))))
     ≡ option_and_then (λ r. option_and_then (λ s. mismatch place (head_size (wide_ids st.agreed)) s h.kind r) (find (has_id h.id) (submits st ++ st.abandoned))) (cond b None (Some response))
-streamed st place h ep status body response true = arrives-all st ep false status body
+streamed st place h ep status body response true = arrives-all st ep Interrupt status body
 streamed st place h ep status body response false = by-response st place h (Some response)
 
-isochronous : (st : State) (ep status : ℕ) (body : List ℕ) (b : Bool) → refused_at (cond b (by_arrival st ep true status body) Idle) ≡ None
-isochronous st ep status body true = arrives-all st ep true status body
+isochronous : (st : State) (ep status : ℕ) (body : List ℕ) (b : Bool) → refused_at (cond b (by_arrival st ep Iso status body) Idle) ≡ None
+isochronous st ep status body true = arrives-all st ep Iso status body
 isochronous st ep status body false = refl
 
 told-so : (st : State) (place : ℕ) (h : Header) (p : RedirPacket) → refused_at (meaning st (Told place h p)) ≡ host_rule st place h p

@@ -14,6 +14,7 @@ use Rattle.redir_data.specs.declared.packet.RedirPacket.{RedirPacket}
 use Rattle.redir_data.specs.declared.packet.RedirData.{RedirData}
 use Rattle.redir_data.specs.declared.packet.RedirData.TheVariants as data_packet
 use Rattle.redir_data.specs.declared.packet.RedirPacket.TheVariants.{Plain, Carrying}
+use Rattle.redir_data.specs.declared.stream_kind.StreamKind.{StreamKind}
 use Rattle.usb_base.specs.declared.transfer.StreamPacket.{StreamPacket}
 use Rattle.usb_base.specs.Endpoint.{is_in_endpoint}
 use Rattle.usbip_urb.specs.declared.client.ClientPacket.{ClientPacket}
@@ -81,9 +82,9 @@ placed-response : (n : ℕ) (st : State) (place : ℕ) (h : Header) (response : 
 placed-response n st place h None = tt
 placed-response n st place h (Some response) = placed-answer n st place h response _
 
-placed-arrival : (n : ℕ) (st : State) (ep : ℕ) (iso : Bool) (packet : StreamPacket) (o : Option Up) → IsPlaced n (arrives st ep iso packet o)
-placed-arrival n st ep iso packet None = tt
-placed-arrival n st ep iso packet (Some up) = tt
+placed-arrival : (n : ℕ) (st : State) (ep : ℕ) (kind : StreamKind) (packet : StreamPacket) (o : Option Up) → IsPlaced n (arrives st ep kind packet o)
+placed-arrival n st ep kind packet None = tt
+placed-arrival n st ep kind packet (Some up) = tt
 
 placed-data : (st : State) (place : ℕ) (h : Header) (d : RedirData) → IsPlaced st.items (told_meaning st place h (Carrying d))
 placed-data st place h (data_packet.Interrupt endpoint status length body) =

@@ -27,6 +27,7 @@ use Rattle.redir_data.specs.declared.packet.RedirPacket.{RedirPacket}
 use Rattle.redir_data.specs.declared.packet.RedirPacket.TheVariants.{Plain, Carrying}
 use Rattle.redir_data.specs.Sent.{CanBeRead}
 use Rattle.redir_data.proofs.Sent.{control_sent}
+use Rattle.redir_data.specs.declared.stream_kind.StreamKind.{StreamKind}
 use Rattle.gate_history.specs.state.StreamIds.{asking}
 use Rattle.gate_history.specs.state.Flight.{wide_ids, wide_bulk}
 use Rattle.gate_history.specs.state.Ids.{greatest, last_of, Fits}
@@ -169,9 +170,9 @@ responds : (st : State) (place : ℕ) (h : Header) (o : Option Response) → IsR
 responds st place h None = idle st
 responds st place h (Some response) = answers st place h response _
 
-arrival : (st : State) (ep : ℕ) (iso : Bool) (packet : StreamPacket) (o : Option Up) → IsReadable st (arrives st ep iso packet o)
-arrival st ep iso packet None = idle st
-arrival st ep iso packet (Some up) = record { opens = tt; sends = tt; acks = tt; agrees-none = refl }
+arrival : (st : State) (ep : ℕ) (kind : StreamKind) (packet : StreamPacket) (o : Option Up) → IsReadable st (arrives st ep kind packet o)
+arrival st ep kind packet None = idle st
+arrival st ep kind packet (Some up) = record { opens = tt; sends = tt; acks = tt; agrees-none = refl }
 
 tells-data : (st : State) (place : ℕ) (h : Header) (d : RedirData) → IsReadable st (told_meaning st place h (Carrying d))
 tells-data st place h (data_packet.Interrupt endpoint status length body) =

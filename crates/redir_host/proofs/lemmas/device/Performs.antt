@@ -15,7 +15,7 @@ use Rattle.redir_host.specs.declared.state.request.Form.{Form}
 use Rattle.redir_host.specs.declared.state.request.Form.TheVariants as form
 use Rattle.redir_host.specs.declared.state.request.Request.{Request}
 use Rattle.redir_host.specs.declared.state.running.Running.{Running}
-use Rattle.redir_host.specs.declared.state.running.StreamKind.{StreamKind}
+use Rattle.redir_data.specs.declared.stream_kind.StreamKind.{StreamKind}
 use Rattle.redir_host.specs.guest.Asking.{routed}
 use Rattle.redir_host.specs.guest.Packets.{runs_at}
 use Rattle.redir_host.specs.device.Changes.{change_of, changed}

@@ -30,13 +30,14 @@ use Rattle.redir_host.specs.declared.state.request.Asking.TheVariants.{Nothing}
 use Rattle.redir_host.specs.declared.state.request.Form.{Form}
 use Rattle.redir_host.specs.declared.state.request.Form.TheVariants as form
 use Rattle.redir_host.specs.declared.state.request.Request.{Request}
-use Rattle.redir_host.specs.declared.state.running.StreamKind.{StreamKind}
-use Rattle.redir_host.specs.declared.state.running.StreamKind.TheVariants.{Iso, Interrupt}
+use Rattle.redir_data.specs.declared.stream_kind.StreamKind.{StreamKind}
+use Rattle.redir_data.specs.declared.stream_kind.StreamKind.TheVariants.{Iso, Interrupt}
+use Rattle.redir_data.specs.StreamKinds.{is_kind_of}
 use Rattle.usb_base.specs.declared.limits.TheConstants.{MAX_TRANSFER}
 use Rattle.redir_host.specs.guest.Asking.{is_other, asked_if, asking_of, routed}
 use Rattle.redir_host.specs.step.Makes.{IsTaken}
 use Rattle.redir_host.specs.step.Moves.{Move, quiet}
-use Rattle.redir_host.specs.guest.Packets.{can_start, cancel_move, data_move, is_kind_of, packet_move, packet_move_by, queued, request, runs_at, start_move, stop_move, stopped}
+use Rattle.redir_host.specs.guest.Packets.{can_start, cancel_move, data_move, packet_move, packet_move_by, queued, request, runs_at, start_move, stop_move, stopped}
 use Rattle.redir_host.specs.state.Queues.{is_first_queue, is_cancelled_by, marked, with_first_marked, after_cancel}
 use Rattle.redir_host.specs.state.Sound.{FormFits, IsRequest, IsRunning, IsSound, WantedFits}
 use Rattle.redir_host.proofs.lemmas.state.Sound.{Keeps}

@@ -18,8 +18,8 @@ use Rattle.redir_host.specs.declared.state.host.Host.{Host}
 use Rattle.redir_host.specs.declared.state.request.Asking.{Asking}
 use Rattle.redir_host.specs.declared.state.request.Asking.TheVariants.{Nothing, Refuses, Asks}
 use Rattle.redir_host.specs.declared.state.request.Request.{Request}
-use Rattle.redir_host.specs.declared.state.running.StreamKind.{StreamKind}
-use Rattle.redir_host.specs.declared.state.running.StreamKind.TheVariants.{Iso, Interrupt}
+use Rattle.redir_data.specs.declared.stream_kind.StreamKind.{StreamKind}
+use Rattle.redir_data.specs.declared.stream_kind.StreamKind.TheVariants.{Iso, Interrupt}
 use Rattle.redir_host.specs.device.Changes.{changed, touched, stays}
 use Rattle.redir_host.specs.device.Facts.{facts_of}
 use Rattle.redir_host.specs.device.Offering.{offered_by}

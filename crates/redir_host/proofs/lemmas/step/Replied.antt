@@ -27,8 +27,8 @@ use Rattle.redir_host.specs.declared.state.request.Form.{Form}
 use Rattle.redir_host.specs.declared.state.request.Form.TheVariants as form
 use Rattle.redir_host.specs.declared.state.request.Request.{Request}
 use Rattle.redir_host.specs.declared.state.running.Running.{Running}
-use Rattle.redir_host.specs.declared.state.running.StreamKind.{StreamKind}
-use Rattle.redir_host.specs.declared.state.running.StreamKind.TheVariants.{Iso, Interrupt}
+use Rattle.redir_data.specs.declared.stream_kind.StreamKind.{StreamKind}
+use Rattle.redir_data.specs.declared.stream_kind.StreamKind.TheVariants.{Iso, Interrupt}
 use Rattle.redir_host.specs.device.Offering.{offered_on, offered_by}
 use Rattle.redir_host.specs.device.Performing.{first_performed, perform_move_by}
 use Rattle.usb_base.specs.declared.limits.TheConstants.{MAX_TRANSFER}

@@ -32,8 +32,8 @@ use Rattle.redir_host.specs.declared.state.request.Form.{Form}
 use Rattle.redir_host.specs.declared.state.request.Form.TheVariants as form
 use Rattle.redir_host.specs.declared.state.request.Request.{Request}
 use Rattle.redir_host.specs.declared.state.running.Running.{Running}
-use Rattle.redir_host.specs.declared.state.running.StreamKind.{StreamKind}
-use Rattle.redir_host.specs.declared.state.running.StreamKind.TheVariants.{Iso, Interrupt}
+use Rattle.redir_data.specs.declared.stream_kind.StreamKind.{StreamKind}
+use Rattle.redir_data.specs.declared.stream_kind.StreamKind.TheVariants.{Iso, Interrupt}
 use Rattle.chapter9.specs.Standard.{ended}
 use Rattle.redir_host.specs.write.Answers.{alt_in, answer, answer_by, cancelled}
 use Rattle.redir_host.specs.guest.Asking.{routed}

@@ -21,7 +21,7 @@ use Rattle.gate_core.proofs.state.kept.Kept.arrive.Goals as goal
 pub returns-in_default-clause-ok : goal.returns-in_default-clause-ok
 returns-in_default-clause-ok c st h sound =
     let k = c.requires.kept in
-    subst (λ (o : Option Up). Does st (mark_as st (arrives st c.args.stream.endpoint c.args.stream.is_iso c.args.packet o) None) c.args.self.now c.args.self.now c.args.out.now c.args.out.now)
+    subst (λ (o : Option Up). Does st (mark_as st (arrives st c.args.stream.endpoint c.args.stream.kind c.args.packet o) None) c.args.self.now c.args.self.now c.args.out.now c.args.out.now)
     (sym (of-none st.streams c.args.stream.endpoint (λ e. false≢true (c.in_default.ensures.is_some.1 e))))
     (does-idle st c.args.self.now c.args.out.now h k.answered_fits k.unlinked_fits k.dropped_fits)
 
@@ -34,7 +34,7 @@ returns-in_default-take-clause-ok c st h sound =
     c.in_default-take.ensures.rest ∙ (λ i. slice_set old.streams (endpoint_index (c.in-Some.ensures.byte i)) (sym at i)) ∙ set-back old.streams (endpoint_index c.args.stream.endpoint) None in
     let there : stream_of st.streams c.args.stream.endpoint ≡ None =
     of-address st.streams c.args.stream.endpoint (c.in-Some.ensures.is_some.0 refl) ∙ ap (λ (ups : List (Option Up)). stream_at ups c.args.stream.endpoint) (sym h.streams) ∙ at in
-    subst (λ (o : Option Up). Does st (mark_as st (arrives st c.args.stream.endpoint c.args.stream.is_iso c.args.packet o) None) old (record old { streams = c.take.new.self }) c.args.out.now c.args.out.now)
+    subst (λ (o : Option Up). Does st (mark_as st (arrives st c.args.stream.endpoint c.args.stream.kind c.args.packet o) None) old (record old { streams = c.take.new.self }) c.args.out.now c.args.out.now)
     (sym there)
     (subst (λ (ups : List (Option Up)). Does st (mark_as st Idle None) old (record old { streams = ups }) c.args.out.now c.args.out.now) (sym same)
     (does-idle st old c.args.out.now h k.answered_fits k.unlinked_fits k.dropped_fits))
@@ -48,12 +48,12 @@ returns-clause-ok c st h sound =
     let at : stream_at old.streams e ≡ Some c.in-Some-take.up = ap (stream_at old.streams) (sym byte) ∙ sym c.in-Some-take.ensures.up in
     on-ok c.receive-received.result
     (λ r s.
-    does-receive st sound e c.args.stream.is_iso c.args.packet c.in-Some-take.up c.receive-received.new.up old between c.receive-received.new.self _ c.args.out.now c.receive-received.new.out h
+    does-receive st sound e c.args.stream.kind c.args.packet c.in-Some-take.up c.receive-received.new.up old between c.receive-received.new.self _ c.args.out.now c.receive-received.new.out h
     c.requires.kept (c.in-Some.ensures.is_some.0 refl) at
     (ap (λ (ups : List (Option Up)). record old { streams = ups }) (c.in-Some-take.ensures.rest ∙ ap (λ (n : ℕ). slice_set old.streams (endpoint_index n) None) byte))
     (ap (λ (ups : List (Option Up)). record c.receive-received.new.self { streams = ups }) (c.put.ensures ∙ ap (λ (n : ℕ). slice_set c.receive-received.new.self.streams (endpoint_index n) (Some c.receive-received.new.up)) byte))
-    (subst (λ (n : ℕ). HasReceived n c.args.stream.is_iso c.args.packet c.in-Some-take.up c.receive-received.new.up between c.receive-received.new.self) byte r)
-    (s ∙ ap (λ (n : ℕ). with_answers c.args.out.now (received_bytes n c.args.stream.is_iso c.args.packet c.in-Some-take.up between.lives.live) (note.Arrived n ∷ received_notes n c.args.stream.is_iso c.args.packet c.in-Some-take.up between.lives.live)) byte))
+    (subst (λ (n : ℕ). HasReceived n c.args.stream.kind c.args.packet c.in-Some-take.up c.receive-received.new.up between c.receive-received.new.self) byte r)
+    (s ∙ ap (λ (n : ℕ). with_answers c.args.out.now (received_bytes n c.args.stream.kind c.args.packet c.in-Some-take.up between.lives.live) (note.Arrived n ∷ received_notes n c.args.stream.kind c.args.packet c.in-Some-take.up between.lives.live)) byte))
     c.receive-received.ensures.received c.receive-received.ensures.sent
 
 pub returns-clause-err : goal.returns-clause-err
@@ -69,4 +69,4 @@ returns-clause-wants c st h =
     let at : stream_at old.streams e ≡ Some up = ap (stream_at old.streams) (sym c.in-Some.ensures.byte) ∙ sym c.in-Some-take.ensures.up in
     let there : stream_of st.streams e ≡ Some up = of-address st.streams e (c.in-Some.ensures.is_some.0 refl) ∙ ap (λ (ups : List (Option Up)). stream_at ups e) (sym h.streams) ∙ at in
     stopping.on-err c.receive-received.result _
-    (subst (λ (o : Option Up). GivesSome st (mark_as st (arrives st e c.args.stream.is_iso c.args.packet o) None)) (sym there) (by-coming st (arrives st e c.args.stream.is_iso c.args.packet (Some up)) None (omega arith)))
+    (subst (λ (o : Option Up). GivesSome st (mark_as st (arrives st e c.args.stream.kind c.args.packet o) None)) (sym there) (by-coming st (arrives st e c.args.stream.kind c.args.packet (Some up)) None (omega arith)))

@@ -18,7 +18,7 @@ pub returns-clause-ok : goal.returns-clause-ok
 returns-clause-ok c st at place h sound =
     let x = c.in-Some.stream in
     subst (λ (e : Effect). OnOk c.arrive.result (Does st (mark_as st e None) c.args.self.now c.arrive.new.self c.args.out.now c.arrive.new.out))
-    (ap (λ (p : StreamPacket). arrives st x.endpoint x.is_iso p (stream_of st.streams x.endpoint)) c.stream_packet.ensures
+    (ap (λ (p : StreamPacket). arrives st x.endpoint x.kind p (stream_of st.streams x.endpoint)) c.stream_packet.ensures
     ∙ arrives-so st at c.args.header.now c.args.packet x (sym c.in-Some.is ∙ c.stream_in.ensures))
     (c.arrive.ensures.ok st h sound)
 
@@ -32,6 +32,6 @@ pub returns-clause-wants : goal.returns-clause-wants
 returns-clause-wants c st at place h sound =
     let x = c.in-Some.stream in
     subst (λ (e : Effect). OnErr c.arrive.result (GivesSome st (mark_as st e None)))
-    (ap (λ (p : StreamPacket). arrives st x.endpoint x.is_iso p (stream_of st.streams x.endpoint)) c.stream_packet.ensures
+    (ap (λ (p : StreamPacket). arrives st x.endpoint x.kind p (stream_of st.streams x.endpoint)) c.stream_packet.ensures
     ∙ arrives-so st at c.args.header.now c.args.packet x (sym c.in-Some.is ∙ c.stream_in.ensures))
     (c.arrive.ensures.wants st h)
