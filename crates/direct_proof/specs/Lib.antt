@@ -1,4 +1,4 @@
-pub mod Moves
+pub mod Deeds
 pub mod Requests
 pub mod Tagged
 pub mod Shared

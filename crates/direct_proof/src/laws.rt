@@ -8,12 +8,13 @@ ghost use Rattle.direct_device.specs.Legal.{AreAllowed, IsDirect, all_answers};
 ghost use Rattle.direct_run.specs.Clients.{IsMove};
 ghost use Rattle.direct_run.specs.Kept.{SystemKept};
 ghost use Rattle.direct_run.specs.Known.{IsKnown};
-ghost use Rattle.direct_run.specs.Moves.{World, Move, first_world};
+ghost use Rattle.direct_run.specs.Moves.{World, Move, run};
 ghost use Rattle.direct_run.specs.Stands.{SystemStands};
 ghost use Rattle.direct_run.specs.Steps.{Step as PastStep};
 ghost use Rattle.direct_run.specs.World.{course};
+ghost use Rattle.direct_proof.specs.Deeds.{as_deeds};
 ghost use Rattle.direct_proof.specs.Related.{Related};
-ghost use Rattle.direct_proof.specs.Runs.{AreDirectly, IsRun, runs_from, urb_in};
+ghost use Rattle.direct_proof.specs.Runs.{AreDirectly, IsRun, urb_in};
 ghost use Rattle.direct_proof.specs.Shared.{Shared};
 ghost use Rattle.direct_proof.specs.Simulates.{Simulates};
 ghost use Rattle.direct_proof.specs.Steps.{answers_of, requests_of};
@@ -29,9 +30,9 @@ pub fn moves_are_direct<G: Gadget>()
     ensures kept { (world : World G) (shared : Shared) (moves : List Move) → Related G.meaning world shared → IsRun world.gate
         → AllByRecursion IsMove moves → AreDirectly G.meaning world shared moves }
     ensures legal { (first : G) (moves : List Move) → AllByRecursion IsMove moves
-        → AreAllowed G.meaning (first_direct first) (runs_from G.meaning (first_world first) moves).deeds }
+        → AreAllowed G.meaning (first_direct first) (run as_deeds G.meaning first moves).told }
     ensures answers { (first : G) (moves : List Move) → AllByRecursion IsMove moves
-        → flat_map urb_in (runs_from G.meaning (first_world first) moves).outs ≡ all_answers G.meaning (first_direct first) (runs_from G.meaning (first_world first) moves).deeds }
+        → flat_map urb_in (run as_deeds G.meaning first moves).outs ≡ all_answers G.meaning (first_direct first) (run as_deeds G.meaning first moves).told }
 {}
 
 /// A law: the simulation. For every device that meets *Gadget*, and every list of steps on bytes whose course is known,

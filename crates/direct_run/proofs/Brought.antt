@@ -1,5 +1,5 @@
 -- The client's moves: their packets are those that its bytes can spell. And what the present client is sent, by moves.
-use Rattle.std.proofs.Common.{◌≡◌, ℕ, List, [], ◌∷◌, ◌++◌, length, map, drop, Option, None, Some, refl, sym, ap, ◌∙◌, append-nil, append_assoc, lit<}
+use Rattle.std.proofs.Common.{◌≡◌, ℕ, List, [], ◌∷◌, ◌++◌, length, map, Option, None, Some, refl, sym, ap, ◌∙◌, append-nil, append_assoc, lit<}
 use Rattle.std.specs.List.{flat_map}
 use Rattle.usb_base.specs.Number.{AreBytes}
 use Rattle.usb_base.specs.declared.reason.Reason.{Reason}
@@ -19,7 +19,7 @@ use Rattle.gate_history.specs.step.History.{client_split, client_items, brought}
 use Rattle.gate_history.specs.declared.item.Item.{Item}
 use Rattle.gate_history.specs.declared.item.Item.TheVariants.{Asked, ClientWrong, ClientLeft, Told, HostWrong, HostLeft}
 use Rattle.gate_history.specs.step.Streams.{client_start}
-use Rattle.direct_run.specs.Moves.{Move, ByClient, move, run}
+use Rattle.direct_run.specs.Moves.{Move, ByClient, as_items, move, run}
 use Rattle.direct_run.specs.Clients.{IsMove, then_sent, present_outs}
 use Rattle.gate_history.specs.write.Readable.{piece_bytes}
 use Rattle.direct_run.proofs.Comes.{each-drop}
@@ -88,10 +88,10 @@ piece-stays (Told place header packet ∷ xs) h = absurd h.0
 piece-stays (HostWrong place reason ∷ xs) h = absurd h.0
 piece-stays (HostLeft ∷ xs) h = absurd h.0
 
-pub present-onto : {S : Type 0} (m : Meaning S) (s : S) (xs before : List Move) → Each Stays xs → present_outs m s (onto xs before) ≡ present_outs m s before ++ (made_by m (run m s before).world xs).outs
+pub present-onto : {S : Type 0} (m : Meaning S) (s : S) (xs before : List Move) → Each Stays xs → present_outs m s (onto xs before) ≡ present_outs m s before ++ (made_by as_items m (run as_items m s before).world xs).outs
 present-onto m s [] before h = sym (append-nil (present_outs m s before))
 present-onto m s (x ∷ xs) before h =
-    let w = (run m s before).world in
+    let w = (run as_items m s before).world in
     present-onto m s xs (x ∷ before) h.1
-    ∙ ap (λ (l : List ClientPacket). l ++ (made_by m (move m w x).world xs).outs) (h.0 (present_outs m s before) (move m w x).outs)
-    ∙ append_assoc (present_outs m s before) (move m w x).outs (made_by m (move m w x).world xs).outs
+    ∙ ap (λ (l : List ClientPacket). l ++ (made_by as_items m (move as_items m w x).world xs).outs) (h.0 (present_outs m s before) (move as_items m w x).outs)
+    ∙ append_assoc (present_outs m s before) (move as_items m w x).outs (made_by as_items m (move as_items m w x).world xs).outs

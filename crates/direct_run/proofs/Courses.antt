@@ -12,7 +12,7 @@ use Rattle.direct_run.specs.declared.item.Item.{Item}
 use Rattle.direct_run.specs.Clients.{present_outs}
 use Rattle.direct_run.specs.Follows.{AreMoves}
 use Rattle.direct_run.specs.Known.{IsKnown}
-use Rattle.direct_run.specs.Moves.{World, Performs, Offers, Unplugs, run}
+use Rattle.direct_run.specs.Moves.{World, Performs, Offers, Unplugs, as_items, as_submits, run}
 use Rattle.direct_run.specs.Noted.{performed_item, offered_item}
 use Rattle.direct_run.specs.Steps.{Step, Client, ClientEnd, ToHost as StepToHost, ToGate as StepToGate, Perform, Offer, Unplug}
 use Rattle.direct_run.specs.Trace.{submits_of, told_by, trace}
@@ -28,11 +28,11 @@ use Rattle.direct_run.proofs.Moved.{unrefused-more, moved-event, piece-present, 
 moved-perform : {S : Type 0} (m : Meaning S) (s : S) (c : Course) (items : List Item) (ep : ℕ) → AreMoves m s c items →
     AreMoves m s (acted c (PerformAct ep)) (items ++ performed_item (submits_of c.events) ep (told_performed m (host_of m s c.acts) ep))
 moved-perform {S = S} m s c items ep h =
-    let w : World S = (run m s h.moves).world in
+    let w : World S = (run as_items m s h.moves).world in
     let v = perform_move m w.host ep in
     record {
       moves = Performs ep ∷ h.moves;
-      follows = follows-act m s c items (performed_item (submits_of c.events) ep (told_performed m (host_of m s c.acts) ep)) (run m s h.moves) (PerformAct ep) v.host v.sent w.to_host (performed_item w.submits ep (told_performed m w.host ep)) h.follows
+      follows = follows-act m s c items (performed_item (submits_of c.events) ep (told_performed m (host_of m s c.acts) ep)) (run as_items m s h.moves) (run as_submits m s h.moves).told (PerformAct ep) v.host v.sent w.to_host (performed_item w.submits ep (told_performed m w.host ep)) h.follows
           (ap (λ (k : Host S). (perform_move m k ep).host) h.follows.host)
           (sym (append-nil v.sent) ∙ ap (λ (k : Host S). (perform_move m k ep).sent ++ []) h.follows.host)
           h.follows.to_host
@@ -44,11 +44,11 @@ moved-perform {S = S} m s c items ep h =
 
 moved-offer : {S : Type 0} (m : Meaning S) (s : S) (c : Course) (items : List Item) (ep : ℕ) → AreMoves m s c items → AreMoves m s (acted c (OfferAct ep)) (items ++ offered_item ep (told_offered m (host_of m s c.acts) ep))
 moved-offer {S = S} m s c items ep h =
-    let w : World S = (run m s h.moves).world in
+    let w : World S = (run as_items m s h.moves).world in
     let v = offer_move m w.host ep in
     record {
       moves = Offers ep ∷ h.moves;
-      follows = follows-act m s c items (offered_item ep (told_offered m (host_of m s c.acts) ep)) (run m s h.moves) (OfferAct ep) v.host v.sent w.to_host (offered_item ep (told_offered m w.host ep)) h.follows
+      follows = follows-act m s c items (offered_item ep (told_offered m (host_of m s c.acts) ep)) (run as_items m s h.moves) (run as_submits m s h.moves).told (OfferAct ep) v.host v.sent w.to_host (offered_item ep (told_offered m w.host ep)) h.follows
           (ap (λ (k : Host S). (offer_move m k ep).host) h.follows.host)
           (sym (append-nil v.sent) ∙ ap (λ (k : Host S). (offer_move m k ep).sent ++ []) h.follows.host)
           h.follows.to_host
@@ -60,11 +60,11 @@ moved-offer {S = S} m s c items ep h =
 
 moved-unplug : {S : Type 0} (m : Meaning S) (s : S) (c : Course) (items : List Item) → AreMoves m s c items → AreMoves m s (acted c UnplugAct) (items ++ [])
 moved-unplug {S = S} m s c items h =
-    let w : World S = (run m s h.moves).world in
+    let w : World S = (run as_items m s h.moves).world in
     let v = unplug_move w.host in
     record {
       moves = Unplugs ∷ h.moves;
-      follows = follows-act m s c items [] (run m s h.moves) UnplugAct v.host v.sent w.to_host [] h.follows
+      follows = follows-act m s c items [] (run as_items m s h.moves) (run as_submits m s h.moves).told UnplugAct v.host v.sent w.to_host [] h.follows
           (ap (λ (k : Host S). (unplug_move k).host) h.follows.host)
           (sym (append-nil v.sent) ∙ ap (λ (k : Host S). (unplug_move k).sent ++ []) h.follows.host)
           h.follows.to_host refl;

@@ -1,6 +1,6 @@
--- A list of moves that follows a course: both sides, the packets that are on the wires, those to the client, and what
--- is told are the same.
-use Rattle.std.proofs.Common.{◌≡◌, ℕ, List, [], ◌∷◌, ◌++◌, refl, sym, ap, ◌∙◌, append-nil, append_assoc}
+-- A list of moves that follows a course: both sides, the packets that are on the wires, those to the client, and what is told are
+-- the same.
+use Rattle.std.proofs.Common.{◌≡◌, ℕ, Bool, true, false, cond, List, [], ◌∷◌, ◌++◌, refl, sym, ap, ◌∙◌, append-nil, append_assoc}
 use Rattle.std.specs.List.{flat_map}
 use Rattle.std.proofs.lemmas.Grind.{flat_map-append}
 use Rattle.redir_data.specs.declared.packet.RedirPacket.{RedirPacket}
@@ -20,23 +20,26 @@ use Rattle.gate_history.specs.state.State.{State, state_of}
 use Rattle.gate_history.specs.write.Output.{to_client, to_host}
 use Rattle.gate_history.specs.write.Notes.{notes_of}
 use Rattle.gate_history.specs.write.All.{all_of}
-use Rattle.gate_history.specs.step.Machine.{steps, given_by}
+use Rattle.gate_history.specs.declared.item.Item.{Item as GateItem}
+use Rattle.gate_history.specs.step.Machine.{step, steps, given, given_by}
+use Rattle.gate_history.specs.step.Meaning.{mark_of}
+use Rattle.gate_history.specs.step.Past.{is_left_out}
 use Rattle.gate_history.proofs.lemmas.step.Events.{event-state, event-gives}
 use Rattle.direct_run.specs.declared.item.Item.{Item}
 use Rattle.direct_run.specs.World.{Course, first_id, nothing_yet, happened, acted}
 use Rattle.direct_run.specs.Noted.{item_of, named}
 use Rattle.direct_run.specs.Trace.{given_of}
 use Rattle.direct_run.specs.Follows.{Follows}
-use Rattle.direct_run.specs.Moves.{World, Made, first_world, opens, quiet, then_made}
+use Rattle.direct_run.specs.Moves.{World, Made, as_items, as_submits, first_world, quiet, then_made}
 use Rattle.direct_run.specs.Packets.{bares, sent_by_gate, sent_by_host, read_by_host, read_by_gate}
 use Rattle.direct_run.proofs.Several.{gate_all}
 use Rattle.direct_run.proofs.Flowing.{Split, nothing-asked, nothing-told}
 
-pub accepted-all : (first : ℕ) (ms : List Mark) → accepted ms ≡ all_of opens first ms
+pub accepted-all : (first : ℕ) (ms : List Mark) → accepted ms ≡ all_of as_submits.by_gate first ms
 accepted-all first [] = refl
 accepted-all first (m ∷ ms) = ap (λ (l : List Submission). l ++ opened m.what) (accepted-all first ms)
 
-pub follows-first : {S : Type 0} (m : Meaning S) (s : S) → Follows m s nothing_yet [] (quiet (first_world s))
+pub follows-first : {S : Type 0} (m : Meaning S) (s : S) → Follows m s nothing_yet [] (quiet (first_world s)) []
 follows-first m s = record {
   gate = refl;
   host = refl;
@@ -49,16 +52,25 @@ follows-first m s = record {
 }
 
 -- what an event more opens
-accepted-more : (events : List Event) (e : Event) → accepted (history first_id (e ∷ events)) ≡ accepted (history first_id events) ++ given_by opens (state_of first_id (history first_id events)) (brought events e)
+accepted-more : (events : List Event) (e : Event) → accepted (history first_id (e ∷ events)) ≡ accepted (history first_id events) ++ given_by as_submits.by_gate (state_of first_id (history first_id events)) (brought events e)
 accepted-more events e =
     accepted-all first_id (history first_id (e ∷ events))
-    ∙ event-gives opens first_id events e
-    ∙ ap (λ (l : List Submission). l ++ given_by opens (state_of first_id (history first_id events)) (brought events e)) (sym (accepted-all first_id (history first_id events)))
+    ∙ event-gives as_submits.by_gate first_id events e
+    ∙ ap (λ (l : List Submission). l ++ given_by as_submits.by_gate (state_of first_id (history first_id events)) (brought events e)) (sym (accepted-all first_id (history first_id events)))
 
-pub follows-event : {S : Type 0} (m : Meaning S) (s : S) (c : Course) (items : List Item) (r : Made S) (e : Event) (later : List (ℕ × RedirPacket)) → Follows m s c items r →
+-- the items of several are those of their notes
+items-given : (st : State) (xs : List GateItem) → given_by as_items.by_gate st xs ≡ flat_map item_of (given_by notes_of st xs)
+items-given st [] = refl
+items-given st (x ∷ xs) = (λ i. one (is_left_out st x) i ++ items-given (step st x) xs i) ∙ sym (flat_map-append item_of (given notes_of st x) (given_by notes_of (step st x) xs))
+  where
+    one : (b : Bool) → cond b [] (as_items.by_gate st (mark_of st x)) ≡ flat_map item_of (cond b [] (notes_of st (mark_of st x)))
+    one true = refl
+    one false = refl
+
+pub follows-event : {S : Type 0} (m : Meaning S) (s : S) (c : Course) (items : List Item) (r : Made S Item) (submitted : List Submission) (e : Event) (later : List (ℕ × RedirPacket)) → Follows m s c items r submitted →
     first_packet ∷ sent_by_host m s c ≡ bares (read_by_gate (happened c e)) ++ later →
-    Follows m s (happened c e) (items ++ flat_map item_of (given_of notes_of c.events e)) (then_made r (gate_all (record r.world { to_gate = later }) (brought c.events e)))
-follows-event m s c items r e later f rest =
+    Follows m s (happened c e) (items ++ flat_map item_of (given_of notes_of c.events e)) (then_made r (gate_all as_items (record r.world { to_gate = later }) (brought c.events e))) (submitted ++ given_by as_submits.by_gate r.world.gate (brought c.events e))
+follows-event m s c items r submitted e later f rest =
     let xs = brought c.events e in
     let st = state_of first_id (history first_id c.events) in
     record {
@@ -72,19 +84,19 @@ follows-event m s c items r e later f rest =
           ∙ append_assoc (bares (read_by_host c)) r.world.to_host (given_by to_host r.world.gate xs);
       to_gate = rest;
       outs = (λ i. f.outs i ++ given_by to_client (f.gate i) xs) ∙ sym (event-gives to_client first_id c.events e);
-      items-are = λ i. f.items-are i ++ flat_map item_of (given_by notes_of (f.gate i) xs);
-      accepted-are = (λ i. f.accepted-are i ++ given_by opens (f.gate i) xs) ∙ sym (accepted-more c.events e);
+      items-are = λ i. f.items-are i ++ items-given (f.gate i) xs i;
+      accepted-are = (λ i. f.accepted-are i ++ given_by as_submits.by_gate (f.gate i) xs) ∙ sym (accepted-more c.events e);
     }
 
 -- what the host makes of an act
-abbrev pub host_gives : {S : Type 0} → World S → Host S → List (ℕ × RedirPacket) → List (ℕ × RedirPacket) → List Item → Made S
-host_gives w new sent later items = record { world = record w { host = new; to_gate = w.to_gate ++ sent; to_host = later }; outs = []; items = items; accepted = [] }
+abbrev pub host_gives : {S : Type 0} → World S → Host S → List (ℕ × RedirPacket) → List (ℕ × RedirPacket) → List Item → Made S Item
+host_gives w new sent later items = record { world = record w { host = new; to_gate = w.to_gate ++ sent; to_host = later }; outs = []; told = items }
 
-pub follows-act : {S : Type 0} (m : Meaning S) (s : S) (c : Course) (items more : List Item) (r : Made S) (a : Act) (new : Host S) (sent later : List (ℕ × RedirPacket)) (told : List Item) → Follows m s c items r →
+pub follows-act : {S : Type 0} (m : Meaning S) (s : S) (c : Course) (items more : List Item) (r : Made S Item) (submitted : List Submission) (a : Act) (new : Host S) (sent later : List (ℕ × RedirPacket)) (told : List Item) → Follows m s c items r submitted →
     new ≡ host_of m s (a ∷ c.acts) → sent ≡ host_given (λ v. v.sent) m (host_of m s c.acts) (act_brought c.acts a) →
     (0, gateway_hello) ∷ sent_by_gate c ≡ bares (read_by_host (acted c a)) ++ later → told ≡ more →
-    Follows m s (acted c a) (items ++ more) (then_made r (host_gives r.world new sent later told))
-follows-act m s c items more r a new sent later told f host gives rest same = record {
+    Follows m s (acted c a) (items ++ more) (then_made r (host_gives r.world new sent later told)) (submitted ++ [])
+follows-act m s c items more r submitted a new sent later told f host gives rest same = record {
   gate = f.gate;
   host = host;
   submits = f.submits;
@@ -94,5 +106,5 @@ follows-act m s c items more r a new sent later told f host gives rest same = re
       ∙ append_assoc (bares (read_by_gate c)) r.world.to_gate sent;
   outs = append-nil r.outs ∙ f.outs;
   items-are = λ i. f.items-are i ++ same i;
-  accepted-are = append-nil r.accepted ∙ f.accepted-are;
+  accepted-are = append-nil submitted ∙ f.accepted-are;
 }

@@ -5,6 +5,7 @@ mod Headed
 mod Meeting
 mod Heard
 mod Comes
+pub mod Tellings
 mod Several
 mod Brought
 mod Flows

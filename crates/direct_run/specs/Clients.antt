@@ -8,7 +8,7 @@ use Rattle.gate_history.specs.declared.item.Item.TheVariants.{Asked, ClientWrong
 use Rattle.gate_history.specs.write.Output.{to_client}
 use Rattle.model_device.specs.Meaning.{Meaning}
 use Rattle.direct_run.specs.Trace.{given_of}
-use Rattle.direct_run.specs.Moves.{Move, ByClient, move, run}
+use Rattle.direct_run.specs.Moves.{Move, ByClient, as_items, move, run}
 
 -- ---- the packets to the present client, which began at the start or behind the last client's end
 
@@ -23,7 +23,7 @@ then_sent _ before more = before ++ more
 
 abbrev pub present_outs : {S : Type 0} → Meaning S → S → List Move → List ClientPacket
 present_outs m s [] = []
-present_outs m s (x ∷ xs) = then_sent x (present_outs m s xs) (move m (run m s xs).world x).outs
+present_outs m s (x ∷ xs) = then_sent x (present_outs m s xs) (move as_items m (run as_items m s xs).world x).outs
 
 -- ---- moves that bytes can make
 

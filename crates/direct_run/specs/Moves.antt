@@ -47,55 +47,62 @@ first_world s = record {
   submits = [];
 }
 
--- what a move makes: the packets to the client, the items in the order in which they came about, and the submits that are
--- accepted
-pub record Made (S : Type 0) : Type 0 where
+-- what a move makes: the packets to the client, and what is told of it, in the order in which it came about
+pub record Made (S T : Type 0) : Type 0 where
   pub world : World S
   pub outs : List ClientPacket
-  pub items : List Item
-  pub accepted : List Submission
+  pub told : List T
 
-abbrev pub quiet : {S : Type 0} → World S → Made S
-quiet w = record { world = w; outs = []; items = []; accepted = [] }
+abbrev pub quiet : {S T : Type 0} → World S → Made S T
+quiet w = record { world = w; outs = []; told = [] }
 
 -- first the one, then the other
-abbrev pub then_made : {S : Type 0} → Made S → Made S → Made S
-then_made x y = record { world = y.world; outs = x.outs ++ y.outs; items = x.items ++ y.items; accepted = x.accepted ++ y.accepted }
+abbrev pub then_made : {S T : Type 0} → Made S T → Made S T → Made S T
+then_made x y = record { world = y.world; outs = x.outs ++ y.outs; told = x.told ++ y.told }
+
+-- ---- how moves are told
+
+-- what is told of a mark in a state of the gateway, and for the items of the host
+pub record Telling (T : Type 0) : Type 0 where
+  pub by_gate : State → Mark → List T
+  pub by_host : List Item → List T
+
+abbrev pub as_items : Telling Item
+as_items = record { by_gate = λ st m. flat_map item_of (notes_of st m); by_host = λ items. items }
+
+-- the submits that are accepted
+abbrev pub as_submits : Telling Submission
+as_submits = record { by_gate = λ st m. opened m.what; by_host = λ items. [] }
 
 -- ---- the gateway
 
--- what an item opens
-abbrev pub opens : State → Mark → List Submission
-opens st m = opened m.what
-
-abbrev pub gate_made : {S : Type 0} → World S → Mark → Made S
-gate_made w m = record {
+abbrev pub gate_made : {S T : Type 0} → Telling T → World S → Mark → Made S T
+gate_made t w m = record {
   world = record w { gate = after w.gate m; to_host = w.to_host ++ to_host w.gate m; submits = w.submits ++ flat_map named (notes_of w.gate m) };
   outs = to_client w.gate m;
-  items = flat_map item_of (notes_of w.gate m);
-  accepted = opens w.gate m;
+  told = t.by_gate w.gate m;
 }
 
 -- an item of a side that is over is left out
-abbrev pub gate_move : {S : Type 0} → World S → GateItem → Made S
-gate_move w x = if is_left_out w.gate x then quiet w else gate_made w (mark_of w.gate x)
+abbrev pub gate_move : {S T : Type 0} → Telling T → World S → GateItem → Made S T
+gate_move t w x = if is_left_out w.gate x then quiet w else gate_made t w (mark_of w.gate x)
 
 -- the next packet, as it is read at this place of the host's stream
-abbrev pub gate_reads : {S : Type 0} → World S → ℕ → List (ℕ × RedirPacket) → Made S
-gate_reads w place [] = quiet w
-gate_reads w place (p ∷ ps) = gate_move (record w { to_gate = ps }) (Told place (sent_header w.gate.agreed p) p.1)
+abbrev pub gate_reads : {S T : Type 0} → Telling T → World S → ℕ → List (ℕ × RedirPacket) → Made S T
+gate_reads t w place [] = quiet w
+gate_reads t w place (p ∷ ps) = gate_move t (record w { to_gate = ps }) (Told place (sent_header w.gate.agreed p) p.1)
 
 -- ---- the host
 
-abbrev pub host_made : {S : Type 0} → World S → HostMove S → List Item → Made S
-host_made w v items = record { world = record w { host = v.host; to_gate = w.to_gate ++ v.sent }; outs = []; items = items; accepted = [] }
+abbrev pub host_made : {S T : Type 0} → Telling T → World S → HostMove S → List Item → Made S T
+host_made t w v items = record { world = record w { host = v.host; to_gate = w.to_gate ++ v.sent }; outs = []; told = t.by_host items }
 
-abbrev pub host_takes : {S : Type 0} → World S → HostMove S → Made S
-host_takes w v = host_made w v (flat_map (item_of_host w.submits) v.notes)
+abbrev pub host_takes : {S T : Type 0} → Telling T → World S → HostMove S → Made S T
+host_takes t w v = host_made t w v (flat_map (item_of_host w.submits) v.notes)
 
-abbrev pub host_reads : {S : Type 0} → Meaning S → World S → List (ℕ × RedirPacket) → Made S
-host_reads m w [] = quiet w
-host_reads m w (p ∷ ps) = host_takes (record w { to_host = ps }) (packet_move m w.host p.0 p.1)
+abbrev pub host_reads : {S T : Type 0} → Telling T → Meaning S → World S → List (ℕ × RedirPacket) → Made S T
+host_reads t m w [] = quiet w
+host_reads t m w (p ∷ ps) = host_takes t (record w { to_host = ps }) (packet_move m w.host p.0 p.1)
 
 -- ---- all moves
 
@@ -110,14 +117,18 @@ pub data Move : Type 0 where
   Offers : (ep : ℕ) → Move
   Unplugs : Move
 
-abbrev pub move : {S : Type 0} → Meaning S → World S → Move → Made S
-move m w (ByClient x) = gate_move w x
-move m w HostReads = host_reads m w w.to_host
-move m w (GateReads place) = gate_reads w place w.to_gate
-move m w (Performs ep) = host_made w (perform_move m w.host ep) (performed_item w.submits ep (told_performed m w.host ep))
-move m w (Offers ep) = host_made w (offer_move m w.host ep) (offered_item ep (told_offered m w.host ep))
-move m w Unplugs = host_made w (unplug_move w.host) []
+abbrev pub move : {S T : Type 0} → Telling T → Meaning S → World S → Move → Made S T
+move t m w (ByClient x) = gate_move t w x
+move t m w HostReads = host_reads t m w w.to_host
+move t m w (GateReads place) = gate_reads t w place w.to_gate
+move t m w (Performs ep) = host_made t w (perform_move m w.host ep) (performed_item w.submits ep (told_performed m w.host ep))
+move t m w (Offers ep) = host_made t w (offer_move m w.host ep) (offered_item ep (told_offered m w.host ep))
+move t m w Unplugs = host_made t w (unplug_move w.host) []
 
-abbrev pub run : {S : Type 0} → Meaning S → S → List Move → Made S
-run m s [] = quiet (first_world s)
-run m s (x ∷ xs) = then_made (run m s xs) (move m (run m s xs).world x)
+-- from a world on
+abbrev pub runs_from : {S T : Type 0} → Telling T → Meaning S → World S → List Move → Made S T
+runs_from t m w [] = quiet w
+runs_from t m w (x ∷ xs) = then_made (runs_from t m w xs) (move t m (runs_from t m w xs).world x)
+
+abbrev pub run : {S T : Type 0} → Telling T → Meaning S → S → List Move → Made S T
+run t m s xs = runs_from t m (first_world s) xs

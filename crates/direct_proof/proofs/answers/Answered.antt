@@ -14,11 +14,11 @@ use Rattle.gate_history.specs.client.Ends.{has_id, is_waiting, answers_by}
 use Rattle.gate_history.specs.state.State.{State, submits}
 use Rattle.gate_history.specs.step.Meaning.{mark_as, told_by}
 use Rattle.gate_history.specs.state.Ups.{Up, stream_of}
-use Rattle.direct_run.specs.Moves.{World, GateReads}
+use Rattle.direct_run.specs.Moves.{World, GateReads, Made, move, gate_reads, gate_made, quiet}
 use Rattle.direct_device.specs.Direct.{Load, Live, Ran, Direct, number, is_number, seen_of, as_submission}
 use Rattle.direct_device.specs.Acting.{Deed, Answer, act, answers, without_number}
 use Rattle.direct_device.specs.Legal.{IsAllowed, CanAnswerBy}
-use Rattle.direct_proof.specs.Moves.{Made, move, gate_reads, gate_made, quiet}
+use Rattle.direct_proof.specs.Deeds.{as_deeds}
 use Rattle.direct_proof.specs.Requests.{Coming, ran_of, live_of, load_of}
 use Rattle.direct_proof.specs.Tagged.{Tagged, Answered, on_wire, runs_in}
 use Rattle.direct_proof.specs.Shared.{Shared, way_of, view}
@@ -27,8 +27,8 @@ use Rattle.direct_proof.proofs.performs.Performs.{itself}
 use Rattle.direct_proof.proofs.answers.Answering.{one, answer-means, pending_has, live-left, answers-sent, answers-done, AreOne, live-same, found-same, device-answers, bare-answers}
 
 -- what a move did is this deed of the device attached directly
-pub record IsDeed {S : Type 0} (m : Meaning S) (w : World S) (j : Shared) (made : Made S) (later : Shared) (x : Deed) : Type 0 where
-  pub deeds : made.deeds ≡ x ∷ []
+pub record IsDeed {S : Type 0} (m : Meaning S) (w : World S) (j : Shared) (made : Made S Deed) (later : Shared) (x : Deed) : Type 0 where
+  pub deeds : made.told ≡ x ∷ []
   pub outs : made.outs ≡ map Urb (answers m (view w j) x)
   pub same : act m (view w j) x ≡ view made.world later
   pub allowed : IsAllowed m (view w j) x
@@ -49,20 +49,20 @@ answer_mark st place c = mark_as st (Answers c.id (seen_of c.load c.configuratio
 pub reads-moved : {S : Type 0} (m : Meaning S) (w : World S) (place k : ℕ) (c : Coming) (bs : List Tagged) →
     w.to_gate ≡ map on_wire (Answered c ∷ bs) → w.gate.host_over ≡ false → IsComing c →
     find (has_id c.id) (submits w.gate ++ w.gate.abandoned) ≡ Some (one k c.load.request c.load.verdict c.id) →
-    move m w (GateReads place) ≡ gate_made (record w { to_gate = map on_wire bs }) (answer_mark w.gate place c)
+    move as_deeds m w (GateReads place) ≡ gate_made as_deeds (record w { to_gate = map on_wire bs }) (answer_mark w.gate place c)
 reads-moved m w place k c bs wire open_ is found =
-    ap (gate_reads w place) wire
-    ∙ (λ i. cond (open_ i) (quiet (record w { to_gate = map on_wire bs })) (gate_made (record w { to_gate = map on_wire bs }) (mark_as w.gate (answer-means w.gate place k c.id c.load.request c.load.verdict c.configuration c.outcome is.load.verdict is.outcome is.status found i) (told_by (answer_item w.gate place c)))))
+    ap (gate_reads as_deeds w place) wire
+    ∙ (λ i. cond (open_ i) (quiet (record w { to_gate = map on_wire bs })) (gate_made as_deeds (record w { to_gate = map on_wire bs }) (mark_as w.gate (answer-means w.gate place k c.id c.load.request c.load.verdict c.configuration c.outcome is.load.verdict is.outcome is.status found i) (told_by (answer_item w.gate place c)))))
 
 pub reads-answer : {S : Type 0} (m : Meaning S) (w : World S) (j : Shared) (place k : ℕ) (c : Coming) (bs : List Tagged) (p : Pending) →
     w.to_gate ≡ map on_wire (Answered c ∷ bs) → w.gate.host_over ≡ false → w.gate.imported ≡ true → IsComing c →
     find (has_id c.id) (submits w.gate ++ w.gate.abandoned) ≡ Some (one k c.load.request c.load.verdict c.id) →
     filter (pending_has c.id) w.gate.live ≡ p ∷ [] → load_of p.submit ≡ c.load → AreOne c.id (number c.load) w.gate.live → is_waiting c.load.verdict ≡ false →
-    IsDeed m w (with_back j (Answered c ∷ bs)) (move m w (GateReads place)) (with_back j bs) (Answer (number c.load))
+    IsDeed m w (with_back j (Answered c ∷ bs)) (move as_deeds m w (GateReads place)) (with_back j bs) (Answer (number c.load))
 reads-answer {S = S} m w j place k c bs p wire open_ imported is found only load-is one-is by_id = record {
-  deeds = ap (λ (x : Made S). x.deeds) moved
+  deeds = ap (λ (x : Made S Deed). x.told) moved
       ∙ answers-done st c.id o mark refl ∙ ap (map (λ (q : Pending). Answer q.submit.request.number)) only ∙ ap (λ (l : Load). Answer (number l) ∷ []) load-is;
-  outs = ap (λ (x : Made S). x.outs) moved
+  outs = ap (λ (x : Made S Deed). x.outs) moved
       ∙ answers-sent st c.id o mark refl ∙ ap (λ (ps : List Pending). map Urb (flat_map (λ q. answers_by q.submit o q.unlinker) ps)) only
       ∙ ap (map Urb) (append-nil (answers_by p.submit o p.unlinker) ∙ sym (bare-answers p.submit o p.unlinker) ∙ sym device.1);
   same = device.0
@@ -71,7 +71,7 @@ reads-answer {S = S} m w j place k c bs p wire open_ imported is found only load
         ran = (sym (ap (λ (b : Bool). cond b (map ran_of (runs_in bs)) []) imported)) i;
         way = λ ep. way-read (stream_of st.streams ep) ep c bs i;
       })
-      ∙ ap (λ (x : Made S). view x.world (with_back j bs)) (sym moved);
+      ∙ ap (λ (x : Made S Deed). view x.world (with_back j bs)) (sym moved);
   allowed = (
     imported,
     subst (λ (o : Option Live). IsSomeAnd o (λ l. CanAnswerBy d l.load (is_waiting l.load.verdict))) (sym here) (subst (CanAnswerBy d (load_of p.submit)) (sym waits-not)
@@ -91,7 +91,7 @@ reads-answer {S = S} m w j place k c bs p wire open_ imported is found only load
     mark : Mark
     mark = answer_mark st place c
 
-    moved : move m w (GateReads place) ≡ gate_made (record w { to_gate = map on_wire bs }) mark
+    moved : move as_deeds m w (GateReads place) ≡ gate_made as_deeds (record w { to_gate = map on_wire bs }) mark
     moved = reads-moved m w place k c bs wire open_ is found
 
     here : find (λ (l : Live). is_number (number c.load) l.load) d.live ≡ Some (live_of p)

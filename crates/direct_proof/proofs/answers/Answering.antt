@@ -35,7 +35,7 @@ use Rattle.gate_history.proofs.lemmas.Lists.{every, Each, filter-same, filter-ma
 use Rattle.gate_history.proofs.lemmas.step.NoCancel.{asks-none}
 use Rattle.direct_device.specs.Direct.{Live, Ran, Direct, number, is_number, seen_by, normal_by, as_submission}
 use Rattle.direct_device.specs.Acting.{Answer, act, answers, answered_by, answers_of, ran_answers, filled_by, filled_answers, cut_for, without_number}
-use Rattle.direct_proof.specs.Moves.{deeds_of, answer_deeds}
+use Rattle.direct_proof.specs.Deeds.{deeds_of, answer_deeds}
 use Rattle.direct_proof.specs.Requests.{form_by, queued_transfer, live_of, load_of}
 use Rattle.direct_proof.specs.Loads.{FitsVerdict}
 use Rattle.direct_proof.proofs.answers.Loads.{IsSeen, answer-seen, read-as}

@@ -17,10 +17,10 @@ use Rattle.gate_history.specs.state.Facts.{tell}
 use Rattle.gate_history.proofs.lemmas.Lists.{filter-map, Each-filter}
 use Rattle.gate_history.proofs.lemmas.step.NoCancel.{none-cancelled, stays-uncancelled}
 use Rattle.direct_run.specs.declared.submitted.Submitted.{Submitted}
-use Rattle.direct_run.specs.Moves.{World, GateReads}
+use Rattle.direct_run.specs.Moves.{World, GateReads, Made, move, gate_made}
 use Rattle.direct_device.specs.Direct.{number, seen_of}
-use Rattle.direct_device.specs.Acting.{Answer}
-use Rattle.direct_proof.specs.Moves.{Made, move, gate_made}
+use Rattle.direct_device.specs.Acting.{Deed, Answer}
+use Rattle.direct_proof.specs.Deeds.{as_deeds}
 use Rattle.direct_proof.specs.Requests.{Coming, Debt, ran_of, debts_of, live_of}
 use Rattle.direct_proof.specs.Shared.{Shared, view}
 use Rattle.direct_proof.specs.Tagged.{Tagged, Answered, on_wire, runs_in}
@@ -77,14 +77,14 @@ module _ {S : Type 0} (m : Meaning S) (w : World S) (j : Shared) (place : ℕ) (
   for : IsFor st c
   for = is-for st j.debts w.submits (j.held ++ j.coming) c (runs_in bs) ids (rel.debts there)
 
-  pub answer-moved : move m w (GateReads place) ≡ gate_made (record w { to_gate = map on_wire bs }) mark
+  pub answer-moved : move as_deeds m w (GateReads place) ≡ gate_made as_deeds (record w { to_gate = map on_wire bs }) mark
   answer-moved = reads-moved m w place for.place c bs rel.answers rel.sides.reads came for.found
 
   tells : TellsLittle st.facts (tell st.facts fact)
   tells = answer-tells st.facts c
 
-  abbrev made : Made S
-  made = gate_made (record w { to_gate = map on_wire bs }) mark
+  abbrev made : Made S Deed
+  made = gate_made as_deeds (record w { to_gate = map on_wire bs }) mark
 
   -- as it stands, with nothing sent to the host
   world : made.world ≡ record made.world { to_host = w.to_host; submits = w.submits }
@@ -135,25 +135,25 @@ module _ {S : Type 0} (m : Meaning S) (w : World S) (j : Shared) (place : ℕ) (
   abbrev later : Shared
   later = answered_shared
 
-  pub keep-answer : Keeps m w (with_back j (Answered c ∷ bs)) (move m w (GateReads place))
+  pub keep-answer : Keeps m w (with_back j (Answered c ∷ bs)) (move as_deeds m w (GateReads place))
   keep-answer = go st.imported refl
     where
       related : Related m made.world answered_shared
       related = subst (λ (x : World S). Related m x answered_shared) (sym world) answer-related
 
-      go : (b : Bool) → st.imported ≡ b → Keeps m w (with_back j (Answered c ∷ bs)) (move m w (GateReads place))
-      go true inside = keeps-deed m w (with_back j (Answered c ∷ bs)) answered_shared (move m w (GateReads place)) (Answer (number c.load))
+      go : (b : Bool) → st.imported ≡ b → Keeps m w (with_back j (Answered c ∷ bs)) (move as_deeds m w (GateReads place))
+      go true inside = keeps-deed m w (with_back j (Answered c ∷ bs)) answered_shared (move as_deeds m w (GateReads place)) (Answer (number c.load))
           (record { deeds = r.deeds; outs = r.outs; same = r.same; allowed = r.allowed })
-          (subst (λ (x : Made S). Related m x.world answered_shared) (sym answer-moved) related)
+          (subst (λ (x : Made S Deed). Related m x.world answered_shared) (sym answer-moved) related)
         where
           live : IsLiveFor st c
           live = is-live-for st j.debts w.submits (j.held ++ j.coming) c (runs_in bs) sound ids
               (sym (append-nil (debts_of (submits st))) ∙ ap (λ (l : List Submission). debts_of (submits st) ++ debts_of l) (sym (rel.alone inside).0) ∙ rel.debts there)
 
-          r : IsDeed m w (with_back j (Answered c ∷ bs)) (move m w (GateReads place)) (with_back j bs) (Answer (number c.load))
+          r : IsDeed m w (with_back j (Answered c ∷ bs)) (move as_deeds m w (GateReads place)) (with_back j bs) (Answer (number c.load))
           r = reads-answer m w j place for.place c bs live.pending rel.answers rel.sides.reads inside came for.found live.only live.load-is live.one-is (load-waits c.load.verdict c.load.request.transfer came.load.verdict).0
-      go false out = keeps-quiet m w (with_back j (Answered c ∷ bs)) answered_shared (move m w (GateReads place)) made.world
-          (answer-moved ∙ (λ i. record { world = made.world; outs = none-sent i; deeds = none-done i })) related
+      go false out = keeps-quiet m w (with_back j (Answered c ∷ bs)) answered_shared (move as_deeds m w (GateReads place)) made.world
+          (answer-moved ∙ (λ i. record { world = made.world; outs = none-sent i; told = none-done i })) related
           (λ i. record (view w (with_back j (Answered c ∷ bs))) {
             live = (ap (map live_of) none ∙ sym (ap (map live_of) (live-left st c.id (seen_of c.load c.configuration c.outcome) ∙ ap (filter (λ p. not (pending_has c.id p))) none))) i;
             ran = (ap (λ (b : Bool). cond b (map ran_of (runs_in (Answered c ∷ bs))) []) out ∙ sym (ap (λ (b : Bool). cond b (map ran_of (runs_in bs)) []) out)) i;
@@ -166,5 +166,5 @@ module _ {S : Type 0} (m : Meaning S) (w : World S) (j : Shared) (place : ℕ) (
           none-sent : made.outs ≡ []
           none-sent = answers-sent st c.id (seen_of c.load c.configuration c.outcome) mark refl ∙ ap (λ (ps : List Pending). map Urb (flat_map (λ p. answers_by p.submit (seen_of c.load c.configuration c.outcome) p.unlinker) (filter (pending_has c.id) ps))) none
 
-          none-done : made.deeds ≡ []
+          none-done : made.told ≡ []
           none-done = answers-done st c.id (seen_of c.load c.configuration c.outcome) mark refl ∙ ap (λ (ps : List Pending). map (λ p. Answer p.submit.request.number) (filter (pending_has c.id) ps)) none

@@ -26,9 +26,9 @@ use Rattle.gate_history.specs.state.Ups.{Up}
 use Rattle.gate_history.specs.declared.verdict.Verdict.{Verdict}
 use Rattle.gate_history.specs.declared.verdict.Verdict.TheVariants.{Routed, Stream}
 use Rattle.direct_run.specs.Clients.{IsMove}
-use Rattle.direct_run.specs.Moves.{World, Move, ByClient, HostReads, GateReads, Performs, Offers, Unplugs}
+use Rattle.direct_run.specs.Moves.{World, Move, ByClient, HostReads, GateReads, Performs, Offers, Unplugs, move}
 use Rattle.direct_proof.specs.Kinds.{TaggedOfKind}
-use Rattle.direct_proof.specs.Moves.{move}
+use Rattle.direct_proof.specs.Deeds.{as_deeds}
 use Rattle.direct_proof.proofs.races.Kinds.{EndsNone, HearsNoSwitch, IsRaceVerdict, ReadsReply, Stays}
 use Rattle.direct_proof.specs.Related.{Related}
 use Rattle.direct_proof.specs.Running.{stream_endpoint}
@@ -75,56 +75,56 @@ module _ {S : Type 0} (m : Meaning S) (laws : IsGadget m) (w : World S) (j : Sha
   -- ---- a submit
 
   module _ (place : ℕ) (s : UrbSubmit) (read : IsClientPacket (Urb (urb.Submit s))) where
-    race : IsRaceVerdict w.gate (verdict_of w.gate (request_of s)) → Keeps m w j (move m w (ByClient (Asked place (Urb (urb.Submit s)))))
+    race : IsRaceVerdict w.gate (verdict_of w.gate (request_of s)) → Keeps m w j (move as_deeds m w (ByClient (Asked place (Urb (urb.Submit s)))))
     race v = keep-race m laws w j (ByClient (Asked place (Urb (urb.Submit s)))) (record { read = read; new = λ a b. v }) run rel
 
     -- one that may be refused
-    streams : (v : Verdict) → verdict_of w.gate (request_of s) ≡ v → MovesStreams v → Keeps m w j (move m w (ByClient (Asked place (Urb (urb.Submit s)))))
+    streams : (v : Verdict) → verdict_of w.gate (request_of s) ≡ v → MovesStreams v → Keeps m w j (move as_deeds m w (ByClient (Asked place (Urb (urb.Submit s)))))
     streams v e moves = go w.gate.imported refl (has_number w.gate s.head.seqnum) refl
       where
-        go : (a : Bool) → w.gate.imported ≡ a → (b : Bool) → has_number w.gate s.head.seqnum ≡ b → Keeps m w j (move m w (ByClient (Asked place (Urb (urb.Submit s)))))
+        go : (a : Bool) → w.gate.imported ≡ a → (b : Bool) → has_number w.gate s.head.seqnum ≡ b → Keeps m w j (move as_deeds m w (ByClient (Asked place (Urb (urb.Submit s)))))
         go true inside false new = keep-stream m laws w j (ByClient (Asked place (Urb (urb.Submit s)))) (inside, record { read = read; new = new; verdict = v; verdict-is = e; moves = moves }) run rel
         go true inside true taken = keep-race m laws w j (ByClient (Asked place (Urb (urb.Submit s)))) (record { read = read; new = λ a b. absurd (both_ways (has_number w.gate s.head.seqnum) b taken) }) run rel
         go false out b n = keep-race m laws w j (ByClient (Asked place (Urb (urb.Submit s)))) (record { read = read; new = λ a b. absurd (both_ways w.gate.imported out a) }) run rel
 
-    keep-any-submit : Keeps m w j (move m w (ByClient (Asked place (Urb (urb.Submit s)))))
+    keep-any-submit : Keeps m w j (move as_deeds m w (ByClient (Asked place (Urb (urb.Submit s)))))
     keep-any-submit = go (verdict_of w.gate (request_of s)) refl
       where
-        routed : (x : Route) → verdict_of w.gate (request_of s) ≡ Routed x → (b : Bool) → is_change x ≡ b → Keeps m w j (move m w (ByClient (Asked place (Urb (urb.Submit s)))))
+        routed : (x : Route) → verdict_of w.gate (request_of s) ≡ Routed x → (b : Bool) → is_change x ≡ b → Keeps m w j (move as_deeds m w (ByClient (Asked place (Urb (urb.Submit s)))))
         routed x e true c = streams (Routed x) e c
         routed x e false c = race (subst (IsRaceVerdict w.gate) (sym e) (ends-none w.gate x c))
 
-        go : (v : Verdict) → verdict_of w.gate (request_of s) ≡ v → Keeps m w j (move m w (ByClient (Asked place (Urb (urb.Submit s)))))
+        go : (v : Verdict) → verdict_of w.gate (request_of s) ≡ v → Keeps m w j (move as_deeds m w (ByClient (Asked place (Urb (urb.Submit s)))))
         go (Routed x) e = routed x e (is_change x) refl
         go (Stream row) e = streams (Stream row) e tt
         go _ e = race (subst (IsRaceVerdict w.gate) (sym e) tt)
 
   -- ---- what is read
 
-  keep-hears-any : Keeps m w j (move m w HostReads)
+  keep-hears-any : Keeps m w j (move as_deeds m w HostReads)
   keep-hears-any = go w.to_host refl
     where
-      by : (p : ℕ × RedirPacket) (ps : List (ℕ × RedirPacket)) → w.to_host ≡ p ∷ ps → (b : Bool) → is_some (stream_endpoint p.1) ≡ b → Keeps m w j (move m w HostReads)
+      by : (p : ℕ × RedirPacket) (ps : List (ℕ × RedirPacket)) → w.to_host ≡ p ∷ ps → (b : Bool) → is_some (stream_endpoint p.1) ≡ b → Keeps m w j (move as_deeds m w HostReads)
       by p ps e true c = keep-stream m laws w j HostReads (subst HearsSwitch (sym e) c) run rel
       by p ps e false c = keep-race m laws w j HostReads (subst HearsNoSwitch (sym e) c) run rel
 
-      go : (ps : List (ℕ × RedirPacket)) → w.to_host ≡ ps → Keeps m w j (move m w HostReads)
+      go : (ps : List (ℕ × RedirPacket)) → w.to_host ≡ ps → Keeps m w j (move as_deeds m w HostReads)
       go [] e = keep-stream m laws w j HostReads (subst HearsSwitch (sym e) tt) run rel
       go (p ∷ ps) e = by p ps e (is_some (stream_endpoint p.1)) refl
 
-  keep-reads-any : (place : ℕ) → Keeps m w j (move m w (GateReads place))
+  keep-reads-any : (place : ℕ) → Keeps m w j (move as_deeds m w (GateReads place))
   keep-reads-any place = go j.back refl
     where
       is_in : (ep : ℕ) → 128 ≤ ep → is_in_endpoint ep ≡ true
       is_in ep h = grind (arith, h)
 
-      stream : (b : Tagged) (bs : List Tagged) → j.back ≡ b ∷ bs → ReadsStream (map on_wire (b ∷ bs)) → Keeps m w j (move m w (GateReads place))
+      stream : (b : Tagged) (bs : List Tagged) → j.back ≡ b ∷ bs → ReadsStream (map on_wire (b ∷ bs)) → Keeps m w j (move as_deeds m w (GateReads place))
       stream b bs e is = keep-stream m laws w j (GateReads place) (subst ReadsStream (sym (rel.answers ∙ ap (map on_wire) e)) is) run rel
 
-      reply : (b : Tagged) (bs : List Tagged) → j.back ≡ b ∷ bs → ReadsReply (map on_wire (b ∷ bs)) → Keeps m w j (move m w (GateReads place))
+      reply : (b : Tagged) (bs : List Tagged) → j.back ≡ b ∷ bs → ReadsReply (map on_wire (b ∷ bs)) → Keeps m w j (move as_deeds m w (GateReads place))
       reply b bs e is = keep-race m laws w j (GateReads place) (subst ReadsReply (sym (rel.answers ∙ ap (map on_wire) e)) is) run rel
 
-      by : (b : Tagged) (bs : List Tagged) → j.back ≡ b ∷ bs → TaggedOfKind w.gate.streams b → Keeps m w j (move m w (GateReads place))
+      by : (b : Tagged) (bs : List Tagged) → j.back ≡ b ∷ bs → TaggedOfKind w.gate.streams b → Keeps m w j (move as_deeds m w (GateReads place))
       by (Packed Iso ep p) bs e is = stream (Packed Iso ep p) bs e tt
       by (Packed Interrupt ep p) bs e is = stream (Packed Interrupt ep p) bs e (is_in ep is.0)
       by (Stated Iso id ep status) bs e is = stream (Stated Iso id ep status) bs e tt
@@ -136,13 +136,13 @@ module _ {S : Type 0} (m : Meaning S) (laws : IsGadget m) (w : World S) (j : Sha
       by (Plugged c) bs e is = reply (Plugged c) bs e tt
       by Bye bs e is = reply Bye bs e tt
 
-      go : (bs : List Tagged) → j.back ≡ bs → Keeps m w j (move m w (GateReads place))
+      go : (bs : List Tagged) → j.back ≡ bs → Keeps m w j (move as_deeds m w (GateReads place))
       go [] e = keep-race m laws w j (GateReads place) (subst ReadsReply (sym (rel.answers ∙ ap (map on_wire) e)) tt) run rel
       go (b ∷ bs) e = by b bs e (subst (Each (TaggedOfKind w.gate.streams)) e rel.tagged).0
 
   -- ---- any move
 
-  pub keep-any : (x : Move) → IsMove x → Keeps m w j (move m w x)
+  pub keep-any : (x : Move) → IsMove x → Keeps m w j (move as_deeds m w x)
   keep-any (ByClient (Asked place (Urb (urb.Submit s)))) is = keep-any-submit place s is
   keep-any (ByClient (Asked place (Urb (urb.Unlink u)))) is = keep-race m laws w j (ByClient (Asked place (Urb (urb.Unlink u)))) tt run rel
   keep-any (ByClient (Asked place (Op (op.ReqImport status busid)))) is = keep-race m laws w j (ByClient (Asked place (Op (op.ReqImport status busid)))) tt run rel

@@ -12,7 +12,7 @@ use Rattle.gate_history.specs.state.Sides.{refused_at, leaves, is_loss, closes_h
 use Rattle.gate_history.specs.state.State.{State}
 use Rattle.gate_history.specs.state.Ups.{is_ended}
 use Rattle.direct_run.specs.Noted.{named}
-use Rattle.direct_proof.specs.Moves.{import_deeds, submit_deeds, unlink_deeds, arrive_deeds}
+use Rattle.direct_proof.specs.Deeds.{import_deeds, submit_deeds, unlink_deeds, arrive_deeds}
 
 -- with this the client is gone, and nothing else is done
 pub record ClientGoes (st : State) (e : Effect) : Type 0 where

@@ -19,10 +19,10 @@ use Rattle.gate_history.specs.state.Ids.{last_of}
 use Rattle.gate_history.specs.write.Packets.{stops}
 use Rattle.gate_history.specs.state.Sides.{ends_client, refuses_client, turned}
 use Rattle.gate_history.specs.client.Verdict.{goes_by_id}
-use Rattle.direct_run.specs.Moves.{World, ByClient}
-use Rattle.direct_device.specs.Acting.{ClientGone}
+use Rattle.direct_run.specs.Moves.{World, ByClient, Made, gate_made, move, quiet}
+use Rattle.direct_device.specs.Acting.{Deed, ClientGone}
 use Rattle.direct_device.specs.Direct.{Waiting, no_way}
-use Rattle.direct_proof.specs.Moves.{Made, gate_made, move, quiet, when}
+use Rattle.direct_proof.specs.Deeds.{as_deeds, when}
 use Rattle.direct_proof.specs.Related.{Related}
 use Rattle.direct_proof.specs.Shared.{Shared, view}
 use Rattle.direct_proof.specs.Runs.{IsRun}
@@ -41,7 +41,7 @@ module _ {S : Type 0} (m : Meaning S) (w : World S) (j : Shared) (rel : Related 
   sound = run-sound w.gate run
 
   -- one that hasn't imported leaves nothing
-  keep-outside : (e : Effect) → ClientGoes st e → st.imported ≡ false → Keeps m w j (gate_made w (mark_as st e None))
+  keep-outside : (e : Effect) → ClientGoes st e → st.imported ≡ false → Keeps m w j (gate_made as_deeds w (mark_as st e None))
   keep-outside e l out = go st.client_over refl
     where
       downs : st.streams ≡ no_streams
@@ -70,21 +70,21 @@ module _ {S : Type 0} (m : Meaning S) (w : World S) (j : Shared) (rel : Related 
         to_host = ((λ k. w.to_host ++ (map cancel (filter (cancels e) (sound.gone out k)) ++ zip (stopped (downs k)) (stops (is_ended None) (downs k)))) ∙ append-nil w.to_host) i;
       }
 
-      made : gate_made w (mark_as st e None) ≡ record { world = new; outs = []; deeds = when (not st.client_over) ClientGone }
-      made = leaving-made w e l ∙ (λ i. record { world = same i; outs = []; deeds = when (not st.client_over) ClientGone })
+      made : gate_made as_deeds w (mark_as st e None) ≡ record { world = new; outs = []; told = when (not st.client_over) ClientGone }
+      made = leaving-made w e l ∙ (λ i. record { world = same i; outs = []; told = when (not st.client_over) ClientGone })
 
       related : Related m new j
       related = counted-related m w j w.submits over rel rel.ids (λ h. out)
 
-      go : (b : Bool) → st.client_over ≡ b → Keeps m w j (gate_made w (mark_as st e None))
-      go true over = keeps-quiet m w j j (gate_made w (mark_as st e None)) new (made ∙ (λ i. record { world = new; outs = []; deeds = when (not (over i)) ClientGone })) related refl
-      go false on = keeps-deed m w j j (gate_made w (mark_as st e None)) ClientGone (record {
-        deeds = ap (λ (x : Made S). x.deeds) made ∙ ap (λ (b : Bool). when (not b) ClientGone) on;
-        outs = ap (λ (x : Made S). x.outs) made;
-        same = ap (λ (b : Bool). cond b (record (view w j) { live = []; queue = map (λ (q : Waiting). record q { asked = true }) (view w j).queue; ran = []; streams = no_streams; way = no_way; imported = false }) (view w j)) out ∙ ap (λ (x : Made S). view x.world j) (sym made);
+      go : (b : Bool) → st.client_over ≡ b → Keeps m w j (gate_made as_deeds w (mark_as st e None))
+      go true over = keeps-quiet m w j j (gate_made as_deeds w (mark_as st e None)) new (made ∙ (λ i. record { world = new; outs = []; told = when (not (over i)) ClientGone })) related refl
+      go false on = keeps-deed m w j j (gate_made as_deeds w (mark_as st e None)) ClientGone (record {
+        deeds = ap (λ (x : Made S Deed). x.told) made ∙ ap (λ (b : Bool). when (not b) ClientGone) on;
+        outs = ap (λ (x : Made S Deed). x.outs) made;
+        same = ap (λ (b : Bool). cond b (record (view w j) { live = []; queue = map (λ (q : Waiting). record q { asked = true }) (view w j).queue; ran = []; streams = no_streams; way = no_way; imported = false }) (view w j)) out ∙ ap (λ (x : Made S Deed). view x.world j) (sym made);
         allowed = tt;
       })
-          (subst (λ (x : Made S). Related m x.world j) (sym made) related)
+          (subst (λ (x : Made S Deed). Related m x.world j) (sym made) related)
 
   -- one that was refused has left
   still-on : st.imported ≡ true → st.client_over ≡ false
@@ -94,27 +94,27 @@ module _ {S : Type 0} (m : Meaning S) (w : World S) (j : Shared) (rel : Related 
       go true h = absurd (both_ways st.imported (rel.sides.refused h) inside)
       go false h = refl
 
-  keep-parting : (e : Effect) → ClientGoes st e → Keeps m w j (gate_made w (mark_as st e None))
+  keep-parting : (e : Effect) → ClientGoes st e → Keeps m w j (gate_made as_deeds w (mark_as st e None))
   keep-parting e l = go st.imported refl
     where
-      go : (b : Bool) → st.imported ≡ b → Keeps m w j (gate_made w (mark_as st e None))
+      go : (b : Bool) → st.imported ≡ b → Keeps m w j (gate_made as_deeds w (mark_as st e None))
       go true inside = keep-gone m w j rel run e l inside (still-on inside)
       go false out = keep-outside e l out
 
-  pub keep-end : Keeps m w j (move m w (ByClient ClientLeft))
+  pub keep-end : Keeps m w j (move as_deeds m w (ByClient ClientLeft))
   keep-end = keep-parting (Ends Client) (end-leaves st)
 
-  pub keep-wrong : (place : ℕ) (why : Reason) → Keeps m w j (move m w (ByClient (ClientWrong place why)))
+  pub keep-wrong : (place : ℕ) (why : Reason) → Keeps m w j (move as_deeds m w (ByClient (ClientWrong place why)))
   keep-wrong place why = go st.client_over refl
     where
-      go : (b : Bool) → st.client_over ≡ b → Keeps m w j (move m w (ByClient (ClientWrong place why)))
-      go true over = keeps-quiet m w j j (move m w (ByClient (ClientWrong place why))) w (ap (λ (b : Bool). cond b (quiet w) (gate_made w (mark_of st (ClientWrong place why)))) over) rel refl
-      go false on = subst (Keeps m w j) (sym (ap (λ (b : Bool). cond b (quiet w) (gate_made w (mark_of st (ClientWrong place why)))) on)) (keep-parting (refused Client place why) (refusal-leaves st place why))
+      go : (b : Bool) → st.client_over ≡ b → Keeps m w j (move as_deeds m w (ByClient (ClientWrong place why)))
+      go true over = keeps-quiet m w j j (move as_deeds m w (ByClient (ClientWrong place why))) w (ap (λ (b : Bool). cond b (quiet w) (gate_made as_deeds w (mark_of st (ClientWrong place why)))) over) rel refl
+      go false on = subst (Keeps m w j) (sym (ap (λ (b : Bool). cond b (quiet w) (gate_made as_deeds w (mark_of st (ClientWrong place why)))) on)) (keep-parting (refused Client place why) (refusal-leaves st place why))
 
   -- a request that may not be made
-  pub keep-refused : (place at : ℕ) (packet : ClientPacket) (why : Reason) → meaning st (Asked place packet) ≡ refused Client at why → Keeps m w j (move m w (ByClient (Asked place packet)))
+  pub keep-refused : (place at : ℕ) (packet : ClientPacket) (why : Reason) → meaning st (Asked place packet) ≡ refused Client at why → Keeps m w j (move as_deeds m w (ByClient (Asked place packet)))
   keep-refused place at packet why means = go st.client_over refl
     where
-      go : (b : Bool) → st.client_over ≡ b → Keeps m w j (move m w (ByClient (Asked place packet)))
-      go true over = keeps-quiet m w j j (move m w (ByClient (Asked place packet))) w (ap (λ (b : Bool). cond b (quiet w) (gate_made w (mark_of st (Asked place packet)))) over) rel refl
-      go false on = subst (Keeps m w j) (sym (λ i. cond (on i) (quiet w) (gate_made w (mark_as st (means i) None)))) (keep-parting (refused Client at why) (refusal-leaves st at why))
+      go : (b : Bool) → st.client_over ≡ b → Keeps m w j (move as_deeds m w (ByClient (Asked place packet)))
+      go true over = keeps-quiet m w j j (move as_deeds m w (ByClient (Asked place packet))) w (ap (λ (b : Bool). cond b (quiet w) (gate_made as_deeds w (mark_of st (Asked place packet)))) over) rel refl
+      go false on = subst (Keeps m w j) (sym (λ i. cond (on i) (quiet w) (gate_made as_deeds w (mark_as st (means i) None)))) (keep-parting (refused Client at why) (refusal-leaves st at why))

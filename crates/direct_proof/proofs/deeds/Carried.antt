@@ -1,13 +1,13 @@
 -- The deeds of a move tell what its items tell, and carry the requests of the submits that are accepted.
-use Rattle.std.proofs.Common.{◌≡◌, ℕ, ◌&&◌, not, Bool, true, false, List, [], ◌∷◌, ◌++◌, map, filter, Option, Some, None, refl, ap, ◌∙◌, append-nil}
+use Rattle.std.proofs.Common.{◌≡◌, ℕ, ◌&&◌, not, Bool, true, false, List, [], ◌∷◌, ◌++◌, map, filter, refl, ap, ◌∙◌, append-nil}
 use Rattle.std.specs.List.{flat_map}
 use Rattle.std.proofs.lemmas.Grind.{flat_map-append}
 use Rattle.redir_host.specs.declared.write.note.HostNote.{HostNote}
 use Rattle.redir_host.specs.declared.write.note.HostNote.TheVariants as host_note
 use Rattle.redir_host.specs.declared.write.note.Offered.{Offered}
 use Rattle.redir_host.specs.declared.write.note.Offered.TheVariants as offered
-use Rattle.redir_host.specs.step.Moves.{Move}
-use Rattle.redir_host.specs.device.Performing.{told_performed_by}
+use Rattle.redir_host.specs.declared.write.note.Performed.{Performed}
+use Rattle.redir_host.specs.declared.write.note.Performed.TheVariants as performed
 use Rattle.gate_history.specs.declared.request.Request.{Request}
 use Rattle.gate_history.specs.step.Marks.{Submission, Effect, Imports, Unlinks, Arrives, Mark}
 use Rattle.gate_history.specs.state.Sides.{leaves, is_loss}
@@ -17,25 +17,25 @@ use Rattle.gate_history.specs.state.State.{State}
 use Rattle.gate_history.specs.write.Output.{present}
 use Rattle.gate_history.specs.write.Notes.{is_by_answer}
 use Rattle.direct_run.specs.declared.item.Item.{Item as Told}
+use Rattle.direct_run.specs.declared.item.Item.TheVariants as item
 use Rattle.direct_run.specs.declared.submitted.Submitted.{Submitted}
 use Rattle.direct_run.specs.Noted.{item_of_host, performed_item, offered_item}
 use Rattle.direct_device.specs.Acting.{Deed, Submit, Answer, Gone, ClientGone}
 use Rattle.direct_device.specs.Legal.{item_of as deed_item, request_in}
-use Rattle.direct_proof.specs.Moves.{import_deeds, submit_deeds, unlink_deeds, arrive_deeds, answer_deeds, deeds_of, cancel_deed, performed_deed, offered_deed, when}
+use Rattle.direct_proof.specs.Deeds.{import_deeds, submit_deeds, unlink_deeds, arrive_deeds, answer_deeds, deeds_of, host_deed, when}
 
 -- ---- at the host
 
-pub host-items : (submits : List Submitted) (ns : List HostNote) → map deed_item (flat_map (cancel_deed submits) ns) ≡ flat_map (item_of_host submits) ns
+pub host-items : (submits : List Submitted) (ns : List HostNote) → map deed_item (flat_map host_deed (flat_map (item_of_host submits) ns)) ≡ flat_map (item_of_host submits) ns
 host-items submits [] = refl
 host-items submits (host_note.Cancelled id ∷ ns) = ap (λ (l : List Told). item_of_host submits (host_note.Cancelled id) ++ l) (host-items submits ns)
 host-items submits (host_note.Refused place why ∷ ns) = host-items submits ns
 
-pub perform-items : {S : Type 0} (submits : List Submitted) (ep : ℕ) (b : Bool) (o : Option (ℕ × Move S)) → map deed_item (performed_deed submits ep o) ≡ performed_item submits ep (told_performed_by b o)
-perform-items submits ep true None = refl
-perform-items submits ep false None = refl
-perform-items submits ep b (Some r) = refl
+pub perform-items : (submits : List Submitted) (ep : ℕ) (p : Performed) → map deed_item (flat_map host_deed (performed_item submits ep p)) ≡ performed_item submits ep p
+perform-items submits ep (performed.Done id) = refl
+perform-items submits ep _ = refl
 
-pub offer-items : (ep : ℕ) (o : Offered) → map deed_item (offered_deed ep o) ≡ offered_item ep o
+pub offer-items : (ep : ℕ) (o : Offered) → map deed_item (flat_map host_deed (offered_item ep o)) ≡ offered_item ep o
 offer-items ep offered.Sent = refl
 offer-items ep _ = refl
 
@@ -90,15 +90,9 @@ mark-requests st m =
     more-lack (import_deeds e ++ submit_deeds e ++ unlink_deeds e ++ arrive_deeds e ++ answer_deeds st e ++ when lost Gone) (when left ClientGone) rs f (lacks-left left)
 
 -- what is done at the host carries none
-pub host-requests : (submits : List Submitted) (ns : List HostNote) → flat_map request_in (flat_map (cancel_deed submits) ns) ≡ []
-host-requests submits [] = refl
-host-requests submits (host_note.Cancelled id ∷ ns) = host-requests submits ns
-host-requests submits (host_note.Refused place why ∷ ns) = host-requests submits ns
-
-pub perform-requests : {S : Type 0} (submits : List Submitted) (ep : ℕ) (o : Option (ℕ × Move S)) → flat_map request_in (performed_deed submits ep o) ≡ []
-perform-requests submits ep None = refl
-perform-requests submits ep (Some r) = refl
-
-pub offer-requests : (ep : ℕ) (o : Offered) → flat_map request_in (offered_deed ep o) ≡ []
-offer-requests ep offered.Sent = refl
-offer-requests ep _ = refl
+pub host-requests : (is : List Told) → flat_map request_in (flat_map host_deed is) ≡ []
+host-requests [] = refl
+host-requests (item.Perform ep seqnum ∷ is) = host-requests is
+host-requests (item.Cancel seqnum ∷ is) = host-requests is
+host-requests (item.Offer ep ∷ is) = host-requests is
+host-requests (_ ∷ is) = host-requests is

@@ -17,7 +17,7 @@ use Rattle.direct_run.specs.declared.item.Item.{Item}
 use Rattle.direct_run.specs.Noted.{item_of}
 use Rattle.direct_device.specs.Acting.{Deed, Answer, Gone, ClientGone}
 use Rattle.direct_device.specs.Legal.{item_of as deed_item}
-use Rattle.direct_proof.specs.Moves.{import_deeds, submit_deeds, unlink_deeds, arrive_deeds, answer_deeds, deeds_of, when as when_deed}
+use Rattle.direct_proof.specs.Deeds.{import_deeds, submit_deeds, unlink_deeds, arrive_deeds, answer_deeds, deeds_of, when as when_deed}
 
 flat-ones : {X : Type 0} (f : X → Note) (g : X → Item) → ((x : X) → item_of (f x) ≡ g x ∷ []) → (xs : List X) → flat_map item_of (map f xs) ≡ map g xs
 flat-ones f g h [] = refl

@@ -15,8 +15,8 @@ use Rattle.redir_host.specs.guest.Line.{Waiting as InLine, Waits}
 use Rattle.redir_host.specs.step.Moves.{quiet as host_quiet}
 use Rattle.redir_host.specs.guest.Packets.{packet_move_by, joins}
 use Rattle.gate_history.specs.write.Bytes.{gateway_hello}
-use Rattle.direct_run.specs.Moves.{World, HostReads}
-use Rattle.direct_proof.specs.Moves.{move, quiet, host_reads, host_takes}
+use Rattle.direct_run.specs.Moves.{World, HostReads, move, quiet, host_reads, host_takes}
+use Rattle.direct_proof.specs.Deeds.{as_deeds}
 use Rattle.direct_proof.specs.Requests.{Entry, at_queue, at_device}
 use Rattle.direct_proof.specs.Shared.{Shared, in_line, lines, half_line, at_hosts, view}
 use Rattle.direct_proof.specs.Tagged.{runs_in}
@@ -47,11 +47,11 @@ greeted m w j p ps rel wire false first k = refl
 
 -- what the host reads, where it sends nothing and tells nothing
 pub host-reads : {S : Type 0} (m : Meaning S) (w : World S) (p : ℕ × RedirPacket) (ps : List (ℕ × RedirPacket)) (h : Host S) → w.to_host ≡ p ∷ ps → IsAsking p.1 → (b : Bool) → w.host.unplugged ≡ b → (b ≡ false → packet_move_by m w.host p.0 p.1 ≡ host_quiet h) →
-    move m w HostReads ≡ quiet (record w { to_host = ps; to_gate = w.to_gate ++ []; host = cond b w.host h })
+    move as_deeds m w HostReads ≡ quiet (record w { to_host = ps; to_gate = w.to_gate ++ []; host = cond b w.host h })
 host-reads {S = S} m w p ps h wire k true off by =
-    ap (host_reads m w) wire ∙ ap (host_takes (record w { to_host = ps })) ((λ i. cond (off i) (host_quiet (record w.host { guest = not-greeting w.host.guest p.1 k i })) (packet_move_by m (record w.host { guest = advanced w.host.guest p.1 }) p.0 p.1)))
+    ap (host_reads as_deeds m w) wire ∙ ap (host_takes as_deeds (record w { to_host = ps })) ((λ i. cond (off i) (host_quiet (record w.host { guest = not-greeting w.host.guest p.1 k i })) (packet_move_by m (record w.host { guest = advanced w.host.guest p.1 }) p.0 p.1)))
 host-reads {S = S} m w p ps h wire k false off by =
-    ap (host_reads m w) wire ∙ ap (host_takes (record w { to_host = ps })) ((λ i. cond (off i) (host_quiet (record w.host { guest = advanced w.host.guest p.1 })) (packet_move_by m (record w.host { guest = not-greeting w.host.guest p.1 k i }) p.0 p.1)) ∙ by refl)
+    ap (host_reads as_deeds m w) wire ∙ ap (host_takes as_deeds (record w { to_host = ps })) ((λ i. cond (off i) (host_quiet (record w.host { guest = advanced w.host.guest p.1 })) (packet_move_by m (record w.host { guest = not-greeting w.host.guest p.1 k i }) p.0 p.1)) ∙ by refl)
 
 -- ---- a request
 
@@ -148,7 +148,7 @@ after-joined {S = S} m w j p ps f t queue next rel wire first begin calm asked n
     changed = sums (any_change j.held) j.half (asks None p) ∙ (λ i. (any_change j.held || (is-change i || false)) || false) ∙ ap (λ (b : Bool). b || false) (sym (list_any-append is_change j.held (n.entry ∷ [])))
 
 pub keep-joined : {S : Type 0} (m : Meaning S) (w : World S) (j : Shared) (p : ℕ × RedirPacket) (ps : List (ℕ × RedirPacket)) (f : Form) (t : Transfer) → Related m w j → w.to_host ≡ p ∷ ps → IsAsking p.1 → w.host.guest.first ≡ false →
-    in_line p ≡ Waits 0 p.0 f t ∷ [] → begins p.1 ≡ true → IsQuiet p → ((fence : Option ℕ) → asks fence p ≡ form_changes f) → packet_move_by m w.host p.0 p.1 ≡ joins w.host p.0 f t → Keeps m w j (move m w HostReads)
+    in_line p ≡ Waits 0 p.0 f t ∷ [] → begins p.1 ≡ true → IsQuiet p → ((fence : Option ℕ) → asks fence p ≡ form_changes f) → packet_move_by m w.host p.0 p.1 ≡ joins w.host p.0 f t → Keeps m w j (move as_deeds m w HostReads)
 keep-joined {S = S} m w j p ps f t rel wire k first line begin calm asked host = go w.host.unplugged refl
   where
     n : Next j.half p.0 f t (lines ps) j.coming
@@ -166,13 +166,13 @@ keep-joined {S = S} m w j p ps f t rel wire k first line begin calm asked host =
     waits : (w' : World S) → view w j ≡ record (view w j) { queue = map at_device ((j.held ++ e ∷ []) ++ n.rest) }
     waits w' = λ i. record (view w j) { queue = map at_device (same i) }
 
-    go : (b : Bool) → w.host.unplugged ≡ b → Keeps m w j (move m w HostReads)
-    go true off = keeps-quiet m w j later (move m w HostReads) (read_world w ps w.host.queue w.host.resets_next)
+    go : (b : Bool) → w.host.unplugged ≡ b → Keeps m w j (move as_deeds m w HostReads)
+    go true off = keeps-quiet m w j later (move as_deeds m w HostReads) (read_world w ps w.host.queue w.host.resets_next)
         (host-reads m w p ps w.host wire k true off (λ z. absurd (both_ways true z refl)))
         (after-joined m w j p ps f t w.host.queue w.host.resets_next rel wire first begin calm asked n
         (rel.line.held ∙ ap (λ (b : Bool). cond b [] (map at_queue j.held)) off ∙ ap (λ (b : Bool). cond b [] (map at_queue (j.held ++ e ∷ []))) (sym off)) (λ h. absurd (both_ways w.host.unplugged h off)))
         (waits w)
-    go false on = keeps-quiet m w j later (move m w HostReads) (read_world w ps (w.host.queue ++ at_queue e ∷ []) false)
+    go false on = keeps-quiet m w j later (move as_deeds m w HostReads) (read_world w ps (w.host.queue ++ at_queue e ∷ []) false)
         (host-reads m w p ps (record w.host { queue = w.host.queue ++ at_queue e ∷ []; resets_next = false }) wire k false on
         (λ z. host ∙ ap host_quiet (joined w.host e p.0 f t (rel.line.half on ∙ sym n.reset) n.same_id n.same_form n.same_transfer)))
         (after-joined m w j p ps f t (w.host.queue ++ at_queue e ∷ []) false rel wire first begin calm asked n

@@ -20,10 +20,10 @@ use Rattle.redir_host.proofs.lemmas.state.Each.{each_front}
 use Rattle.gate_history.specs.state.Ups.{stream_of}
 use Rattle.gate_history.specs.client.Verdict.{is_wire}
 use Rattle.direct_run.specs.Noted.{number_in}
-use Rattle.direct_run.specs.Moves.{World, HostReads}
+use Rattle.direct_run.specs.Moves.{World, HostReads, Made, move, host_reads, host_takes}
 use Rattle.direct_device.specs.Direct.{Direct, number, without_first, Waiting}
-use Rattle.direct_device.specs.Acting.{Cancel, is_cancelled_by, cancelled_by, joins_ran}
-use Rattle.direct_proof.specs.Moves.{Made, move, host_reads, host_takes}
+use Rattle.direct_device.specs.Acting.{Deed, Cancel, is_cancelled_by, cancelled_by, joins_ran}
+use Rattle.direct_proof.specs.Deeds.{as_deeds}
 use Rattle.direct_proof.specs.Requests.{Entry, Coming, at_queue, at_device}
 use Rattle.direct_proof.specs.Shared.{Shared, lines, half_line, view}
 use Rattle.direct_proof.specs.Tagged.{Answered, on_wire}
@@ -43,29 +43,29 @@ use Rattle.direct_proof.proofs.heard.Taken.{wire-resets, wire-seen, Taken, taken
 
 -- ---- the move
 
-pub keep-cancel : {S : Type 0} (m : Meaning S) (w : World S) (j : Shared) (id : ℕ) (ps : List (ℕ × RedirPacket)) → Related m w j → w.to_host ≡ (id, Plain plain.Cancel) ∷ ps → w.host.guest.first ≡ false → Keeps m w j (move m w HostReads)
+pub keep-cancel : {S : Type 0} (m : Meaning S) (w : World S) (j : Shared) (id : ℕ) (ps : List (ℕ × RedirPacket)) → Related m w j → w.to_host ≡ (id, Plain plain.Cancel) ∷ ps → w.host.guest.first ≡ false → Keeps m w j (move as_deeds m w HostReads)
 keep-cancel {S = S} m w j id ps rel wire first = go w.host.unplugged refl
   where
     p : ℕ × RedirPacket
     p = (id, Plain plain.Cancel)
 
-    ignored : (w.host.unplugged ≡ false → packet_move_by m w.host p.0 p.1 ≡ host_quiet w.host) → Keeps m w j (move m w HostReads)
+    ignored : (w.host.unplugged ≡ false → packet_move_by m w.host p.0 p.1 ≡ host_quiet w.host) → Keeps m w j (move as_deeds m w HostReads)
     ignored = keep-ignored m w j p ps rel wire tt first refl refl (refl, refl, λ ep b. refl) (λ fence. refl)
 
-    takes : w.host.unplugged ≡ false → Taken id j.held → Keeps m w j (move m w HostReads)
-    takes there t = keeps-deed m w j later (move m w HostReads) (Cancel (number e.load)) (record {
-      deeds = ap (λ (x : Made S). x.deeds) moved ∙ ap (λ (n : ℕ). Cancel n ∷ []) named;
-      outs = ap (λ (x : Made S). x.outs) moved;
+    takes : w.host.unplugged ≡ false → Taken id j.held → Keeps m w j (move as_deeds m w HostReads)
+    takes there t = keeps-deed m w j later (move as_deeds m w HostReads) (Cancel (number e.load)) (record {
+      deeds = ap (λ (x : Made S Deed). x.told) moved ∙ ap (λ (n : ℕ). Cancel n ∷ []) named;
+      outs = ap (λ (x : Made S Deed). x.outs) moved;
       same = ap (cancelled_by d (number e.load)) found.0
           ∙ (λ i. record d {
             queue = (found.1 ∙ ap (map at_device) held.outside) i;
             ran = (ap (λ (o : Outcome). joins_ran d (record { load = e.load; outcome = o } ∷ [])) (sym (wire-seen e.load.request e.load.verdict 0 (ended Cancelled) t.wire)) ∙ ran-answer w.gate.imported j.back c) i;
             way = λ ep. sym (way-answer (stream_of w.gate.streams ep) ep j.back c) i;
           })
-          ∙ ap (λ (x : Made S). view x.world later) (sym moved);
+          ∙ ap (λ (x : Made S Deed). view x.world later) (sym moved);
       allowed = (not-gone m w j rel (not-lost m w j rel there), subst (λ (o : Option Waiting). IsSomeAnd o (λ q. q.asked ≡ true)) (sym found.0) (asked t.same_id));
     })
-        (subst (λ (x : Made S). Related m x.world later) (sym moved)
+        (subst (λ (x : Made S Deed). Related m x.world later) (sym moved)
         (subst (λ (l : List (ℕ × RedirPacket)). Related m (taken_world l) later) (ap (λ (l : List (ℕ × RedirPacket)). l ++ on_wire (Answered c) ∷ []) (append-nil w.to_gate))
         (after-ran m (read_world w ps w.host.queue w.host.resets_next) j t.front e t.back w.host.gadget 0 (ended Cancelled) read there held (wire-resets e.load.verdict t.wire).1 (record { configuration = refl; interfaces = refl; table = refl })
         (record { load = load; outcome = record { done = omega arith; from_device = λ h. refl; to_device = λ h. refl }; status = refl }))))
@@ -120,8 +120,8 @@ keep-cancel {S = S} m w j id ps rel wire first = go w.host.unplugged refl
         read : Related m (read_world w ps w.host.queue w.host.resets_next) j
         read = after-silent m w j p ps j.half w.host.resets_next rel wire first refl (refl, refl, λ ep b. refl) (ap (λ (l : List (ℕ × RedirPacket)). half_line j.half ++ lines l) (sym wire) ∙ rel.line.coming) (or-false (any_change j.held || j.half)) rel.line.half
 
-        moved : move m w HostReads ≡ record { world = taken_world (w.to_gate ++ on_wire (Answered c) ∷ []); outs = []; deeds = Cancel (number_in id w.submits) ∷ [] }
-        moved = ap (host_reads m w) wire ∙ ap (host_takes (record w { to_host = ps }))
+        moved : move as_deeds m w HostReads ≡ record { world = taken_world (w.to_gate ++ on_wire (Answered c) ∷ []); outs = []; told = Cancel (number_in id w.submits) ∷ [] }
+        moved = ap (host_reads as_deeds m w) wire ∙ ap (host_takes as_deeds (record w { to_host = ps }))
             (ap (λ (b : Bool). cond b (host_quiet w.host) (cancel_move w.host id (find (is_taken_by id) w.host.queue))) there
             ∙ ap (cancel_move w.host id) (ap (find (is_taken_by id)) (queue-held m w j rel there) ∙ t.found)
             ∙ (λ i. record {
@@ -130,10 +130,10 @@ keep-cancel {S = S} m w j id ps rel wire first = go w.host.unplugged refl
               notes = host_note.Cancelled id ∷ [];
             }))
 
-    go : (b : Bool) → w.host.unplugged ≡ b → Keeps m w j (move m w HostReads)
+    go : (b : Bool) → w.host.unplugged ≡ b → Keeps m w j (move as_deeds m w HostReads)
     go true off = ignored (λ h. absurd (both_ways w.host.unplugged h off))
     go false there = by (taken id j.held (each_front (λ (e : Entry). IsLoad e.load) j.held j.coming rel.line.loads))
       where
-        by : (find (is_taken_by id) (map at_queue j.held) ≡ None) ⊎ Taken id j.held → Keeps m w j (move m w HostReads)
+        by : (find (is_taken_by id) (map at_queue j.held) ≡ None) ⊎ Taken id j.held → Keeps m w j (move as_deeds m w HostReads)
         by (inl none) = ignored (λ h. ap (cancel_move w.host id) (ap (find (is_taken_by id)) (queue-held m w j rel there) ∙ none))
         by (inr t) = takes there t

@@ -23,11 +23,11 @@ use Rattle.gate_history.specs.declared.note.Note.{Note}
 use Rattle.gate_history.specs.declared.note.Note.TheVariants as note
 use Rattle.gate_history.proofs.lemmas.step.Effects.{leaving-left, leaving-answered, leaving-noted}
 use Rattle.gate_history.proofs.lemmas.Lists.{every, filter-same, filter-none}
-use Rattle.direct_run.specs.Moves.{World}
+use Rattle.direct_run.specs.Moves.{World, Made, gate_made}
 use Rattle.direct_run.specs.Noted.{named}
 use Rattle.direct_run.specs.declared.submitted.Submitted.{Submitted}
-use Rattle.direct_device.specs.Acting.{Answer, ClientGone, Gone}
-use Rattle.direct_proof.specs.Moves.{Made, gate_made, when}
+use Rattle.direct_device.specs.Acting.{Deed, Answer, ClientGone, Gone}
+use Rattle.direct_proof.specs.Deeds.{as_deeds, when}
 use Rattle.direct_proof.proofs.clients.Leaves.{ClientGoes}
 
 -- the stops of all streams, with their ids
@@ -54,8 +54,8 @@ left_world w test over = record w {
   to_host = w.to_host ++ (map cancel (filter test w.gate.live) ++ leave_stops w.gate);
 }
 
-abbrev pub left_made : {S : Type 0} → World S → (Pending → Bool) → Bool → Made S
-left_made w test over = record { world = left_world w test over; outs = []; deeds = when (not w.gate.client_over) ClientGone }
+abbrev pub left_made : {S : Type 0} → World S → (Pending → Bool) → Bool → Made S Deed
+left_made w test over = record { world = left_world w test over; outs = []; told = when (not w.gate.client_over) ClientGone }
 
 none-both : (xs ys : List Note) → flat_map named xs ≡ [] → flat_map named ys ≡ [] → flat_map named (xs ++ ys) ≡ []
 none-both xs ys h k = flat_map-append named xs ys ∙ (λ i. h i ++ k i)
@@ -100,7 +100,7 @@ module _ {S : Type 0} (w : World S) (e : Effect) (l : ClientGoes w.gate e) where
       (no-left (leaves e && not w.gate.client_over)))
       l.unnamed
 
-  pub leaving-made : gate_made w (mark_as w.gate e None) ≡ left_made w (cancels e) (turned refuses_client ends_client e w.gate.client_over)
+  pub leaving-made : gate_made as_deeds w (mark_as w.gate e None) ≡ left_made w (cancels e) (turned refuses_client ends_client e w.gate.client_over)
   leaving-made = λ i. record {
     world = record w {
       gate = record w.gate {
@@ -123,5 +123,5 @@ module _ {S : Type 0} (w : World S) (e : Effect) (l : ClientGoes w.gate e) where
       submits = (ap (λ (ns : List Submitted). w.submits ++ ns) noted ∙ append-nil w.submits) i;
     };
     outs = l.silent i ++ leaving-answered w.gate e l.gone i;
-    deeds = ((l.no_deed i ++ map (λ (p : Pending). Answer p.submit.request.number) (none-answered i)) ++ when (l.keeps i && w.gate.imported && not w.gate.lost) Gone) ++ when (l.gone i && not w.gate.client_over) ClientGone;
+    told = ((l.no_deed i ++ map (λ (p : Pending). Answer p.submit.request.number) (none-answered i)) ++ when (l.keeps i && w.gate.imported && not w.gate.lost) Gone) ++ when (l.gone i && not w.gate.client_over) ClientGone;
   }

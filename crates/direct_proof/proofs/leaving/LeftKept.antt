@@ -41,7 +41,7 @@ use Rattle.direct_device.specs.Direct.{Direct, Waiting}
 use Rattle.direct_proof.specs.StreamIds.{Controls, Fenced}
 use Rattle.direct_proof.specs.Ids.{Ids}
 use Rattle.direct_proof.specs.Loads.{IsLoad}
-use Rattle.direct_proof.specs.Moves.{when}
+use Rattle.direct_proof.specs.Deeds.{when}
 use Rattle.direct_proof.specs.Stale.{Clean}
 use Rattle.direct_proof.specs.Tagged.{runs_in}
 use Rattle.direct_proof.proofs.lists.Counts.{Each-map}

@@ -15,9 +15,9 @@ use Rattle.gate_history.specs.step.Meaning.{meaning, mark_as, fact_of}
 use Rattle.gate_history.specs.state.Facts.{tell}
 use Rattle.usb_base.specs.declared.endpoint.EpKind.{EpKind}
 use Rattle.gate_history.specs.state.Ups.{Up, stream_of}
-use Rattle.direct_run.specs.Moves.{World, GateReads}
+use Rattle.direct_run.specs.Moves.{World, GateReads, move, quiet, gate_reads, gate_made}
 use Rattle.direct_run.specs.Packets.{both_caps}
-use Rattle.direct_proof.specs.Moves.{move, quiet, gate_reads, gate_made}
+use Rattle.direct_proof.specs.Deeds.{as_deeds}
 use Rattle.direct_proof.specs.Requests.{Coming, ran_of}
 use Rattle.direct_proof.specs.Shared.{Shared, way_of, view}
 use Rattle.direct_proof.specs.Tagged.{Tagged, Greeted, Plugged, ToldTable, ToldFaces, on_wire, runs_in, ran_in, packet_in, packets_in}
@@ -46,7 +46,7 @@ pub record MeetsOn {S : Type 0} (w : World S) (j : Shared) (b : Tagged) (bs : Li
   pub plugged : list_any is_plug bs ≡ true → w.host.guest.first ≡ false
 
 module _ {S : Type 0} (m : Meaning S) (w : World S) (j : Shared) (place : ℕ) (b : Tagged) (bs : List Tagged) (caps : Caps) (rel : Related m w (with_back j (b ∷ bs))) (on : MeetsOn w j b bs caps)
-    (moved : move m w (GateReads place) ≡ quiet (told_world (record w { to_gate = map on_wire bs }) caps (fact_of (on_wire b).1))) where
+    (moved : move as_deeds m w (GateReads place) ≡ quiet (told_world (record w { to_gate = map on_wire bs }) caps (fact_of (on_wire b).1))) where
   abbrev st : State
   st = w.gate
 
@@ -90,8 +90,8 @@ module _ {S : Type 0} (m : Meaning S) (w : World S) (j : Shared) (place : ℕ) (
     farewell = farewell-read w.host b bs rel.farewell;
   }
 
-  pub keep-told : Keeps m w (with_back j (b ∷ bs)) (move m w (GateReads place))
-  keep-told = keeps-quiet m w (with_back j (b ∷ bs)) (with_back j bs) (move m w (GateReads place)) fact_world moved related
+  pub keep-told : Keeps m w (with_back j (b ∷ bs)) (move as_deeds m w (GateReads place))
+  keep-told = keeps-quiet m w (with_back j (b ∷ bs)) (with_back j bs) (move as_deeds m w (GateReads place)) fact_world moved related
       (λ i. record (view w (with_back j (b ∷ bs))) {
         ran = cond w.gate.imported (map ran_of (runs-same i)) [];
         way = λ ep. ways (stream_of st.streams ep) ep i;
@@ -103,23 +103,23 @@ module _ {S : Type 0} (m : Meaning S) (w : World S) (j : Shared) (place : ℕ) (
 
 -- the gateway reads on
 fact-moved : {S : Type 0} (m : Meaning S) (w : World S) (j : Shared) (place : ℕ) (b : Tagged) (bs : List Tagged) → Related m w (with_back j (b ∷ bs)) → meaning w.gate (Told place (sent_header w.gate.agreed (on_wire b)) (on_wire b).1) ≡ Idle →
-    move m w (GateReads place) ≡ quiet (told_world (record w { to_gate = map on_wire bs }) w.gate.agreed (fact_of (on_wire b).1))
-fact-moved m w j place b bs rel idle = ap (gate_reads w place) rel.answers
-    ∙ (λ i. cond (rel.sides.reads i) (quiet (record w { to_gate = map on_wire bs })) (gate_made (record w { to_gate = map on_wire bs }) (mark_as w.gate (idle i) (fact_of (on_wire b).1))))
+    move as_deeds m w (GateReads place) ≡ quiet (told_world (record w { to_gate = map on_wire bs }) w.gate.agreed (fact_of (on_wire b).1))
+fact-moved m w j place b bs rel idle = ap (gate_reads as_deeds w place) rel.answers
+    ∙ (λ i. cond (rel.sides.reads i) (quiet (record w { to_gate = map on_wire bs })) (gate_made as_deeds (record w { to_gate = map on_wire bs }) (mark_as w.gate (idle i) (fact_of (on_wire b).1))))
     ∙ idle-made (record w { to_gate = map on_wire bs }) (fact_of (on_wire b).1)
 
-pub keep-table : {S : Type 0} (m : Meaning S) (w : World S) (j : Shared) (place : ℕ) (t : EpTable) (bs : List Tagged) → Related m w (with_back j (ToldTable t ∷ bs)) → Keeps m w (with_back j (ToldTable t ∷ bs)) (move m w (GateReads place))
+pub keep-table : {S : Type 0} (m : Meaning S) (w : World S) (j : Shared) (place : ℕ) (t : EpTable) (bs : List Tagged) → Related m w (with_back j (ToldTable t ∷ bs)) → Keeps m w (with_back j (ToldTable t ∷ bs)) (move as_deeds m w (GateReads place))
 keep-table m w j place t bs rel = keep-told m w j place (ToldTable t) bs w.gate.agreed rel
     (record { no_ran = refl; no_packet = λ kind ep. refl; gate = rel.meets.gate; before = λ h. absurd (true≢false (sym (early-greets (ToldTable t) bs (rel.before h).back))); behind = rel.meets.behind; known = λ h. h; announced = λ a. a; tells = λ a. a; plugged = rel.meets.plugged })
     (fact-moved m w j place (ToldTable t) bs rel refl)
 
-pub keep-faces : {S : Type 0} (m : Meaning S) (w : World S) (j : Shared) (place : ℕ) (t : InterfaceInfo) (bs : List Tagged) → Related m w (with_back j (ToldFaces t ∷ bs)) → Keeps m w (with_back j (ToldFaces t ∷ bs)) (move m w (GateReads place))
+pub keep-faces : {S : Type 0} (m : Meaning S) (w : World S) (j : Shared) (place : ℕ) (t : InterfaceInfo) (bs : List Tagged) → Related m w (with_back j (ToldFaces t ∷ bs)) → Keeps m w (with_back j (ToldFaces t ∷ bs)) (move as_deeds m w (GateReads place))
 keep-faces m w j place t bs rel = keep-told m w j place (ToldFaces t) bs w.gate.agreed rel
     (record { no_ran = refl; no_packet = λ kind ep. refl; gate = rel.meets.gate; before = λ h. absurd (true≢false (sym (early-greets (ToldFaces t) bs (rel.before h).back))); behind = rel.meets.behind; known = λ h. h; announced = λ a. a; tells = λ a. a; plugged = rel.meets.plugged })
     (fact-moved m w j place (ToldFaces t) bs rel refl)
 
 -- the device's coming
-pub keep-plugged : {S : Type 0} (m : Meaning S) (w : World S) (j : Shared) (place : ℕ) (c : Connect) (bs : List Tagged) → Related m w (with_back j (Plugged c ∷ bs)) → Keeps m w (with_back j (Plugged c ∷ bs)) (move m w (GateReads place))
+pub keep-plugged : {S : Type 0} (m : Meaning S) (w : World S) (j : Shared) (place : ℕ) (c : Connect) (bs : List Tagged) → Related m w (with_back j (Plugged c ∷ bs)) → Keeps m w (with_back j (Plugged c ∷ bs)) (move as_deeds m w (GateReads place))
 keep-plugged m w j place c bs rel = keep-told m w j place (Plugged c) bs w.gate.agreed rel
     (record {
       no_ran = refl;
@@ -138,7 +138,7 @@ keep-plugged m w j place c bs rel = keep-told m w j place (Plugged c) bs w.gate.
     met = rel.meets.plugged refl
 
 -- and the host's hello
-pub keep-greeted : {S : Type 0} (m : Meaning S) (w : World S) (j : Shared) (place : ℕ) (bs : List Tagged) → Related m w (with_back j (Greeted ∷ bs)) → Keeps m w (with_back j (Greeted ∷ bs)) (move m w (GateReads place))
+pub keep-greeted : {S : Type 0} (m : Meaning S) (w : World S) (j : Shared) (place : ℕ) (bs : List Tagged) → Related m w (with_back j (Greeted ∷ bs)) → Keeps m w (with_back j (Greeted ∷ bs)) (move as_deeds m w (GateReads place))
 keep-greeted m w j place bs rel = keep-told m w j place Greeted bs both_caps rel
     (record {
       no_ran = refl;
@@ -151,8 +151,8 @@ keep-greeted m w j place bs rel = keep-told m w j place Greeted bs both_caps rel
       tells = λ a. a;
       plugged = rel.meets.plugged;
     })
-    (ap (gate_reads w place) rel.answers
-    ∙ (λ i. cond (rel.sides.reads i) (quiet (record w { to_gate = map on_wire bs })) (gate_made (record w { to_gate = map on_wire bs }) (mark_as w.gate (Agrees both_caps) None)))
+    (ap (gate_reads as_deeds w place) rel.answers
+    ∙ (λ i. cond (rel.sides.reads i) (quiet (record w { to_gate = map on_wire bs })) (gate_made as_deeds (record w { to_gate = map on_wire bs }) (mark_as w.gate (Agrees both_caps) None)))
     ∙ agrees-made (record w { to_gate = map on_wire bs }) both_caps None)
   where
     early : (Greeted ∷ bs ≡ Greeted ∷ []) ⊎ (Greeted ∷ bs ≡ []) → bs ≡ []

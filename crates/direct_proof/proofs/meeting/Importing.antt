@@ -25,9 +25,9 @@ use Rattle.gate_history.specs.declared.note.Note.TheVariants as note
 use Rattle.gate_history.proofs.lemmas.Lists.{filter-all, filter-none, flat_map-none}
 use Rattle.gate_history.proofs.lemmas.step.NoCancel.{asks-none, none-cancelled, stays-uncancelled}
 use Rattle.direct_run.specs.Noted.{named}
-use Rattle.direct_run.specs.Moves.{World, ByClient}
-use Rattle.direct_device.specs.Acting.{Import, Answer}
-use Rattle.direct_proof.specs.Moves.{Made, move, quiet, gate_made}
+use Rattle.direct_run.specs.Moves.{World, ByClient, Made, move, quiet, gate_made}
+use Rattle.direct_device.specs.Acting.{Deed, Import, Answer}
+use Rattle.direct_proof.specs.Deeds.{as_deeds}
 use Rattle.direct_proof.specs.Requests.{Debt, at_device, ran_of, debts_of}
 use Rattle.direct_proof.specs.Shared.{Shared, view}
 use Rattle.direct_proof.specs.Tagged.{runs_in}
@@ -39,7 +39,7 @@ use Rattle.direct_proof.proofs.shared.Counted.{replied_world, replied-related}
 
 -- ---- a reply
 
-replied-made : {S : Type 0} (w : World S) (reply : OpPacket) → gate_made w (mark_as w.gate (Replies reply) None) ≡ record { world = replied_world w; outs = Op reply ∷ []; deeds = [] }
+replied-made : {S : Type 0} (w : World S) (reply : OpPacket) → gate_made as_deeds w (mark_as w.gate (Replies reply) None) ≡ record { world = replied_world w; outs = Op reply ∷ []; told = [] }
 replied-made {S = S} w reply = λ i. record {
   world = record w {
     gate = record st { items = suc st.items; live = live i; abandoned = filter-all st.abandoned i };
@@ -47,7 +47,7 @@ replied-made {S = S} w reply = λ i. record {
     submits = (ap (λ (ps : List Pending). w.submits ++ flat_map named (((map (λ (p : Pending). note.Answered p.submit.request.number) ps ++ []) ++ []) ++ [])) (filter-none (present st (Replies reply))) ∙ append-nil w.submits) i;
   };
   outs = Op reply ∷ map Urb (flat_map-none (present st (Replies reply)) i);
-  deeds = (ap (λ (ps : List Pending). (map (λ (p : Pending). Answer p.submit.request.number) ps ++ []) ++ []) (filter-none (present st (Replies reply)))) i;
+  told = (ap (λ (ps : List Pending). (map (λ (p : Pending). Answer p.submit.request.number) ps ++ []) ++ []) (filter-none (present st (Replies reply)))) i;
 }
   where
     st : State
@@ -56,16 +56,16 @@ replied-made {S = S} w reply = λ i. record {
     live : live_after st (Replies reply) ≡ st.live
     live = asks-none (Replies reply) (λ s. refl) (filter (λ p. is_none (ends (Replies reply) p.submit)) (present st (Replies reply))) ∙ filter-all (present st (Replies reply)) ∙ append-nil st.live
 
-pub keep-list : {S : Type 0} (m : Meaning S) (w : World S) (j : Shared) (place status : ℕ) → Related m w j → IsSound w.gate → w.gate.imported ≡ false → Keeps m w j (move m w (ByClient (Asked place (Op (op.ReqDevlist status)))))
+pub keep-list : {S : Type 0} (m : Meaning S) (w : World S) (j : Shared) (place status : ℕ) → Related m w j → IsSound w.gate → w.gate.imported ≡ false → Keeps m w j (move as_deeds m w (ByClient (Asked place (Op (op.ReqDevlist status)))))
 keep-list {S = S} m w j place status rel sound out = go w.gate.client_over refl
   where
-    made : Made S
-    made = move m w (ByClient (Asked place (Op (op.ReqDevlist status))))
+    made : Made S Deed
+    made = move as_deeds m w (ByClient (Asked place (Op (op.ReqDevlist status))))
 
     go : (b : Bool) → w.gate.client_over ≡ b → Keeps m w j made
-    go true over = keeps-quiet m w j j made w (ap (λ (b : Bool). cond b (quiet w) (gate_made w (mark_of w.gate (Asked place (Op (op.ReqDevlist status)))))) over) rel refl
+    go true over = keeps-quiet m w j j made w (ap (λ (b : Bool). cond b (quiet w) (gate_made as_deeds w (mark_of w.gate (Asked place (Op (op.ReqDevlist status)))))) over) rel refl
     go false on = keeps-replied m w j j made (replied_world w) (list_reply w.gate.facts)
-        ((λ i. cond (on i) (quiet w) (gate_made w (mark_as w.gate (cond (out i) (refused Client place AlreadyImported) (Replies (list_reply w.gate.facts))) None))) ∙ replied-made w (list_reply w.gate.facts))
+        ((λ i. cond (on i) (quiet w) (gate_made as_deeds w (mark_as w.gate (cond (out i) (refused Client place AlreadyImported) (Replies (list_reply w.gate.facts))) None))) ∙ replied-made w (list_reply w.gate.facts))
         (replied-related m w j rel) refl
 
 -- ---- an import
@@ -73,7 +73,7 @@ keep-list {S = S} m w j place status rel sound out = go w.gate.client_over refl
 abbrev pub imported_world : {S : Type 0} → World S → World S
 imported_world w = record w { gate = record w.gate { items = suc w.gate.items; imported = true; lost = false } }
 
-imported-made : {S : Type 0} (w : World S) (reply : OpPacket) → gate_made w (mark_as w.gate (Imports reply) None) ≡ record { world = imported_world w; outs = Op reply ∷ []; deeds = Import ∷ [] }
+imported-made : {S : Type 0} (w : World S) (reply : OpPacket) → gate_made as_deeds w (mark_as w.gate (Imports reply) None) ≡ record { world = imported_world w; outs = Op reply ∷ []; told = Import ∷ [] }
 imported-made {S = S} w reply = λ i. record {
   world = record w {
     gate = record st { items = suc st.items; imported = true; lost = false; live = live i; abandoned = filter-all st.abandoned i };
@@ -81,7 +81,7 @@ imported-made {S = S} w reply = λ i. record {
     submits = (ap (λ (ps : List Pending). w.submits ++ flat_map named (((((note.Imported ∷ []) ++ map (λ (p : Pending). note.Answered p.submit.request.number) ps) ++ []) ++ []) ++ [])) (filter-none (present st (Imports reply))) ∙ append-nil w.submits) i;
   };
   outs = Op reply ∷ map Urb (flat_map-none (present st (Imports reply)) i);
-  deeds = (ap (λ (ps : List Pending). (((Import ∷ []) ++ map (λ (p : Pending). Answer p.submit.request.number) ps) ++ []) ++ []) (filter-none (present st (Imports reply)))) i;
+  told = (ap (λ (ps : List Pending). (((Import ∷ []) ++ map (λ (p : Pending). Answer p.submit.request.number) ps) ++ []) ++ []) (filter-none (present st (Imports reply)))) i;
 }
   where
     st : State
@@ -94,17 +94,17 @@ count-all : {X : Type 0} (xs : List X) → count (λ x. true) xs ≡ 0 → xs �
 count-all [] h = refl
 count-all (x ∷ xs) h = absurd (omega (arith, h))
 
-pub keep-import : {S : Type 0} (m : Meaning S) (w : World S) (j : Shared) (place status : ℕ) (busid : List ℕ) → Related m w j → IsSound w.gate → w.gate.imported ≡ false → Keeps m w j (move m w (ByClient (Asked place (Op (op.ReqImport status busid)))))
+pub keep-import : {S : Type 0} (m : Meaning S) (w : World S) (j : Shared) (place status : ℕ) (busid : List ℕ) → Related m w j → IsSound w.gate → w.gate.imported ≡ false → Keeps m w j (move as_deeds m w (ByClient (Asked place (Op (op.ReqImport status busid)))))
 keep-import {S = S} m w j place status busid rel sound out = go w.gate.client_over refl
   where
     st : State
     st = w.gate
 
-    made : Made S
-    made = move m w (ByClient (Asked place (Op (op.ReqImport status busid))))
+    made : Made S Deed
+    made = move as_deeds m w (ByClient (Asked place (Op (op.ReqImport status busid))))
 
-    moved : st.client_over ≡ false → (o : Option Connect) → importable st busid ≡ o → made ≡ gate_made w (mark_as st (imported_as st o) None)
-    moved on o e = λ i. cond (on i) (quiet w) (gate_made w (mark_as st (cond (out i) (refused Client place AlreadyImported) (imported_as st (e i))) None))
+    moved : st.client_over ≡ false → (o : Option Connect) → importable st busid ≡ o → made ≡ gate_made as_deeds w (mark_as st (imported_as st o) None)
+    moved on o e = λ i. cond (on i) (quiet w) (gate_made as_deeds w (mark_as st (cond (out i) (refused Client place AlreadyImported) (imported_as st (e i))) None))
 
     fails : st.client_over ≡ false → importable st busid ≡ None → Keeps m w j made
     fails on e = keeps-replied m w j j made (replied_world w) failed_import (moved on None e ∙ replied-made w failed_import) (replied-related m w j rel) refl
@@ -145,7 +145,7 @@ keep-import {S = S} m w j place status busid rel sound out = go w.gate.client_ov
         no-ran : runs_in j.back ≡ []
         no-ran = count-all (runs_in j.back) (let s = rel.ids.balance (λ i n. true) in omega (arith, s, zero))
 
-        done : made ≡ record { world = imported_world w; outs = Op (import_reply st.facts c) ∷ []; deeds = Import ∷ [] }
+        done : made ≡ record { world = imported_world w; outs = Op (import_reply st.facts c) ∷ []; told = Import ∷ [] }
         done = moved on (Some c) e ∙ imported-made w (import_reply st.facts c)
 
         ungone : j.gone ≡ false
@@ -189,7 +189,7 @@ keep-import {S = S} m w j place status busid rel sound out = go w.gate.client_ov
         })
 
     go : (b : Bool) → st.client_over ≡ b → Keeps m w j made
-    go true over = keeps-quiet m w j j made w (ap (λ (b : Bool). cond b (quiet w) (gate_made w (mark_of st (Asked place (Op (op.ReqImport status busid)))))) over) rel refl
+    go true over = keeps-quiet m w j j made w (ap (λ (b : Bool). cond b (quiet w) (gate_made as_deeds w (mark_of st (Asked place (Op (op.ReqImport status busid)))))) over) rel refl
     go false on = by (is_exported busid && none_of st.abandoned && is_none st.fence) refl st.facts.connect refl
       where
         by : (b : Bool) → (is_exported busid && none_of st.abandoned && is_none st.fence) ≡ b → (o : Option Connect) → st.facts.connect ≡ o → Keeps m w j made

@@ -26,10 +26,10 @@ use Rattle.gate_history.specs.declared.note.Note.TheVariants as note
 use Rattle.gate_history.proofs.lemmas.Lists.{filter-none, Each-append}
 use Rattle.gate_history.proofs.lemmas.step.NoCancel.{none-cancelled, stays-uncancelled}
 use Rattle.direct_run.specs.Noted.{named}
-use Rattle.direct_run.specs.Moves.{World, GateReads}
+use Rattle.direct_run.specs.Moves.{World, GateReads, Made, move, quiet, gate_reads, gate_made}
 use Rattle.direct_device.specs.Direct.{Live, as_submission}
-use Rattle.direct_device.specs.Acting.{Gone, Answer}
-use Rattle.direct_proof.specs.Moves.{Made, move, quiet, gate_reads, gate_made, when}
+use Rattle.direct_device.specs.Acting.{Deed, Gone, Answer}
+use Rattle.direct_proof.specs.Deeds.{as_deeds, when}
 use Rattle.direct_proof.specs.Shared.{Shared, lines, half_line, way_of, view}
 use Rattle.direct_proof.specs.Tagged.{Greeted, Bye}
 use Rattle.direct_proof.specs.Requests.{live_of, load_of}
@@ -82,9 +82,9 @@ module _ {S : Type 0} (m : Meaning S) (w : World S) (j : Shared) (place : ℕ) (
       go true h = absurd (early (rel.before h).back)
       go false h = refl
 
-  made-is : move m w (GateReads place) ≡ record { world = lost_world; outs = map Urb (map (λ (p : Pending). lost_answer p.submit p.unlinker) st.live); deeds = when st.imported Gone }
-  made-is = ap (gate_reads w place) rel.answers
-      ∙ (λ i. cond (rel.sides.reads i) (quiet (record w { to_gate = [] })) (gate_made (record w { to_gate = [] }) (mark_as st effect None)))
+  made-is : move as_deeds m w (GateReads place) ≡ record { world = lost_world; outs = map Urb (map (λ (p : Pending). lost_answer p.submit p.unlinker) st.live); told = when st.imported Gone }
+  made-is = ap (gate_reads as_deeds w place) rel.answers
+      ∙ (λ i. cond (rel.sides.reads i) (quiet (record w { to_gate = [] })) (gate_made as_deeds (record w { to_gate = [] }) (mark_as st effect None)))
       ∙ (λ i. record {
         world = record w {
           gate = record st { items = suc st.items; facts = no_facts; lost = true; live = map (ask effect) (filter-none (present st effect) i); abandoned = []; streams = no_streams; fence = None };
@@ -93,9 +93,9 @@ module _ {S : Type 0} (m : Meaning S) (w : World S) (j : Shared) (place : ℕ) (
           submits = (ap (λ (ps : List Pending). w.submits ++ flat_map named (((map (λ (p : Pending). note.Answered p.submit.request.number) ps ++ notes.when (st.imported && not st.lost) note.DeviceGone) ++ []) ++ [])) (filter-none (present st effect)) ∙ unnamed (st.imported && not st.lost)) i;
         };
         outs = map Urb (told (st.live ++ []) i);
-        deeds = (ap (λ (ps : List Pending). (map (λ (p : Pending). Answer p.submit.request.number) ps ++ when (st.imported && not st.lost) Gone) ++ []) (filter-none (present st effect)) ∙ append-nil (when (st.imported && not st.lost) Gone)) i;
+        told = (ap (λ (ps : List Pending). (map (λ (p : Pending). Answer p.submit.request.number) ps ++ when (st.imported && not st.lost) Gone) ++ []) (filter-none (present st effect)) ∙ append-nil (when (st.imported && not st.lost) Gone)) i;
       })
-      ∙ (λ i. record { world = lost_world; outs = map Urb (map (λ (p : Pending). lost_answer p.submit p.unlinker) (append-nil st.live i)); deeds = when ((ap (λ (b : Bool). st.imported && not b) there ∙ and-true st.imported) i) Gone })
+      ∙ (λ i. record { world = lost_world; outs = map Urb (map (λ (p : Pending). lost_answer p.submit p.unlinker) (append-nil st.live i)); told = when ((ap (λ (b : Bool). st.imported && not b) there ∙ and-true st.imported) i) Gone })
     where
       and-true : (b : Bool) → (b && true) ≡ b
       and-true true = refl
@@ -169,26 +169,26 @@ module _ {S : Type 0} (m : Meaning S) (w : World S) (j : Shared) (place : ℕ) (
     };
   }
 
-  pub keep-bye : Keeps m w (with_back j (Bye ∷ [])) (move m w (GateReads place))
+  pub keep-bye : Keeps m w (with_back j (Bye ∷ [])) (move as_deeds m w (GateReads place))
   keep-bye = go st.imported refl
     where
       no-ways : (ep : ℕ) → way_of (stream_of no_streams ep) ep [] ≡ []
       no-ways ep = ap (λ o. way_of o ep []) (all-down ep)
 
-      go : (b : Bool) → st.imported ≡ b → Keeps m w (with_back j (Bye ∷ [])) (move m w (GateReads place))
-      go true inside = keeps-deed m w (with_back j (Bye ∷ [])) (lost_shared true) (move m w (GateReads place)) Gone (record {
-        deeds = ap (λ (x : Made S). x.deeds) made-is ∙ ap (λ (b : Bool). when b Gone) inside;
-        outs = ap (λ (x : Made S). x.outs) made-is ∙ ap (map Urb) (same-answers st.live);
+      go : (b : Bool) → st.imported ≡ b → Keeps m w (with_back j (Bye ∷ [])) (move as_deeds m w (GateReads place))
+      go true inside = keeps-deed m w (with_back j (Bye ∷ [])) (lost_shared true) (move as_deeds m w (GateReads place)) Gone (record {
+        deeds = ap (λ (x : Made S Deed). x.told) made-is ∙ ap (λ (b : Bool). when b Gone) inside;
+        outs = ap (λ (x : Made S Deed). x.outs) made-is ∙ ap (map Urb) (same-answers st.live);
         same = (λ i. record (view w (with_back j (Bye ∷ []))) {
           live = [];
           ran = cond st.imported [] [];
           streams = no_streams;
           way = λ ep. sym (no-ways ep) i;
           gone = true;
-        }) ∙ ap (λ (x : Made S). view x.world (lost_shared true)) (sym made-is);
+        }) ∙ ap (λ (x : Made S Deed). view x.world (lost_shared true)) (sym made-is);
         allowed = (inside, not-gone m w (with_back j (Bye ∷ [])) rel there, ap (λ (b : Bool). cond b [] []) inside);
       })
-          (subst (λ (x : Made S). Related m x.world (lost_shared true)) (sym made-is) (related true (λ h. refl)))
+          (subst (λ (x : Made S Deed). Related m x.world (lost_shared true)) (sym made-is) (related true (λ h. refl)))
         where
           same-answers : (ps : List Pending) → map (λ (p : Pending). lost_answer p.submit p.unlinker) ps ≡ map (λ (l : Live). lost_answer (as_submission l.load) l.unlinker) (map live_of ps)
           same-answers [] = refl
@@ -197,8 +197,8 @@ module _ {S : Type 0} (m : Meaning S) (w : World S) (j : Shared) (place : ℕ) (
               one : (s : Submission) (by : Option ℕ) → lost_answer s by ≡ lost_answer (as_submission (load_of s)) by
               one s None = refl
               one s (Some x) = refl
-      go false out = keeps-quiet m w (with_back j (Bye ∷ [])) (lost_shared j.gone) (move m w (GateReads place)) lost_world
-          (made-is ∙ (λ i. record { world = lost_world; outs = map Urb (map (λ (p : Pending). lost_answer p.submit p.unlinker) (sound.gone out i)); deeds = when (out i) Gone }))
+      go false out = keeps-quiet m w (with_back j (Bye ∷ [])) (lost_shared j.gone) (move as_deeds m w (GateReads place)) lost_world
+          (made-is ∙ (λ i. record { world = lost_world; outs = map Urb (map (λ (p : Pending). lost_answer p.submit p.unlinker) (sound.gone out i)); told = when (out i) Gone }))
           (related j.gone (λ h. absurd (both_ways st.imported out h)))
           (λ i. record (view w (with_back j (Bye ∷ []))) {
             live = ap (map live_of) (sound.gone out) i;

@@ -14,9 +14,9 @@ use Rattle.gate_history.proofs.lemmas.Lists.{Each-append}
 use Rattle.gate_history.specs.write.Bytes.{gateway_hello}
 use Rattle.gate_history.specs.declared.facts.Facts.{Facts}
 use Rattle.gate_history.specs.state.Ups.{Up, stream_of}
-use Rattle.direct_run.specs.Moves.{World, HostReads}
+use Rattle.direct_run.specs.Moves.{World, HostReads, move, host_reads, host_takes}
 use Rattle.direct_run.specs.Packets.{both_caps}
-use Rattle.direct_proof.specs.Moves.{move, host_reads, host_takes}
+use Rattle.direct_proof.specs.Deeds.{as_deeds}
 use Rattle.direct_proof.specs.Requests.{Coming, ran_of}
 use Rattle.direct_proof.specs.Shared.{Shared, lines, half_line, at_hosts, way_of, view}
 use Rattle.direct_proof.specs.Tagged.{Tagged, Greeted, Plugged, ToldTable, ToldFaces, on_wire, runs_in, packets_in}
@@ -39,7 +39,7 @@ use Rattle.direct_proof.proofs.shared.Keeps.{Keeps, keeps-quiet}
 abbrev pub introduction : {S : Type 0} → Meaning S → S → List Tagged
 introduction m s = ToldTable (m.table s) ∷ ToldFaces (m.interfaces s) ∷ Plugged m.identity ∷ []
 
-pub keep-hello : {S : Type 0} (m : Meaning S) (w : World S) (j : Shared) → Related m w j → w.host.guest.first ≡ true → Keeps m w j (move m w HostReads)
+pub keep-hello : {S : Type 0} (m : Meaning S) (w : World S) (j : Shared) → Related m w j → w.host.guest.first ≡ true → Keeps m w j (move as_deeds m w HostReads)
 keep-hello {S = S} m w j rel fresh = go w.host.unplugged refl
   where
     early : Early w j
@@ -107,16 +107,16 @@ keep-hello {S = S} m w j rel fresh = go w.host.unplugged refl
         last true u = subst (λ bs. ByeLast (j.back ++ bs)) (sym (off u)) (subst ByeLast (sym (append-nil j.back)) rel.farewell.bye_last)
         last false u = no-bye (j.back ++ cs) (none-more is_bye j.back cs no_end ∙ rel.farewell.bye u)
 
-    go : (b : Bool) → w.host.unplugged ≡ b → Keeps m w j (move m w HostReads)
-    go true off = keeps-quiet m w j (record j { back = j.back ++ [] }) (move m w HostReads) (record w { to_host = []; host = g; to_gate = w.to_gate ++ [] })
-        (ap (host_reads m w) early.wire ∙ ap (host_takes (record w { to_host = [] })) (ap (λ (b : Bool). cond b (host_quiet g) (greets m g)) off))
+    go : (b : Bool) → w.host.unplugged ≡ b → Keeps m w j (move as_deeds m w HostReads)
+    go true off = keeps-quiet m w j (record j { back = j.back ++ [] }) (move as_deeds m w HostReads) (record w { to_host = []; host = g; to_gate = w.to_gate ++ [] })
+        (ap (host_reads as_deeds m w) early.wire ∙ ap (host_takes as_deeds (record w { to_host = [] })) (ap (λ (b : Bool). cond b (host_quiet g) (greets m g)) off))
         (after [] (λ h. refl) refl tt tt refl refl refl (subst PlugOnce (sym (append-nil j.back)) rel.meets.once) (λ k. absurd (both_ways w.host.unplugged k off)) (λ a. absurd (unknown (ap (λ bs. is_some w.gate.facts.connect || list_any is_plug bs) (sym (append-nil j.back)) ∙ a))))
         (λ i. record (view w j) {
           ran = cond w.gate.imported (map ran_of (runs_in (sym (append-nil j.back) i))) [];
           way = λ ep. way_of (stream_of w.gate.streams ep) ep (sym (append-nil j.back) i);
         })
-    go false on = keeps-quiet m w j (record j { back = j.back ++ cs }) (move m w HostReads) (record w { to_host = []; host = g; to_gate = w.to_gate ++ map on_wire cs })
-        (ap (host_reads m w) early.wire ∙ ap (host_takes (record w { to_host = [] })) (ap (λ (b : Bool). cond b (host_quiet g) (greets m g)) on))
+    go false on = keeps-quiet m w j (record j { back = j.back ++ cs }) (move as_deeds m w HostReads) (record w { to_host = []; host = g; to_gate = w.to_gate ++ map on_wire cs })
+        (ap (host_reads as_deeds m w) early.wire ∙ ap (host_takes as_deeds (record w { to_host = [] })) (ap (λ (b : Bool). cond b (host_quiet g) (greets m g)) on))
         (after cs (λ h. absurd (both_ways w.host.unplugged on h)) refl (tt, (tt, (tt, tt))) (tt, (tt, (tt, tt))) refl refl refl (order j.back early.back) (λ k. refl) (λ a. session))
         (λ i. record (view w j) {
           ran = cond w.gate.imported (map ran_of (sym (runs_in-append j.back cs ∙ append-nil (runs_in j.back)) i)) [];

@@ -16,14 +16,14 @@ use Rattle.gate_history.specs.declared.note.Note.TheVariants as note
 use Rattle.gate_history.proofs.lemmas.Lists.{filter-all, filter-none, flat_map-none}
 use Rattle.gate_history.proofs.lemmas.step.NoCancel.{asks-none, none-cancelled, stays-uncancelled}
 use Rattle.direct_run.specs.Noted.{named}
-use Rattle.direct_run.specs.Moves.{World}
+use Rattle.direct_run.specs.Moves.{World, quiet, gate_made}
 use Rattle.direct_device.specs.Acting.{Answer}
-use Rattle.direct_proof.specs.Moves.{quiet, gate_made}
+use Rattle.direct_proof.specs.Deeds.{as_deeds}
 
 abbrev pub told_world : {S : Type 0} → World S → Caps → Option Fact → World S
 told_world w caps fact = record w { gate = record w.gate { items = suc w.gate.items; facts = tell w.gate.facts fact; agreed = caps } }
 
-pub idle-made : {S : Type 0} (w : World S) (fact : Option Fact) → gate_made w (mark_as w.gate Idle fact) ≡ quiet (told_world w w.gate.agreed fact)
+pub idle-made : {S : Type 0} (w : World S) (fact : Option Fact) → gate_made as_deeds w (mark_as w.gate Idle fact) ≡ quiet (told_world w w.gate.agreed fact)
 idle-made {S = S} w fact = λ i. record {
   world = record w {
     gate = record st { items = suc st.items; facts = tell st.facts fact; live = live i; abandoned = filter-all st.abandoned i };
@@ -31,7 +31,7 @@ idle-made {S = S} w fact = λ i. record {
     submits = (ap (λ (ps : List Pending). w.submits ++ flat_map named (((map (λ (p : Pending). note.Answered p.submit.request.number) ps ++ []) ++ []) ++ [])) (filter-none (present st Idle)) ∙ append-nil w.submits) i;
   };
   outs = map Urb (flat_map-none (present st Idle) i);
-  deeds = (ap (λ (ps : List Pending). (map (λ (p : Pending). Answer p.submit.request.number) ps ++ []) ++ []) (filter-none (present st Idle))) i;
+  told = (ap (λ (ps : List Pending). (map (λ (p : Pending). Answer p.submit.request.number) ps ++ []) ++ []) (filter-none (present st Idle))) i;
 }
   where
     st : State
@@ -40,7 +40,7 @@ idle-made {S = S} w fact = λ i. record {
     live : live_after st Idle ≡ st.live
     live = asks-none Idle (λ s. refl) (filter (λ p. is_none (ends Idle p.submit)) (present st Idle)) ∙ filter-all (present st Idle) ∙ append-nil st.live
 
-pub agrees-made : {S : Type 0} (w : World S) (caps : Caps) (fact : Option Fact) → gate_made w (mark_as w.gate (Agrees caps) fact) ≡ quiet (told_world w caps fact)
+pub agrees-made : {S : Type 0} (w : World S) (caps : Caps) (fact : Option Fact) → gate_made as_deeds w (mark_as w.gate (Agrees caps) fact) ≡ quiet (told_world w caps fact)
 agrees-made {S = S} w caps fact = λ i. record {
   world = record w {
     gate = record st { items = suc st.items; facts = tell st.facts fact; agreed = caps; live = live i; abandoned = filter-all st.abandoned i };
@@ -48,7 +48,7 @@ agrees-made {S = S} w caps fact = λ i. record {
     submits = (ap (λ (ps : List Pending). w.submits ++ flat_map named (((map (λ (p : Pending). note.Answered p.submit.request.number) ps ++ []) ++ []) ++ [])) (filter-none (present st (Agrees caps))) ∙ append-nil w.submits) i;
   };
   outs = map Urb (flat_map-none (present st (Agrees caps)) i);
-  deeds = (ap (λ (ps : List Pending). (map (λ (p : Pending). Answer p.submit.request.number) ps ++ []) ++ []) (filter-none (present st (Agrees caps)))) i;
+  told = (ap (λ (ps : List Pending). (map (λ (p : Pending). Answer p.submit.request.number) ps ++ []) ++ []) (filter-none (present st (Agrees caps)))) i;
 }
   where
     st : State

@@ -13,8 +13,8 @@ use Rattle.gate_history.proofs.lemmas.Lists.{Each-append}
 use Rattle.gate_history.specs.declared.facts.Facts.{Facts}
 use Rattle.gate_history.specs.state.Ups.{Up, stream_of}
 use Rattle.usb_base.specs.declared.endpoint.EpKind.{EpKind}
-use Rattle.direct_run.specs.Moves.{World, Unplugs}
-use Rattle.direct_proof.specs.Moves.{move, quiet, host_made}
+use Rattle.direct_run.specs.Moves.{World, Unplugs, move, quiet, host_made}
+use Rattle.direct_proof.specs.Deeds.{as_deeds}
 use Rattle.direct_proof.specs.Requests.{Coming, ran_of}
 use Rattle.direct_proof.specs.Shared.{Shared, way_of, view}
 use Rattle.direct_proof.specs.Tagged.{Tagged, Greeted, Bye, on_wire, runs_in, packets_in, told}
@@ -110,24 +110,24 @@ module _ {S : Type 0} (m : Meaning S) (w : World S) (j : Shared) (rel : Related 
   ways cs none None ep = refl
   ways cs none (Some up) ep = packets_in-append up.row.kind ep j.back cs ∙ ap (λ l. packets_in up.row.kind ep j.back ++ l) (none up.row.kind ep) ∙ append-nil (packets_in up.row.kind ep j.back)
 
-  unplugs : Keeps m w j (move m w Unplugs)
+  unplugs : Keeps m w j (move as_deeds m w Unplugs)
   unplugs = go w.host.guest.first refl
     where
-      made : (b : Bool) → w.host.guest.first ≡ b → move m w Unplugs ≡ quiet (gone_world (cond b [] (Bye ∷ [])))
-      made b f = (λ i. host_made w (cond (on i) (host_quiet w.host) (record { host = gone_host; sent = cond (f i) [] ((0, Plain plain.Disconnect) ∷ []); notes = [] })) []) ∙ spread b
+      made : (b : Bool) → w.host.guest.first ≡ b → move as_deeds m w Unplugs ≡ quiet (gone_world (cond b [] (Bye ∷ [])))
+      made b f = (λ i. host_made as_deeds w (cond (on i) (host_quiet w.host) (record { host = gone_host; sent = cond (f i) [] ((0, Plain plain.Disconnect) ∷ []); notes = [] })) []) ∙ spread b
         where
-          spread : (x : Bool) → host_made w (record { host = gone_host; sent = cond x [] ((0, Plain plain.Disconnect) ∷ []); notes = [] }) [] ≡ quiet (gone_world (cond x [] (Bye ∷ [])))
+          spread : (x : Bool) → host_made as_deeds w (record { host = gone_host; sent = cond x [] ((0, Plain plain.Disconnect) ∷ []); notes = [] }) [] ≡ quiet (gone_world (cond x [] (Bye ∷ [])))
           spread true = refl
           spread false = refl
 
-      go : (b : Bool) → w.host.guest.first ≡ b → Keeps m w j (move m w Unplugs)
-      go true f = keeps-quiet m w j (gone_shared []) (move m w Unplugs) (gone_world []) (made true f)
+      go : (b : Bool) → w.host.guest.first ≡ b → Keeps m w j (move as_deeds m w Unplugs)
+      go true f = keeps-quiet m w j (gone_shared []) (move as_deeds m w Unplugs) (gone_world []) (made true f)
           (related [] refl refl refl tt tt refl (λ x. refl) (λ fence p. tt) (subst ByeLast (sym (append-nil j.back)) rel.farewell.bye_last) (λ h. refl))
           (λ i. record (view w j) {
             ran = cond w.gate.imported (map ran_of (runs_in (sym (append-nil j.back) i))) [];
             way = λ ep. way_of (stream_of w.gate.streams ep) ep (sym (append-nil j.back) i);
           })
-      go false f = keeps-quiet m w j (gone_shared (Bye ∷ [])) (move m w Unplugs) (gone_world (Bye ∷ [])) (made false f)
+      go false f = keeps-quiet m w j (gone_shared (Bye ∷ [])) (move as_deeds m w Unplugs) (gone_world (Bye ∷ [])) (made false f)
           (related (Bye ∷ []) refl refl refl (tt, tt) (tt, tt) refl (λ x. refl) (λ fence p. ((λ h. absurd (true≢false (sym h))), tt)) (bye-behind j.back (rel.farewell.bye on)) (λ h. absurd (both_ways w.host.guest.first f h)))
           (λ i. record (view w j) {
             ran = cond w.gate.imported (map ran_of (sym (runs_in-append j.back (Bye ∷ []) ∙ append-nil (runs_in j.back)) i)) [];
@@ -135,10 +135,10 @@ module _ {S : Type 0} (m : Meaning S) (w : World S) (j : Shared) (rel : Related 
           })
 
 -- it may be gone already
-pub keep-unplug : {S : Type 0} (m : Meaning S) (w : World S) (j : Shared) → Related m w j → Keeps m w j (move m w Unplugs)
+pub keep-unplug : {S : Type 0} (m : Meaning S) (w : World S) (j : Shared) → Related m w j → Keeps m w j (move as_deeds m w Unplugs)
 keep-unplug {S = S} m w j rel = go w.host.unplugged refl
   where
-    go : (b : Bool) → w.host.unplugged ≡ b → Keeps m w j (move m w Unplugs)
-    go true off = keeps-quiet m w j j (move m w Unplugs) (record w { to_gate = w.to_gate ++ [] }) (ap (λ (b : Bool). host_made w (cond b (host_quiet w.host) (record { host = record w.host { queue = []; resets_next = false; running = []; unplugged = true }; sent = cond w.host.guest.first [] ((0, Plain plain.Disconnect) ∷ []); notes = [] })) []) off)
+    go : (b : Bool) → w.host.unplugged ≡ b → Keeps m w j (move as_deeds m w Unplugs)
+    go true off = keeps-quiet m w j j (move as_deeds m w Unplugs) (record w { to_gate = w.to_gate ++ [] }) (ap (λ (b : Bool). host_made as_deeds w (cond b (host_quiet w.host) (record { host = record w.host { queue = []; resets_next = false; running = []; unplugged = true }; sent = cond w.host.guest.first [] ((0, Plain plain.Disconnect) ∷ []); notes = [] })) []) off)
         (subst (λ (l : List (ℕ × RedirPacket)). Related m (record w { to_gate = l }) j) (sym (append-nil w.to_gate)) rel) refl
     go false on = unplugs m w j rel on

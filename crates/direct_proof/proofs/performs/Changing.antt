@@ -29,10 +29,10 @@ use Rattle.gate_history.specs.state.Facts.{tell}
 use Rattle.gate_history.specs.step.Meaning.{fact_of}
 use Rattle.gate_history.specs.declared.facts.Facts.{Facts}
 use Rattle.direct_run.specs.Noted.{queue_byte, number_in}
-use Rattle.direct_run.specs.Moves.{World, Performs}
+use Rattle.direct_run.specs.Moves.{World, Performs, move, Made}
 use Rattle.direct_device.specs.Direct.{number, normal_of, change_in, Waiting, Ran, Direct, cancelled, is_at as is_first_at, without_first as without}
-use Rattle.direct_device.specs.Acting.{Perform, act, performed_first, performed_by, joins_ran, is_flushed}
-use Rattle.direct_proof.specs.Moves.{move, performs, Made}
+use Rattle.direct_device.specs.Acting.{Deed, Perform, act, performed_first, performed_by, joins_ran, is_flushed}
+use Rattle.direct_proof.specs.Deeds.{as_deeds}
 use Rattle.direct_proof.specs.Requests.{Entry, Coming, at_queue, at_device, ran_of}
 use Rattle.direct_proof.specs.Shared.{Shared, way_of, view}
 use Rattle.direct_proof.specs.Tagged.{Tagged, ToldTable, ToldFaces, Answered, on_wire, runs_in, told, packets_in}
@@ -45,7 +45,7 @@ use Rattle.direct_proof.specs.Stale.{ends}
 use Rattle.direct_proof.specs.Running.{StartsFit}
 use Rattle.direct_proof.specs.Kinds.{TaggedOfKind, OfKind, IsIn}
 use Rattle.direct_proof.proofs.answers.Loads.{performed-as}
-use Rattle.direct_proof.proofs.performs.Performs.{First, answered, perform-allowed, same-byte}
+use Rattle.direct_proof.proofs.performs.Performs.{performed_made, First, answered, perform-allowed, same-byte}
 use Rattle.direct_proof.proofs.shared.Owed.{each-parts, ids-perform}
 use Rattle.direct_proof.proofs.shared.Streaming.{starts-none}
 use Rattle.direct_proof.proofs.shared.Backs.{told-append, clean-append}
@@ -113,8 +113,8 @@ module _ {S : Type 0} (m : Meaning S) (laws : IsGadget m) (w : World S) (j : Sha
   first = greeted-held m w j f.front e f.back rel held.is w.host.guest.first refl
 
   -- the move
-  moved : move m w (Performs ep) ≡ record { world = sent_world w done.0 left running cs; outs = []; deeds = Perform (queue_byte ep) (number_in e.id w.submits) ∷ [] }
-  moved = ap (performs w ep) (
+  moved : move as_deeds m w (Performs ep) ≡ record { world = sent_world w done.0 left running cs; outs = []; told = Perform (queue_byte ep) (number_in e.id w.submits) ∷ [] }
+  moved = ap (performed_made w ep) (
       performed-first m w ep (Some q) there here
       ∙ (λ i. with_id (f.is i) (performs_any m (record w.host { queue = (ap (without_first (is_at ep)) (queue-held m w j rel there) ∙ f.host_rest) i }) (f.is i)))
       ∙ ap (with_id (at_queue e)) (performed-as m rested e ∙ (λ i. does m rested (at_queue e) (change i) (ready i))
@@ -271,11 +271,11 @@ module _ {S : Type 0} (m : Meaning S) (laws : IsGadget m) (w : World S) (j : Sha
       ways None k = refl
       ways (Some up) k = packets_in-append up.row.kind k j.back cs ∙ ap (λ l. packets_in up.row.kind k j.back ++ l) (packets-flushed up.row.kind k gone (ToldTable (m.table done.0) ∷ ToldFaces (m.interfaces done.0) ∷ Answered c ∷ [])) ∙ append-nil (packets_in up.row.kind k j.back)
 
-  pub keep-changed : Keeps m w j (move m w (Performs ep))
-  keep-changed = keeps-deed m w j (sent_shared j left cs) (move m w (Performs ep)) (Perform (queue_byte ep) (number e.load)) (record {
-    deeds = ap (λ (x : Made S). x.deeds) moved ∙ ap (λ (n : ℕ). Perform (queue_byte ep) n ∷ []) named;
-    outs = ap (λ (x : Made S). x.outs) moved;
-    same = device ∙ ap (λ (x : Made S). view x.world (sent_shared j left cs)) (sym moved);
+  pub keep-changed : Keeps m w j (move as_deeds m w (Performs ep))
+  keep-changed = keeps-deed m w j (sent_shared j left cs) (move as_deeds m w (Performs ep)) (Perform (queue_byte ep) (number e.load)) (record {
+    deeds = ap (λ (x : Made S Deed). x.told) moved ∙ ap (λ (n : ℕ). Perform (queue_byte ep) n ∷ []) named;
+    outs = ap (λ (x : Made S Deed). x.outs) moved;
+    same = device ∙ ap (λ (x : Made S Deed). view x.world (sent_shared j left cs)) (sym moved);
     allowed = perform-allowed m w j ep q f done (not-gone m w j rel (not-lost m w j rel there)) ready;
   })
-      (subst (λ (x : Made S). Related m x.world (sent_shared j left cs)) (sym moved) related)
+      (subst (λ (x : Made S Deed). Related m x.world (sent_shared j left cs)) (sym moved) related)

@@ -15,26 +15,27 @@ use Rattle.model_device.specs.Gadget.{IsGadget, SameFacts, IsNamed}
 use Rattle.model_device.specs.Transfer.{IsOutcome, asks_change}
 use Rattle.redir_host.specs.guest.Asking.{routed}
 use Rattle.redir_host.specs.declared.state.request.Request.{Request as HostRequest}
+use Rattle.redir_host.specs.step.Moves.{quiet as host_quiet}
 use Rattle.usb_base.specs.Firsts.{without_first}
 use Rattle.redir_host.specs.state.Queues.{queue_of, is_at}
-use Rattle.redir_host.specs.device.Performing.{performed, first_performed, performs_any, does, with_id}
+use Rattle.redir_host.specs.device.Performing.{performed, first_performed, performs_any, told_performed_by, does, with_id}
 use Rattle.gate_history.specs.declared.verdict.Pipe.{Pipe}
 use Rattle.gate_history.specs.declared.verdict.Pipe.TheVariants.{Control, Bulk, InterruptOut}
 use Rattle.gate_history.specs.declared.verdict.Verdict.{Verdict}
 use Rattle.gate_history.specs.declared.verdict.Verdict.TheVariants.{Now, Wire, Routed, IsoOut, Stream}
 use Rattle.gate_history.specs.client.Verdict.{changes}
-use Rattle.direct_run.specs.Noted.{queue_byte, number_in}
-use Rattle.direct_run.specs.Moves.{World, Performs}
+use Rattle.direct_run.specs.Noted.{queue_byte, number_in, performed_item}
+use Rattle.direct_run.specs.Moves.{World, Performs, Made, host_made, move, quiet}
 use Rattle.direct_device.specs.Direct.{Load, number, normal_of, normal_by, change_in}
-use Rattle.direct_device.specs.Acting.{Perform}
-use Rattle.direct_proof.specs.Moves.{Made, move, performs}
+use Rattle.direct_device.specs.Acting.{Deed, Perform}
+use Rattle.direct_proof.specs.Deeds.{as_deeds}
 use Rattle.direct_proof.specs.Requests.{Entry, at_queue}
 use Rattle.direct_proof.specs.Shared.{Shared, view}
 use Rattle.direct_proof.specs.Tagged.{Answered}
 use Rattle.direct_proof.specs.Related.{Related}
 use Rattle.direct_proof.specs.Loads.{IsLoad, IsComing, FitsPipe, FitsRoute, FitsVerdict}
 use Rattle.direct_proof.proofs.answers.Loads.{performed-as}
-use Rattle.direct_proof.proofs.performs.Performs.{First, host-performs, device-performs, perform-allowed, performed_world, after_perform, answered}
+use Rattle.direct_proof.proofs.performs.Performs.{performed_made, First, host-performs, device-performs, perform-allowed, performed_world, after_perform, answered}
 use Rattle.direct_proof.proofs.shared.Owed.{each-parts}
 use Rattle.direct_proof.proofs.shared.Ran.{Held, held-parts, after-ran}
 use Rattle.direct_proof.proofs.shared.Sending.{sent_world, sent_shared}
@@ -86,8 +87,12 @@ no-change (Routed x) h = go (is_route_change x) h
     go false z = refl
 
 -- nothing is performed
-pub keep-still : {S : Type 0} (m : Meaning S) (w : World S) (j : Shared) (ep : ℕ) → Related m w j → performed m w.host ep ≡ None → Keeps m w j (move m w (Performs ep))
-keep-still {S = S} m w j ep rel none = keeps-quiet m w j j (move m w (Performs ep)) (record w { to_gate = w.to_gate ++ [] }) (ap (performs w ep) none)
+still-made : {S : Type 0} (w : World S) (ep : ℕ) (unplugged : Bool) → host_made as_deeds w (host_quiet w.host) (performed_item w.submits ep (told_performed_by {S} unplugged None)) ≡ quiet (record w { to_gate = w.to_gate ++ [] })
+still-made w ep true = refl
+still-made w ep false = refl
+
+pub keep-still : {S : Type 0} (m : Meaning S) (w : World S) (j : Shared) (ep : ℕ) → Related m w j → performed m w.host ep ≡ None → Keeps m w j (move as_deeds m w (Performs ep))
+keep-still {S = S} m w j ep rel none = keeps-quiet m w j j (move as_deeds m w (Performs ep)) (record w { to_gate = w.to_gate ++ [] }) (ap (performed_made w ep) none ∙ still-made w ep w.host.unplugged)
     (subst (λ (l : List (ℕ × RedirPacket)). Related m (record w { to_gate = l }) j) (sym (append-nil w.to_gate)) rel) refl
 
 -- the first of a queue, as the host finds it
@@ -98,17 +103,17 @@ pub performed-first : {S : Type 0} (m : Meaning S) (w : World S) (ep : ℕ) (o :
 performed-first m w ep o there found = ap (λ (b : Bool). cond b None (first_performed m w.host ep (find (is_at ep) w.host.queue))) there ∙ ap (first_performed m w.host ep) found
 
 pub keep-plain : {S : Type 0} (m : Meaning S) → IsGadget m → (w : World S) (j : Shared) (ep : ℕ) (q : HostRequest) → Related m w j → w.host.unplugged ≡ false → find (is_at ep) w.host.queue ≡ Some q → (f : First (queue_of ep) j.held j.coming q) →
-    change_in f.entry.load.verdict ≡ None → (r : Option (S × Outcome)) → m.perform w.host.gadget (normal_of f.entry.load) ≡ r → Keeps m w j (move m w (Performs ep))
+    change_in f.entry.load.verdict ≡ None → (r : Option (S × Outcome)) → m.perform w.host.gadget (normal_of f.entry.load) ≡ r → Keeps m w j (move as_deeds m w (Performs ep))
 keep-plain {S = S} m laws w j ep q rel there found f plain None ready = keep-still m w j ep rel (performed-first m w ep (Some q) there found
     ∙ (λ i. with_id (f.is i) (performs_any m (record w.host { queue = without_first (is_at ep) w.host.queue }) (f.is i)))
     ∙ ap (with_id (at_queue f.entry)) (performed-as m (record w.host { queue = without_first (is_at ep) w.host.queue }) f.entry ∙ ap (does m (record w.host { queue = without_first (is_at ep) w.host.queue }) (at_queue f.entry) (change_in f.entry.load.verdict)) ready))
-keep-plain {S = S} m laws w j ep q rel there found f plain (Some done) ready = keeps-deed m w j later (move m w (Performs ep)) (Perform (queue_byte ep) (number e.load)) (record {
-  deeds = ap (λ (x : Made S). x.deeds) moved ∙ ap (λ (n : ℕ). Perform (queue_byte ep) n ∷ []) named;
-  outs = ap (λ (x : Made S). x.outs) moved;
-  same = device-performs m w j ep q f done plain ready ∙ ap (λ (x : Made S). view x.world later) (sym moved);
+keep-plain {S = S} m laws w j ep q rel there found f plain (Some done) ready = keeps-deed m w j later (move as_deeds m w (Performs ep)) (Perform (queue_byte ep) (number e.load)) (record {
+  deeds = ap (λ (x : Made S Deed). x.told) moved ∙ ap (λ (n : ℕ). Perform (queue_byte ep) n ∷ []) named;
+  outs = ap (λ (x : Made S Deed). x.outs) moved;
+  same = device-performs m w j ep q f done plain ready ∙ ap (λ (x : Made S Deed). view x.world later) (sym moved);
   allowed = perform-allowed m w j ep q f done (not-gone m w j rel (not-lost m w j rel there)) ready;
 })
-    (subst (λ (x : Made S). Related m x.world later) (sym moved)
+    (subst (λ (x : Made S Deed). Related m x.world later) (sym moved)
     (subst (λ (l : List Entry). Related m (sent_world w done.0 l w.host.running (Answered (answered m e done) ∷ [])) (sent_shared j l (Answered (answered m e done) ∷ []))) (sym f.rest-is)
     (after-ran m w j f.front e f.back done.0 (m.configuration done.0) done.1 rel there held (no-change e.load.verdict plain) facts came)))
   where
@@ -121,7 +126,7 @@ keep-plain {S = S} m laws w j ep q rel there found f plain (Some done) ready = k
     later : Shared
     later = after_perform m j f.rest e done
 
-    moved : move m w (Performs ep) ≡ record { world = performed_world m w f.rest e done; outs = []; deeds = Perform (queue_byte ep) (number_in e.id w.submits) ∷ [] }
+    moved : move as_deeds m w (Performs ep) ≡ record { world = performed_world m w f.rest e done; outs = []; told = Perform (queue_byte ep) (number_in e.id w.submits) ∷ [] }
     moved = host-performs m w j.held j.coming ep q f done there (queue-held m w j rel there) found plain ready
 
     named : number_in e.id w.submits ≡ number e.load

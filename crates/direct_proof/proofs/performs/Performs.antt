@@ -10,20 +10,21 @@ use Rattle.control_route.specs.declared.route.Route.TheVariants as route
 use Rattle.model_device.specs.Meaning.{Meaning}
 use Rattle.redir_host.specs.declared.state.host.Host.{Host}
 use Rattle.redir_host.specs.declared.state.request.Request.{Request as HostRequest}
+use Rattle.redir_host.specs.step.Moves.{Move as HostMove}
 use Rattle.usb_base.specs.Firsts.{without_first}
 use Rattle.redir_host.specs.state.Queues.{queue_of, is_at}
-use Rattle.redir_host.specs.device.Performing.{does, performs_any, first_performed, with_id}
+use Rattle.redir_host.specs.device.Performing.{does, performs_any, first_performed, perform_move_by, told_performed_by, with_id}
 use Rattle.gate_history.proofs.lemmas.Lists.{filter-all, filter-none}
 use Rattle.gate_history.specs.state.Ups.{stream_of}
 use Rattle.gate_history.specs.declared.verdict.Verdict.{Verdict}
 use Rattle.gate_history.specs.declared.verdict.Verdict.TheVariants.{Routed}
 use Rattle.gate_history.specs.declared.request.Request.{Request}
-use Rattle.direct_run.specs.Noted.{queue_byte, number_in}
-use Rattle.direct_run.specs.Moves.{World, Performs}
+use Rattle.direct_run.specs.Noted.{queue_byte, number_in, performed_item}
+use Rattle.direct_run.specs.Moves.{Made, World, Performs, host_made, move}
 use Rattle.direct_device.specs.Direct.{Load, Waiting, Direct, number, normal_of, normal_by, change_in, cancelled, is_at as is_first_at, without_first as without, is_number}
-use Rattle.direct_device.specs.Acting.{Perform, act, performed_first, performed_by, is_flushed, joins_ran}
+use Rattle.direct_device.specs.Acting.{Deed, Perform, act, performed_first, performed_by, is_flushed, joins_ran}
 use Rattle.direct_device.specs.Legal.{IsAllowed}
-use Rattle.direct_proof.specs.Moves.{move, performs}
+use Rattle.direct_proof.specs.Deeds.{as_deeds}
 use Rattle.direct_proof.specs.Requests.{Entry, Coming, at_queue, at_device, ran_of, queued_transfer}
 use Rattle.direct_proof.specs.Tagged.{Answered, on_wire}
 use Rattle.direct_proof.specs.Shared.{Shared, view}
@@ -120,11 +121,15 @@ performed_world m w rest e done = record w {
   to_gate = w.to_gate ++ on_wire (Answered (answered m e done)) ∷ [];
 }
 
+-- the move, by what is performed
+abbrev pub performed_made : {S : Type 0} → World S → ℕ → Option (ℕ × HostMove S) → Made S Deed
+performed_made w ep r = host_made as_deeds w (perform_move_by w.host r) (performed_item w.submits ep (told_performed_by w.host.unplugged r))
+
 pub host-performs : {S : Type 0} (m : Meaning S) (w : World S) (es more : List Entry) (ep : ℕ) (q : HostRequest) (f : First (queue_of ep) es more q) (done : S × Outcome) →
     w.host.unplugged ≡ false → w.host.queue ≡ map at_queue es → find (is_at ep) w.host.queue ≡ Some q → change_in f.entry.load.verdict ≡ None → m.perform w.host.gadget (normal_of f.entry.load) ≡ Some done →
-    move m w (Performs ep) ≡ record { world = performed_world m w f.rest f.entry done; outs = []; deeds = Perform (queue_byte ep) (number_in f.entry.id w.submits) ∷ [] }
+    move as_deeds m w (Performs ep) ≡ record { world = performed_world m w f.rest f.entry done; outs = []; told = Perform (queue_byte ep) (number_in f.entry.id w.submits) ∷ [] }
 host-performs {S = S} m w es more ep q f done plugged held found plain ready =
-    ap (performs w ep) (
+    ap (performed_made w ep) (
     ap (λ (b : Bool). cond b None (first_performed m w.host ep (find (is_at ep) w.host.queue))) plugged
     ∙ ap (first_performed m w.host ep) found
     ∙ (λ i. with_id (f.is i) (performs_any m (record w.host { queue = (ap (without_first (is_at ep)) held ∙ f.host_rest) i }) (f.is i)))

@@ -20,41 +20,41 @@ use Rattle.gate_history.proofs.lemmas.state.Sound.{state-sound}
 use Rattle.gate_history.proofs.lemmas.step.Runs.{state-run}
 use Rattle.gate_history.proofs.lemmas.state.Flights.{item-fresh}
 use Rattle.direct_run.specs.World.{first_id}
-use Rattle.direct_run.specs.Moves.{World, Move, ByClient, HostReads, GateReads, Performs, Offers, Unplugs}
+use Rattle.direct_run.specs.Moves.{World, Move, ByClient, HostReads, GateReads, Performs, Offers, Unplugs, move, quiet, gate_move, gate_made, gate_reads, host_reads, runs_from}
 use Rattle.direct_proof.proofs.submits.Submitting.{AreBefore}
 use Rattle.direct_proof.proofs.shared.Found.{before, unmap-each}
 use Rattle.direct_proof.proofs.shared.New.{IsDrawn, not-zero}
-use Rattle.direct_proof.specs.Moves.{move, quiet, gate_move, gate_made, gate_reads, host_reads}
-use Rattle.direct_proof.specs.Runs.{runs_from, IsRun}
+use Rattle.direct_proof.specs.Deeds.{as_deeds}
+use Rattle.direct_proof.specs.Runs.{IsRun}
 
 pub run-sound : (st : State) → IsRun st → IsSound st
 run-sound st r = subst IsSound (state-run first_id r.0 ∙ sym r.1) (state-sound first_id r.0)
 
-step-is : {S : Type 0} (w : World S) (x : GateItem) → (gate_move w x).world.gate ≡ step w.gate x
-step-is w x = elim (is_left_out w.gate x) as (λ b. (cond b (quiet w) (gate_made w (mark_of w.gate x))).world.gate ≡ cond b w.gate (after w.gate (mark_of w.gate x))) [ true ↦ refl | false ↦ refl ]
+step-is : {S : Type 0} (w : World S) (x : GateItem) → (gate_move as_deeds w x).world.gate ≡ step w.gate x
+step-is w x = elim (is_left_out w.gate x) as (λ b. (cond b (quiet w) (gate_made as_deeds w (mark_of w.gate x))).world.gate ≡ cond b w.gate (after w.gate (mark_of w.gate x))) [ true ↦ refl | false ↦ refl ]
 
-stepped : {S : Type 0} (w : World S) (x : GateItem) → IsRun w.gate → IsRun (gate_move w x).world.gate
+stepped : {S : Type 0} (w : World S) (x : GateItem) → IsRun w.gate → IsRun (gate_move as_deeds w x).world.gate
 stepped w x r = (x ∷ r.0, step-is w x ∙ ap (λ (st : State). step st x) r.1)
 
-pub move-run : {S : Type 0} (m : Meaning S) (w : World S) (x : Move) → IsRun w.gate → IsRun (move m w x).world.gate
+pub move-run : {S : Type 0} (m : Meaning S) (w : World S) (x : Move) → IsRun w.gate → IsRun (move as_deeds m w x).world.gate
 move-run m w (ByClient x) r = stepped w x r
 move-run {S = S} m w HostReads r = go w.to_host
   where
-    go : (ps : List (ℕ × RedirPacket)) → IsRun (host_reads m w ps).world.gate
+    go : (ps : List (ℕ × RedirPacket)) → IsRun (host_reads as_deeds m w ps).world.gate
     go [] = r
     go (p ∷ ps) = r
 move-run {S = S} m w (GateReads place) r = go w.to_gate
   where
-    go : (ps : List (ℕ × RedirPacket)) → IsRun (gate_reads w place ps).world.gate
+    go : (ps : List (ℕ × RedirPacket)) → IsRun (gate_reads as_deeds w place ps).world.gate
     go [] = r
     go (p ∷ ps) = stepped (record w { to_gate = ps }) (Told place (sent_header w.gate.agreed p) p.1) r
 move-run m w (Performs ep) r = r
 move-run m w (Offers ep) r = r
 move-run m w Unplugs r = r
 
-pub runs-run : {S : Type 0} (m : Meaning S) (w : World S) → IsRun w.gate → (xs : List Move) → IsRun (runs_from m w xs).world.gate
+pub runs-run : {S : Type 0} (m : Meaning S) (w : World S) → IsRun w.gate → (xs : List Move) → IsRun (runs_from as_deeds m w xs).world.gate
 runs-run m w r [] = r
-runs-run m w r (x ∷ xs) = move-run m (runs_from m w xs).world x (runs-run m w r xs)
+runs-run m w r (x ∷ xs) = move-run m (runs_from as_deeds m w xs).world x (runs-run m w r xs)
 
 -- the ids that an item draws are in flight nowhere
 live-submits : (ms : List Mark) (ss : List Submission) → map (λ (p : Pending). p.submit) (map (pending ms) ss) ≡ ss

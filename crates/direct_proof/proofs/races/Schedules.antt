@@ -17,10 +17,10 @@ use Rattle.gate_history.specs.state.Sound.{IsSound}
 use Rattle.gate_history.specs.step.Meaning.{refused, imported_as, importable}
 use Rattle.gate_history.specs.step.Marks.{Unlinks, Replies}
 use Rattle.gate_history.specs.client.Replies.{list_reply}
-use Rattle.direct_run.specs.Moves.{World, Move, ByClient, HostReads, GateReads, Performs, Offers, Unplugs}
+use Rattle.direct_run.specs.Moves.{World, Move, ByClient, HostReads, GateReads, Performs, Offers, Unplugs, move, gate_reads}
 use Rattle.direct_proof.specs.Runs.{IsRun}
 use Rattle.direct_proof.specs.Shared.{Shared}
-use Rattle.direct_proof.specs.Moves.{move, gate_reads}
+use Rattle.direct_proof.specs.Deeds.{as_deeds}
 use Rattle.direct_proof.specs.Tagged.{Tagged, Greeted, Plugged, ToldTable, ToldFaces, Answered, Packed, Stated, Bye, on_wire}
 use Rattle.direct_proof.specs.Related.{Related}
 use Rattle.direct_proof.specs.Cancels.{IsAsking}
@@ -42,13 +42,13 @@ use Rattle.direct_proof.proofs.clients.Parting.{keep-end, keep-wrong, keep-refus
 
 -- ---- the moves
 
-keep-reads : {S : Type 0} (m : Meaning S) (w : World S) (j : Shared) (place : ℕ) → Related m w j → IsSound w.gate → ReadsReply w.to_gate → Keeps m w j (move m w (GateReads place))
+keep-reads : {S : Type 0} (m : Meaning S) (w : World S) (j : Shared) (place : ℕ) → Related m w j → IsSound w.gate → ReadsReply w.to_gate → Keeps m w j (move as_deeds m w (GateReads place))
 keep-reads {S = S} m w j place rel sound reply = go j.back refl
   where
     low : (ep : ℕ) → 128 ≤ ep → is_in_endpoint ep ≡ false → ⊥
     low ep h k = grind (arith, h, k)
 
-    by : (b : Tagged) (bs : List Tagged) → Related m w (with_back j (b ∷ bs)) → IsReply (on_wire b).1 → Keeps m w (with_back j (b ∷ bs)) (move m w (GateReads place))
+    by : (b : Tagged) (bs : List Tagged) → Related m w (with_back j (b ∷ bs)) → IsReply (on_wire b).1 → Keeps m w (with_back j (b ∷ bs)) (move as_deeds m w (GateReads place))
     by (Answered c) bs r k = keep-answer m w j place c bs r sound
     by (ToldTable t) bs r k = keep-table m w j place t bs r
     by (ToldFaces t) bs r k = keep-faces m w j place t bs r
@@ -58,44 +58,44 @@ keep-reads {S = S} m w j place rel sound reply = go j.back refl
     by (Packed Interrupt ep p) bs r k = absurd (low ep r.tagged.0.0 k)
     by (Stated Iso id ep status) bs r k = absurd k
     by (Stated Interrupt id ep status) bs r k = absurd k
-    by Bye bs r k = subst (λ (l : List Tagged). Keeps m w (with_back j (Bye ∷ l)) (move m w (GateReads place))) (sym (r.farewell.bye_last.0 refl)) (keep-bye m w j place (subst (λ (l : List Tagged). Related m w (with_back j (Bye ∷ l))) (r.farewell.bye_last.0 refl) r) sound)
+    by Bye bs r k = subst (λ (l : List Tagged). Keeps m w (with_back j (Bye ∷ l)) (move as_deeds m w (GateReads place))) (sym (r.farewell.bye_last.0 refl)) (keep-bye m w j place (subst (λ (l : List Tagged). Related m w (with_back j (Bye ∷ l))) (r.farewell.bye_last.0 refl) r) sound)
 
-    go : (bs : List Tagged) → j.back ≡ bs → Keeps m w j (move m w (GateReads place))
-    go [] e = keeps-quiet m w j j (move m w (GateReads place)) w (ap (gate_reads w place) (rel.answers ∙ ap (map on_wire) e)) rel refl
-    go (b ∷ bs) e = subst (λ (x : Shared). Keeps m w x (move m w (GateReads place))) (λ i. record j { back = sym e i })
+    go : (bs : List Tagged) → j.back ≡ bs → Keeps m w j (move as_deeds m w (GateReads place))
+    go [] e = keeps-quiet m w j j (move as_deeds m w (GateReads place)) w (ap (gate_reads as_deeds w place) (rel.answers ∙ ap (map on_wire) e)) rel refl
+    go (b ∷ bs) e = subst (λ (x : Shared). Keeps m w x (move as_deeds m w (GateReads place))) (λ i. record j { back = sym e i })
         (by b bs (subst (Related m w) (λ i. record j { back = e i }) rel) (subst ReadsReply (rel.answers ∙ ap (map on_wire) e) reply))
 
 -- ---- a client's requests, where they may be made and where not
 
-keep-asked-back : {S : Type 0} (m : Meaning S) (w : World S) (j : Shared) (place : ℕ) (u : UrbUnlink) → Related m w j → IsRun w.gate → Keeps m w j (move m w (ByClient (Asked place (Urb (urb.Unlink u)))))
+keep-asked-back : {S : Type 0} (m : Meaning S) (w : World S) (j : Shared) (place : ℕ) (u : UrbUnlink) → Related m w j → IsRun w.gate → Keeps m w j (move as_deeds m w (ByClient (Asked place (Urb (urb.Unlink u)))))
 keep-asked-back {S = S} m w j place u rel run = go w.gate.imported refl
   where
-    go : (b : Bool) → w.gate.imported ≡ b → Keeps m w j (move m w (ByClient (Asked place (Urb (urb.Unlink u)))))
+    go : (b : Bool) → w.gate.imported ≡ b → Keeps m w j (move as_deeds m w (ByClient (Asked place (Urb (urb.Unlink u)))))
     go true h = keep-unlink m w j place u rel (run-sound w.gate run) h
     go false h = keep-refused m w j rel run place place (Urb (urb.Unlink u)) NotImported (ap (λ (b : Bool). cond (not b) (refused Client place NotImported) (Unlinks u.head.seqnum u.target)) h)
 
-keep-imports : {S : Type 0} (m : Meaning S) (w : World S) (j : Shared) (place status : ℕ) (busid : List ℕ) → Related m w j → IsRun w.gate → Keeps m w j (move m w (ByClient (Asked place (Op (op.ReqImport status busid)))))
+keep-imports : {S : Type 0} (m : Meaning S) (w : World S) (j : Shared) (place status : ℕ) (busid : List ℕ) → Related m w j → IsRun w.gate → Keeps m w j (move as_deeds m w (ByClient (Asked place (Op (op.ReqImport status busid)))))
 keep-imports {S = S} m w j place status busid rel run = go w.gate.imported refl
   where
-    go : (b : Bool) → w.gate.imported ≡ b → Keeps m w j (move m w (ByClient (Asked place (Op (op.ReqImport status busid)))))
+    go : (b : Bool) → w.gate.imported ≡ b → Keeps m w j (move as_deeds m w (ByClient (Asked place (Op (op.ReqImport status busid)))))
     go true h = keep-refused m w j rel run place place (Op (op.ReqImport status busid)) AlreadyImported (ap (λ (b : Bool). cond b (refused Client place AlreadyImported) (imported_as w.gate (importable w.gate busid))) h)
     go false h = keep-import m w j place status busid rel (run-sound w.gate run) h
 
-keep-lists : {S : Type 0} (m : Meaning S) (w : World S) (j : Shared) (place status : ℕ) → Related m w j → IsRun w.gate → Keeps m w j (move m w (ByClient (Asked place (Op (op.ReqDevlist status)))))
+keep-lists : {S : Type 0} (m : Meaning S) (w : World S) (j : Shared) (place status : ℕ) → Related m w j → IsRun w.gate → Keeps m w j (move as_deeds m w (ByClient (Asked place (Op (op.ReqDevlist status)))))
 keep-lists {S = S} m w j place status rel run = go w.gate.imported refl
   where
-    go : (b : Bool) → w.gate.imported ≡ b → Keeps m w j (move m w (ByClient (Asked place (Op (op.ReqDevlist status)))))
+    go : (b : Bool) → w.gate.imported ≡ b → Keeps m w j (move as_deeds m w (ByClient (Asked place (Op (op.ReqDevlist status)))))
     go true h = keep-refused m w j rel run place place (Op (op.ReqDevlist status)) AlreadyImported (ap (λ (b : Bool). cond b (refused Client place AlreadyImported) (Replies (list_reply w.gate.facts))) h)
     go false h = keep-list m w j place status rel (run-sound w.gate run) h
 
 -- ---- any move
 
-pub keep-race : {S : Type 0} (m : Meaning S) → IsGadget m → (w : World S) (j : Shared) (x : Move) → IsRaceMove w x → IsRun w.gate → Related m w j → Keeps m w j (move m w x)
+pub keep-race : {S : Type 0} (m : Meaning S) → IsGadget m → (w : World S) (j : Shared) (x : Move) → IsRaceMove w x → IsRun w.gate → Related m w j → Keeps m w j (move as_deeds m w x)
 keep-race m laws w j (ByClient (Asked place (Urb (urb.Submit s)))) is run rel = keep-submit m laws w j place s rel run is
 keep-race m laws w j (ByClient (Asked place (Urb (urb.Unlink u)))) is run rel = keep-asked-back m w j place u rel run
 keep-race {S = S} m laws w j HostReads is run rel = go w.host.guest.first refl
   where
-    go : (b : Bool) → w.host.guest.first ≡ b → Keeps m w j (move m w HostReads)
+    go : (b : Bool) → w.host.guest.first ≡ b → Keeps m w j (move as_deeds m w HostReads)
     go true fresh = keep-hello m w j rel fresh
     go false met = keep-reads-asked m w j w.to_host rel refl (λ p rest e. ((subst (Each (λ (q : ℕ × RedirPacket). IsAsking q.1)) e (rel.asked met)).0, subst HearsNoSwitch e is))
 keep-race m laws w j (GateReads place) is run rel = keep-reads m w j place rel (run-sound w.gate run) is

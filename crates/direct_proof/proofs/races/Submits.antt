@@ -27,11 +27,11 @@ use Rattle.usb_base.specs.declared.errno.TheConstants.{ENOENT, EBUSY, ESHUTDOWN}
 use Rattle.gate_history.specs.state.Ups.{Up, is_ended}
 use Rattle.gate_history.specs.state.State.{State, change_waits, next_ids, has_number}
 use Rattle.gate_history.specs.step.Meaning.{verdict_of, mark_of, drawn_by, meaning, refused, accepts, situation}
-use Rattle.direct_run.specs.Moves.{World, ByClient}
+use Rattle.direct_run.specs.Moves.{World, ByClient, move}
 use Rattle.direct_device.specs.Direct.{normal_by}
 use Rattle.direct_proof.specs.Runs.{IsRun}
 use Rattle.direct_proof.specs.Shared.{view, Shared}
-use Rattle.direct_proof.specs.Moves.{move}
+use Rattle.direct_proof.specs.Deeds.{as_deeds}
 use Rattle.direct_proof.specs.Related.{Related}
 use Rattle.direct_proof.specs.Loads.{IsLoad, FitsRoute}
 use Rattle.direct_proof.proofs.races.Kinds.{IsRaceSubmit, EndsNone, Stays}
@@ -143,7 +143,7 @@ there-iso false other row e = refl
 
 -- of a client that has imported, with a number that is free
 keep-taken : {S : Type 0} (m : Meaning S) → IsGadget m → (w : World S) (j : Shared) (place : ℕ) (s : UrbSubmit) → Related m w j → IsRun w.gate → IsClientPacket (Urb (urb.Submit s)) → w.gate.imported ≡ true → has_number w.gate s.head.seqnum ≡ false → IsRaceVerdict w.gate (verdict_of w.gate (request_of s)) →
-    Keeps m w j (move m w (ByClient (Asked place (Urb (urb.Submit s)))))
+    Keeps m w j (move as_deeds m w (ByClient (Asked place (Urb (urb.Submit s)))))
 keep-taken {S = S} m laws w j place s rel run read inside new fits = go (verdict_of st r) refl fits
   where
     st : State
@@ -155,7 +155,7 @@ keep-taken {S = S} m laws w j place s rel run read inside new fits = go (verdict
     up : Option Up
     up = stream_at st.streams r.transfer.ep
 
-    wired : (v : Verdict) → verdict_of st r ≡ v → goes_by_id v ≡ true → IsRaceVerdict st v → Keeps m w j (move m w (ByClient (Asked place (Urb (urb.Submit s)))))
+    wired : (v : Verdict) → verdict_of st r ≡ v → goes_by_id v ≡ true → IsRaceVerdict st v → Keeps m w j (move as_deeds m w (ByClient (Asked place (Urb (urb.Submit s)))))
     wired v e by_id k = keep-simple m w j rel (run-sound st run) inside (there-by st.lost _ v e by_id) place s v (simple-submit st run place s read inside new v e by_id k)
 
     -- the device attached directly answers it so, too
@@ -167,14 +167,14 @@ keep-taken {S = S} m laws w j place s rel run read inside new fits = go (verdict
         ∙ e
     same-now status e false there = same-verdict m w j rel inside there r (addressed s read.0).index ∙ ap (by_stream up) e ∙ kept-now up status
 
-    go : (v : Verdict) → verdict_of st r ≡ v → IsRaceVerdict st v → Keeps m w j (move m w (ByClient (Asked place (Urb (urb.Submit s)))))
+    go : (v : Verdict) → verdict_of st r ≡ v → IsRaceVerdict st v → Keeps m w j (move as_deeds m w (ByClient (Asked place (Urb (urb.Submit s)))))
     go (Now status) e k = keep-now m w j place s status rel (run-before st run) inside new e (same-now status e st.lost refl)
     go (Wire pipe) e k = wired (Wire pipe) e refl k
     go (Routed x) e k = wired (Routed x) e refl k
     go (IsoOut row) e k = absurd (no-iso m laws w j rel inside (there-iso st.lost _ row e) s read.0 row e)
     go (Stream row) e k = absurd k
 
-pub keep-submit : {S : Type 0} (m : Meaning S) → IsGadget m → (w : World S) (j : Shared) (place : ℕ) (s : UrbSubmit) → Related m w j → IsRun w.gate → IsRaceSubmit w.gate s → Keeps m w j (move m w (ByClient (Asked place (Urb (urb.Submit s)))))
+pub keep-submit : {S : Type 0} (m : Meaning S) → IsGadget m → (w : World S) (j : Shared) (place : ℕ) (s : UrbSubmit) → Related m w j → IsRun w.gate → IsRaceSubmit w.gate s → Keeps m w j (move as_deeds m w (ByClient (Asked place (Urb (urb.Submit s)))))
 keep-submit {S = S} m laws w j place s rel run is = go w.gate.imported (has_number w.gate s.head.seqnum) refl refl
   where
     st : State
@@ -184,7 +184,7 @@ keep-submit {S = S} m laws w j place s rel run is = go w.gate.imported (has_numb
         meaning st (Asked place (Urb (urb.Submit s))) ≡ cond (not a) (refused Client place NotImported) (cond b (refused Client (place + 4) DuplicateSeq) (accepts st (request_of s) (verdict_of st (request_of s))))
     means a b h k = λ i. cond (not (h i)) (refused Client place NotImported) (cond (k i) (refused Client (place + 4) DuplicateSeq) (accepts st (request_of s) (verdict_of st (request_of s))))
 
-    go : (a b : Bool) → st.imported ≡ a → has_number st s.head.seqnum ≡ b → Keeps m w j (move m w (ByClient (Asked place (Urb (urb.Submit s)))))
+    go : (a b : Bool) → st.imported ≡ a → has_number st s.head.seqnum ≡ b → Keeps m w j (move as_deeds m w (ByClient (Asked place (Urb (urb.Submit s)))))
     go true true h k = keep-refused m w j rel run place (place + 4) (Urb (urb.Submit s)) DuplicateSeq (means true true h k)
     go true false h k = keep-taken m laws w j place s rel run is.read h k (is.new h k)
     go false b h k = keep-refused m w j rel run place place (Urb (urb.Submit s)) NotImported (means false b h k)

@@ -7,11 +7,10 @@ use Rattle.usbip_urb.specs.declared.packet.UrbPacket.{UrbPacket}
 use Rattle.usbip_urb.specs.declared.client.ClientPacket.{ClientPacket}
 use Rattle.usbip_urb.specs.declared.client.ClientPacket.TheVariants.{Op, Urb}
 use Rattle.model_device.specs.Meaning.{Meaning}
-use Rattle.direct_run.specs.Moves.{World}
+use Rattle.direct_run.specs.Moves.{World, Made, quiet, then_made}
 use Rattle.direct_device.specs.Direct.{Direct}
 use Rattle.direct_device.specs.Acting.{Deed, answers}
 use Rattle.direct_device.specs.Legal.{acts, AreAllowed, all_answers}
-use Rattle.direct_proof.specs.Moves.{Made, quiet, then_made}
 use Rattle.direct_proof.specs.Shared.{Shared, view}
 use Rattle.direct_proof.specs.Related.{Related}
 use Rattle.direct_proof.specs.Runs.{urb_in}
@@ -20,12 +19,12 @@ use Rattle.direct_proof.proofs.shared.Traces.{acts-append, allowed-append, answe
 use Rattle.direct_proof.proofs.shared.Folds.{gathers-append}
 
 -- what a move did is what the device attached directly does
-pub record Keeps {S : Type 0} (m : Meaning S) (w : World S) (j : Shared) (made : Made S) : Type 0 where
+pub record Keeps {S : Type 0} (m : Meaning S) (w : World S) (j : Shared) (made : Made S Deed) : Type 0 where
   pub later : Shared
   pub related : Related m made.world later
-  pub same : acts m (view w j) made.deeds ≡ view made.world later
-  pub legal : AreAllowed m (view w j) made.deeds
-  pub outs : flat_map urb_in made.outs ≡ all_answers m (view w j) made.deeds
+  pub same : acts m (view w j) made.told ≡ view made.world later
+  pub legal : AreAllowed m (view w j) made.told
+  pub outs : flat_map urb_in made.outs ≡ all_answers m (view w j) made.told
 
 urbs-append : (xs ys : List ClientPacket) → flat_map urb_in (xs ++ ys) ≡ flat_map urb_in xs ++ flat_map urb_in ys
 urbs-append = gathers-append urb_in (flat_map urb_in) refl (λ x xs. refl)
@@ -34,21 +33,21 @@ pub urbs-mapped : (xs : List UrbPacket) → flat_map urb_in (map Urb xs) ≡ xs
 urbs-mapped [] = refl
 urbs-mapped (x ∷ xs) = ap (λ (l : List UrbPacket). x ∷ l) (urbs-mapped xs)
 
-pub keeps-then : {S : Type 0} (m : Meaning S) (w : World S) (j : Shared) (x y : Made S) → (k : Keeps m w j x) → Keeps m x.world k.later y → Keeps m w j (then_made x y)
+pub keeps-then : {S : Type 0} (m : Meaning S) (w : World S) (j : Shared) (x y : Made S Deed) → (k : Keeps m w j x) → Keeps m x.world k.later y → Keeps m w j (then_made x y)
 keeps-then {S = S} m w j x y k n = record {
   later = n.later;
   related = n.related;
-  same = acts-append m x.deeds y.deeds (view w j) ∙ ap (λ (d : Direct S). acts m d y.deeds) k.same ∙ n.same;
-  legal = allowed-append m x.deeds y.deeds (view w j) k.legal (subst (λ (d : Direct S). AreAllowed m d y.deeds) (sym k.same) n.legal);
-  outs = urbs-append x.outs y.outs ∙ (λ i. k.outs i ++ (n.outs ∙ ap (λ (d : Direct S). all_answers m d y.deeds) (sym k.same)) i) ∙ sym (answers-append m x.deeds y.deeds (view w j));
+  same = acts-append m x.told y.told (view w j) ∙ ap (λ (d : Direct S). acts m d y.told) k.same ∙ n.same;
+  legal = allowed-append m x.told y.told (view w j) k.legal (subst (λ (d : Direct S). AreAllowed m d y.told) (sym k.same) n.legal);
+  outs = urbs-append x.outs y.outs ∙ (λ i. k.outs i ++ (n.outs ∙ ap (λ (d : Direct S). all_answers m d y.told) (sym k.same)) i) ∙ sym (answers-append m x.told y.told (view w j));
 }
 
 -- a move that only moves things
-pub keeps-quiet : {S : Type 0} (m : Meaning S) (w : World S) (j later : Shared) (made : Made S) (w' : World S) → made ≡ quiet w' → Related m w' later → view w j ≡ view w' later → Keeps m w j made
+pub keeps-quiet : {S : Type 0} (m : Meaning S) (w : World S) (j later : Shared) (made : Made S Deed) (w' : World S) → made ≡ quiet w' → Related m w' later → view w j ≡ view w' later → Keeps m w j made
 keeps-quiet {S = S} m w j later made w' is rel same = subst (Keeps m w j) (sym is) (record { later = later; related = rel; same = same; legal = tt; outs = refl })
 
 -- a move that is one deed
-pub keeps-deed : {S : Type 0} (m : Meaning S) (w : World S) (j later : Shared) (made : Made S) (x : Deed) → IsDeed m w j made later x → Related m made.world later → Keeps m w j made
+pub keeps-deed : {S : Type 0} (m : Meaning S) (w : World S) (j later : Shared) (made : Made S Deed) (x : Deed) → IsDeed m w j made later x → Related m made.world later → Keeps m w j made
 keeps-deed {S = S} m w j later made x is rel = record {
   later = later;
   related = rel;
@@ -58,7 +57,7 @@ keeps-deed {S = S} m w j later made x is rel = record {
 }
 
 -- a move that answers only list and import requests, and is no deed
-pub keeps-replied : {S : Type 0} (m : Meaning S) (w : World S) (j later : Shared) (made : Made S) (w' : World S) (reply : OpPacket) → made ≡ record { world = w'; outs = Op reply ∷ []; deeds = [] } → Related m w' later → view w j ≡ view w' later → Keeps m w j made
+pub keeps-replied : {S : Type 0} (m : Meaning S) (w : World S) (j later : Shared) (made : Made S Deed) (w' : World S) (reply : OpPacket) → made ≡ record { world = w'; outs = Op reply ∷ []; told = [] } → Related m w' later → view w j ≡ view w' later → Keeps m w j made
 keeps-replied {S = S} m w j later made w' reply is rel same = subst (Keeps m w j) (sym is) (record { later = later; related = rel; same = same; legal = tt; outs = refl })
 
 -- while the host is there, the device isn't lost

@@ -21,7 +21,7 @@ use Rattle.gate_history.specs.state.State.{State}
 use Rattle.gate_history.specs.client.Submits.{opened}
 use Rattle.direct_device.specs.Direct.{Direct}
 use Rattle.direct_device.specs.Legal.{all_answers}
-use Rattle.direct_proof.specs.Moves.{deeds_of}
+use Rattle.direct_proof.specs.Deeds.{deeds_of}
 use Rattle.direct_proof.specs.Runs.{urb_in}
 use Rattle.direct_proof.specs.Simulates.{is_import, since_import}
 use Rattle.direct_proof.proofs.shared.Keeps.{urbs-mapped}

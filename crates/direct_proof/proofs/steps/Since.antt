@@ -1,13 +1,8 @@
 -- The answers of a trace behind its last import.
-use Rattle.std.proofs.Common.{◌≡◌, ℕ, ◌&&◌, not, Bool, true, false, List, [], ◌∷◌, ◌++◌, map, filter, Option, Some, None, refl, sym, ap, ◌∙◌, append-nil, append_assoc}
+use Rattle.std.proofs.Common.{◌≡◌, ◌&&◌, not, Bool, true, false, List, [], ◌∷◌, ◌++◌, map, filter, refl, sym, ap, ◌∙◌, append-nil, append_assoc}
 use Rattle.std.specs.List.{flat_map, AllByRecursion as Each}
 use Rattle.usbip_urb.specs.declared.packet.UrbPacket.{UrbPacket}
 use Rattle.model_device.specs.Meaning.{Meaning}
-use Rattle.redir_host.specs.declared.write.note.HostNote.{HostNote}
-use Rattle.redir_host.specs.declared.write.note.HostNote.TheVariants as host_note
-use Rattle.redir_host.specs.declared.write.note.Offered.{Offered}
-use Rattle.redir_host.specs.declared.write.note.Offered.TheVariants as offered
-use Rattle.redir_host.specs.step.Moves.{Move as HostMove}
 use Rattle.gate_history.proofs.lemmas.Lists.{Each-append}
 use Rattle.gate_history.specs.step.Marks.{Submission, Effect, Imports, Unlinks, Arrives, Mark}
 use Rattle.gate_history.specs.write.Notes.{is_by_answer}
@@ -16,11 +11,12 @@ use Rattle.gate_history.specs.state.Sides.{imports, is_loss, leaves}
 use Rattle.gate_history.specs.state.State.{State}
 use Rattle.gate_history.specs.client.Submits.{Pending, opened}
 use Rattle.gate_history.specs.client.Ends.{ends}
-use Rattle.direct_run.specs.declared.submitted.Submitted.{Submitted}
+use Rattle.direct_run.specs.declared.item.Item.{Item}
+use Rattle.direct_run.specs.declared.item.Item.TheVariants as item
 use Rattle.direct_device.specs.Acting.{Deed, Import, Submit, Unlink, Perform, Cancel, Answer, Offer, Arrive, Gone, ClientGone, act, answers}
 use Rattle.direct_device.specs.Direct.{Direct}
 use Rattle.direct_device.specs.Legal.{acts, all_answers}
-use Rattle.direct_proof.specs.Moves.{answer_deeds, arrive_deeds, cancel_deed, deeds_of, import_deeds, offered_deed, performed_deed, submit_deeds, unlink_deeds, when}
+use Rattle.direct_proof.specs.Deeds.{answer_deeds, arrive_deeds, deeds_of, host_deed, import_deeds, submit_deeds, unlink_deeds, when}
 use Rattle.direct_proof.specs.Simulates.{since_import}
 
 abbrev pub IsPlain : Deed → Type 0
@@ -56,18 +52,12 @@ since-append m d said (ClientGone ∷ xs) ys = since-append m (act m d ClientGon
 
 -- ---- of a move
 
-pub cancels-plain : (submits : List Submitted) (ns : List HostNote) → Each IsPlain (flat_map (cancel_deed submits) ns)
-cancels-plain submits [] = tt
-cancels-plain submits (host_note.Cancelled id ∷ ns) = (tt, cancels-plain submits ns)
-cancels-plain submits (host_note.Refused place why ∷ ns) = cancels-plain submits ns
-
-pub performs-plain : {S : Type 0} (submits : List Submitted) (ep : ℕ) (o : Option (ℕ × HostMove S)) → Each IsPlain (performed_deed submits ep o)
-performs-plain submits ep None = tt
-performs-plain submits ep (Some r) = (tt, tt)
-
-pub offers-plain : (ep : ℕ) (o : Offered) → Each IsPlain (offered_deed ep o)
-offers-plain ep offered.Sent = (tt, tt)
-offers-plain ep _ = tt
+pub host-plain : (is : List Item) → Each IsPlain (flat_map host_deed is)
+host-plain [] = tt
+host-plain (item.Perform ep seqnum ∷ is) = (tt, host-plain is)
+host-plain (item.Cancel seqnum ∷ is) = (tt, host-plain is)
+host-plain (item.Offer ep ∷ is) = (tt, host-plain is)
+host-plain (_ ∷ is) = host-plain is
 
 submits-plain : (ss : List Submission) → Each IsPlain (map (λ (s : Submission). Submit s.request) ss)
 submits-plain [] = tt

@@ -5,11 +5,10 @@ use Rattle.std.proofs.lemmas.List.{map-append}
 use Rattle.usbip_urb.specs.declared.client.ClientPacket.{ClientPacket}
 use Rattle.usbip_urb.specs.declared.client.ClientPacket.TheVariants.{Urb}
 use Rattle.model_device.specs.Meaning.{Meaning}
-use Rattle.direct_run.specs.Moves.{World}
+use Rattle.direct_run.specs.Moves.{World, Made}
 use Rattle.direct_device.specs.Direct.{Direct}
 use Rattle.direct_device.specs.Acting.{Deed}
 use Rattle.direct_device.specs.Legal.{acts, AreAllowed, all_answers}
-use Rattle.direct_proof.specs.Moves.{Made}
 use Rattle.direct_proof.specs.Shared.{Shared, view}
 use Rattle.direct_proof.specs.Related.{Related}
 use Rattle.direct_proof.specs.Runs.{urb_in}
@@ -34,7 +33,7 @@ pub does-nothing : {S : Type 0} (m : Meaning S) (d new : Direct S) → d ≡ new
 does-nothing m d new same = record { same = same; legal = tt; outs-are = refl }
 
 -- a move by what it makes
-pub keeps-made : {S : Type 0} (m : Meaning S) (w : World S) (j later : Shared) (made : Made S) (w' : World S) (outs : List ClientPacket) (deeds : List Deed) → made ≡ record { world = w'; outs = outs; deeds = deeds } → Related m w' later → Does m (view w j) deeds (view w' later) outs → Keeps m w j made
+pub keeps-made : {S : Type 0} (m : Meaning S) (w : World S) (j later : Shared) (made : Made S Deed) (w' : World S) (outs : List ClientPacket) (deeds : List Deed) → made ≡ record { world = w'; outs = outs; told = deeds } → Related m w' later → Does m (view w j) deeds (view w' later) outs → Keeps m w j made
 keeps-made m w j later made w' outs deeds is related does = subst (Keeps m w j) (sym is) (record {
   later = later;
   related = related;

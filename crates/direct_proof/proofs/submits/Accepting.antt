@@ -24,9 +24,9 @@ use Rattle.gate_history.specs.step.Machine.{after}
 use Rattle.gate_history.specs.step.Meaning.{mark_as, mark_of, by_stream}
 use Rattle.gate_history.specs.write.Output.{fresh}
 use Rattle.gate_history.proofs.lemmas.Lists.{filter-all, list_any-map, Each-append, Each-filter}
-use Rattle.direct_run.specs.Moves.{World, ByClient}
+use Rattle.direct_run.specs.Moves.{World, ByClient, gate_made, Made, move, quiet}
 use Rattle.direct_device.specs.Direct.{Load, number, normal_of, Live, Direct, is_number}
-use Rattle.direct_proof.specs.Moves.{gate_made, Made, move, quiet}
+use Rattle.direct_proof.specs.Deeds.{as_deeds}
 use Rattle.direct_proof.specs.Requests.{Entry, Debt, at_host, debts_of, at_device, live_of}
 use Rattle.direct_proof.specs.Shared.{Shared, lines, half_line, at_hosts, view}
 use Rattle.direct_proof.specs.Tagged.{runs_in}
@@ -54,7 +54,7 @@ use Rattle.usbip_urb.specs.declared.packet.UrbPacket.TheVariants as urb
 use Rattle.usbip_urb.specs.declared.client.ClientPacket.TheVariants.{Urb}
 use Rattle.gate_history.specs.declared.item.Item.TheVariants.{Asked}
 use Rattle.gate_history.specs.state.Ups.{stream_at, stream_of}
-use Rattle.direct_device.specs.Acting.{Submit, act, answers, made_of}
+use Rattle.direct_device.specs.Acting.{Deed, Submit, act, answers, made_of}
 use Rattle.direct_proof.proofs.shared.Keeps.{Keeps, keeps-quiet, keeps-deed}
 
 module _ {S : Type 0} (m : Meaning S) (w : World S) (j : Shared) (rel : Related m w j) (sound : IsSound w.gate) (inside : w.gate.imported ≡ true) (there : w.gate.lost ≡ false) (place : ℕ) (s : UrbSubmit) (v : Verdict) (is : IsSimpleSubmit w.gate s v) where
@@ -101,7 +101,7 @@ module _ {S : Type 0} (m : Meaning S) (w : World S) (j : Shared) (rel : Related 
     submits = w.submits ++ record { seqnum = r.number; id = is.simple.id } ∷ [];
   }
 
-  world : (gate_made w mark).world ≡ opened_world
+  world : (gate_made as_deeds w mark).world ≡ opened_world
   world = λ i. record w {
     gate = record (after st mark) {
       live = simple-live st r v is.simple first i;
@@ -195,7 +195,7 @@ module _ {S : Type 0} (m : Meaning S) (w : World S) (j : Shared) (rel : Related 
     farewell = rel.farewell;
   }
 
-  pub keep-simple : Keeps m w j (move m w (ByClient (Asked place (Urb (urb.Submit s)))))
+  pub keep-simple : Keeps m w j (move as_deeds m w (ByClient (Asked place (Urb (urb.Submit s)))))
   keep-simple = go st.client_over refl
     where
       d : Direct S
@@ -211,20 +211,20 @@ module _ {S : Type 0} (m : Meaning S) (w : World S) (j : Shared) (rel : Related 
       device : (act m d (Submit r) ≡ record d { live = d.live ++ record { load = load; unlinker = None } ∷ []; queue = d.queue ++ record { load = load; asked = false } ∷ []; streams = st.streams }) × (answers m d (Submit r) ≡ [])
       device = device-simple m st d r v is.simple refl (live-untouched st.live is.simple.untouched) made-is (λ ep. way-again (stream_of st.streams ep) ep j.back)
 
-      go : (b : Bool) → st.client_over ≡ b → Keeps m w j (move m w (ByClient (Asked place (Urb (urb.Submit s)))))
-      go true over = keeps-quiet m w j j (move m w (ByClient (Asked place (Urb (urb.Submit s))))) w (ap (λ (b : Bool). cond b (quiet w) (gate_made w (mark_of st (Asked place (Urb (urb.Submit s)))))) over) rel refl
-      go false on = keeps-deed m w j later (move m w (ByClient (Asked place (Urb (urb.Submit s))))) (Submit r) (record {
-        deeds = ap (λ (x : Made S). x.deeds) moved ∙ simple-done st r v is.simple first;
-        outs = ap (λ (x : Made S). x.outs) moved ∙ simple-outs st r v is.simple first ∙ ap (map Urb) (sym device.1);
+      go : (b : Bool) → st.client_over ≡ b → Keeps m w j (move as_deeds m w (ByClient (Asked place (Urb (urb.Submit s)))))
+      go true over = keeps-quiet m w j j (move as_deeds m w (ByClient (Asked place (Urb (urb.Submit s))))) w (ap (λ (b : Bool). cond b (quiet w) (gate_made as_deeds w (mark_of st (Asked place (Urb (urb.Submit s)))))) over) rel refl
+      go false on = keeps-deed m w j later (move as_deeds m w (ByClient (Asked place (Urb (urb.Submit s))))) (Submit r) (record {
+        deeds = ap (λ (x : Made S Deed). x.told) moved ∙ simple-done st r v is.simple first;
+        outs = ap (λ (x : Made S Deed). x.outs) moved ∙ simple-outs st r v is.simple first ∙ ap (map Urb) (sym device.1);
         same = device.0
             ∙ (λ i. record d {
               live = sym (map-append live_of st.live (fresh (opened_as st r v is.simple first) ∷ [])) i;
               queue = (sym (map-append at_device (j.held ++ j.coming) (entry ∷ [])) ∙ ap (map at_device) joined) i;
             })
-            ∙ ap (λ (x : World S). view x later) (sym world) ∙ ap (λ (x : Made S). view x.world later) (sym moved);
+            ∙ ap (λ (x : World S). view x later) (sym world) ∙ ap (λ (x : Made S Deed). view x.world later) (sym moved);
         allowed = (inside, list_any-map (λ (l : Live). is_number r.number l.load) live_of st.live ∙ sym (list_any-map (is_numbered r.number) (λ (p : Pending). p.submit) st.live) ∙ is.new);
       })
-          (subst (λ (x : Made S). Related m x.world later) (sym moved) (subst (λ (x : World S). Related m x later) (sym world) related))
+          (subst (λ (x : Made S Deed). Related m x.world later) (sym moved) (subst (λ (x : World S). Related m x later) (sym world) related))
         where
-          moved : move m w (ByClient (Asked place (Urb (urb.Submit s)))) ≡ gate_made w mark
-          moved = λ i. cond (on i) (quiet w) (gate_made w (mark_as st (simple-means st r v is.simple first place s refl inside is.new is.verdict-is i) None))
+          moved : move as_deeds m w (ByClient (Asked place (Urb (urb.Submit s)))) ≡ gate_made as_deeds w mark
+          moved = λ i. cond (on i) (quiet w) (gate_made as_deeds w (mark_as st (simple-means st r v is.simple first place s refl inside is.new is.verdict-is i) None))

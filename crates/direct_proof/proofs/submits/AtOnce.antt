@@ -29,11 +29,11 @@ use Rattle.gate_history.specs.declared.note.Note.TheVariants as note
 use Rattle.usb_base.specs.declared.errno.TheConstants.{ESHUTDOWN}
 use Rattle.gate_history.proofs.lemmas.Lists.{filter-all, filter-none, list_any-map}
 use Rattle.gate_history.proofs.lemmas.step.NoCancel.{asks-none, none-cancelled, stays-uncancelled}
-use Rattle.direct_run.specs.Moves.{World, ByClient}
+use Rattle.direct_run.specs.Moves.{World, ByClient, Made, move, quiet, gate_made}
 use Rattle.direct_run.specs.Noted.{named}
 use Rattle.direct_device.specs.Direct.{Live, Direct, is_number}
-use Rattle.direct_device.specs.Acting.{Submit, Answer, act, answers, made_of, submitted, submit_answers}
-use Rattle.direct_proof.specs.Moves.{Made, move, quiet, gate_made}
+use Rattle.direct_device.specs.Acting.{Deed, Submit, Answer, act, answers, made_of, submitted, submit_answers}
+use Rattle.direct_proof.specs.Deeds.{as_deeds}
 use Rattle.direct_proof.specs.Related.{Related}
 use Rattle.direct_proof.specs.Requests.{live_of}
 use Rattle.direct_proof.specs.Shared.{Shared, view}
@@ -95,11 +95,11 @@ module _ (st : State) (r : Request) (status : ℤ) (before : AreBefore st.items 
   none-done : filter (λ p. is_by_answer (ends what p.submit)) (present st what) ≡ []
   none-done = filter-append (λ p. is_by_answer (ends what p.submit)) st.live (fresh answered_as ∷ []) ∙ (λ i. done-of st.live before i ++ cond (is_by_answer (ends-now i)) (fresh answered_as ∷ []) [])
 
-  pub now-made : {S : Type 0} (w : World S) → w.gate ≡ st → gate_made w (mark_as w.gate what None)
-      ≡ record { world = record (replied_world w) { submits = w.submits ++ record { seqnum = r.number; id = 0 } ∷ [] }; outs = Urb (without_packets r status) ∷ []; deeds = Submit r ∷ [] }
-  now-made {S = S} w same = subst (λ (g : State). gate_made (record w { gate = g }) (mark_as g what None) ≡ record { world = record (replied_world (record w { gate = g })) { submits = w.submits ++ record { seqnum = r.number; id = 0 } ∷ [] }; outs = Urb (without_packets r status) ∷ []; deeds = Submit r ∷ [] }) (sym same) here
+  pub now-made : {S : Type 0} (w : World S) → w.gate ≡ st → gate_made as_deeds w (mark_as w.gate what None)
+      ≡ record { world = record (replied_world w) { submits = w.submits ++ record { seqnum = r.number; id = 0 } ∷ [] }; outs = Urb (without_packets r status) ∷ []; told = Submit r ∷ [] }
+  now-made {S = S} w same = subst (λ (g : State). gate_made as_deeds (record w { gate = g }) (mark_as g what None) ≡ record { world = record (replied_world (record w { gate = g })) { submits = w.submits ++ record { seqnum = r.number; id = 0 } ∷ [] }; outs = Urb (without_packets r status) ∷ []; told = Submit r ∷ [] }) (sym same) here
     where
-      here : gate_made (record w { gate = st }) (mark_as st what None) ≡ record { world = record (replied_world (record w { gate = st })) { submits = w.submits ++ record { seqnum = r.number; id = 0 } ∷ [] }; outs = Urb (without_packets r status) ∷ []; deeds = Submit r ∷ [] }
+      here : gate_made as_deeds (record w { gate = st }) (mark_as st what None) ≡ record { world = record (replied_world (record w { gate = st })) { submits = w.submits ++ record { seqnum = r.number; id = 0 } ∷ [] }; outs = Urb (without_packets r status) ∷ []; told = Submit r ∷ [] }
       here = λ i. record {
         world = record w {
           gate = record st { items = suc st.items; live = now-live i; abandoned = filter-all st.abandoned i };
@@ -107,14 +107,14 @@ module _ (st : State) (r : Request) (status : ℤ) (before : AreBefore st.items 
           submits = (ap (λ (ps : List Pending). w.submits ++ flat_map named (((((note.Submitted r.number 0 ∷ []) ++ map (λ (p : Pending). note.Answered p.submit.request.number) ps) ++ []) ++ []) ++ [])) none-done) i;
         };
         outs = map Urb (now-answered i);
-        deeds = (ap (λ (ps : List Pending). (((Submit r ∷ []) ++ map (λ (p : Pending). Answer p.submit.request.number) ps) ++ []) ++ []) none-done) i;
+        told = (ap (λ (ps : List Pending). (((Submit r ∷ []) ++ map (λ (p : Pending). Answer p.submit.request.number) ps) ++ []) ++ []) none-done) i;
       }
 
 -- ---- and the device
 
 -- it keeps what is shared
 pub keep-now : {S : Type 0} (m : Meaning S) (w : World S) (j : Shared) (place : ℕ) (s : UrbSubmit) (status : ℤ) → Related m w j → AreBefore w.gate.items w.gate.live → w.gate.imported ≡ true → has_number w.gate s.head.seqnum ≡ false →
-    verdict_of w.gate (request_of s) ≡ Now status → made_of m (view w j) (request_of s) ≡ Now status → Keeps m w j (move m w (ByClient (Asked place (Urb (urb.Submit s)))))
+    verdict_of w.gate (request_of s) ≡ Now status → made_of m (view w j) (request_of s) ≡ Now status → Keeps m w j (move as_deeds m w (ByClient (Asked place (Urb (urb.Submit s)))))
 keep-now {S = S} m w j place s status rel before inside new is made-is = go st.client_over refl
   where
     st : State
@@ -126,8 +126,8 @@ keep-now {S = S} m w j place s status rel before inside new is made-is = go st.c
     d : Direct S
     d = view w j
 
-    made : Made S
-    made = move m w (ByClient (Asked place (Urb (urb.Submit s))))
+    made : Made S Deed
+    made = move as_deeds m w (ByClient (Asked place (Urb (urb.Submit s))))
 
     new_world : World S
     new_world = record (replied_world w) { submits = w.submits ++ record { seqnum = r.number; id = 0 } ∷ [] }
@@ -145,14 +145,14 @@ keep-now {S = S} m w j place s status rel before inside new is made-is = go st.c
         ∙ ap (λ (l : List Live). map (λ (y : Live). without_packets y.load.request ESHUTDOWN) l ++ without_packets r status ∷ []) (filter-none d.live)
 
     go : (b : Bool) → st.client_over ≡ b → Keeps m w j made
-    go true over = keeps-quiet m w j j made w (ap (λ (b : Bool). cond b (quiet w) (gate_made w (mark_of st (Asked place (Urb (urb.Submit s)))))) over) rel refl
+    go true over = keeps-quiet m w j j made w (ap (λ (b : Bool). cond b (quiet w) (gate_made as_deeds w (mark_of st (Asked place (Urb (urb.Submit s)))))) over) rel refl
     go false on = keeps-deed m w j j made (Submit r) (record {
-      deeds = ap (λ (x : Made S). x.deeds) moved;
-      outs = ap (λ (x : Made S). x.outs) moved ∙ ap (map Urb) (sym says);
-      same = device ∙ ap (λ (x : Made S). view x.world j) (sym moved);
+      deeds = ap (λ (x : Made S Deed). x.told) moved;
+      outs = ap (λ (x : Made S Deed). x.outs) moved ∙ ap (map Urb) (sym says);
+      same = device ∙ ap (λ (x : Made S Deed). view x.world j) (sym moved);
       allowed = (inside, list_any-map (λ (l : Live). is_number r.number l.load) live_of st.live ∙ sym (list_any-map (is_numbered r.number) (λ (p : Pending). p.submit) st.live) ∙ new);
     })
-        (subst (λ (x : Made S). Related m x.world j) (sym moved) (counted-related m w j (w.submits ++ record { seqnum = r.number; id = 0 } ∷ []) st.client_over rel (ids-named j.debts w.submits (j.held ++ j.coming) (runs_in j.back) r.number rel.real rel.ids) rel.sides.refused))
+        (subst (λ (x : Made S Deed). Related m x.world j) (sym moved) (counted-related m w j (w.submits ++ record { seqnum = r.number; id = 0 } ∷ []) st.client_over rel (ids-named j.debts w.submits (j.held ++ j.coming) (runs_in j.back) r.number rel.real rel.ids) rel.sides.refused))
       where
-        moved : made ≡ record { world = new_world; outs = Urb (without_packets r status) ∷ []; deeds = Submit r ∷ [] }
-        moved = (λ i. cond (on i) (quiet w) (gate_made w (mark_as st (now-means st r status before place s refl inside new is i) None))) ∙ now-made st r status before w refl
+        moved : made ≡ record { world = new_world; outs = Urb (without_packets r status) ∷ []; told = Submit r ∷ [] }
+        moved = (λ i. cond (on i) (quiet w) (gate_made as_deeds w (mark_as st (now-means st r status before place s refl inside new is i) None))) ∙ now-made st r status before w refl

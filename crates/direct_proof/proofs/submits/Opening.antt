@@ -32,7 +32,7 @@ use Rattle.gate_history.proofs.lemmas.step.NoCancel.{asks-none, none-cancelled, 
 use Rattle.direct_run.specs.Noted.{named}
 use Rattle.direct_device.specs.Direct.{Load, Live, Direct, way_if}
 use Rattle.direct_device.specs.Acting.{Submit, Answer, act, answers, made_of, submitted, submit_answers}
-use Rattle.direct_proof.specs.Moves.{deeds_of}
+use Rattle.direct_proof.specs.Deeds.{deeds_of}
 use Rattle.direct_proof.proofs.performs.Performs.{itself}
 use Rattle.direct_proof.proofs.submits.Submitting.{AreBefore}
 use Rattle.direct_proof.proofs.submits.Simple.{IsSimple}

@@ -23,10 +23,10 @@ use Rattle.gate_history.specs.step.Machine.{live_after}
 use Rattle.gate_history.specs.step.Meaning.{mark_as, mark_of, refused}
 use Rattle.gate_history.proofs.lemmas.Lists.{filter-all, filter-map, map-map, Each-append}
 use Rattle.direct_run.specs.declared.submitted.Submitted.{Submitted}
-use Rattle.direct_run.specs.Moves.{World, ByClient}
+use Rattle.direct_run.specs.Moves.{World, ByClient, Made, move, quiet, gate_made}
 use Rattle.direct_device.specs.Direct.{Direct}
-use Rattle.direct_device.specs.Acting.{Unlink, marked}
-use Rattle.direct_proof.specs.Moves.{Made, move, quiet, gate_made}
+use Rattle.direct_device.specs.Acting.{Deed, Unlink, marked}
+use Rattle.direct_proof.specs.Deeds.{as_deeds}
 use Rattle.direct_proof.specs.Requests.{Entry, at_queue, at_device, debts_of}
 use Rattle.direct_proof.specs.Shared.{Shared, lines, half_line, at_hosts, view}
 use Rattle.direct_proof.specs.Tagged.{runs_in}
@@ -50,7 +50,7 @@ use Rattle.direct_proof.proofs.unlinks.AskedBack.{what, still-asked, asked-of}
 
 -- ---- the move
 
-pub keep-unlink : {S : Type 0} (m : Meaning S) (w : World S) (j : Shared) (place : ℕ) (u : UrbUnlink) → Related m w j → IsSound w.gate → w.gate.imported ≡ true → Keeps m w j (move m w (ByClient (Asked place (Urb (urb.Unlink u)))))
+pub keep-unlink : {S : Type 0} (m : Meaning S) (w : World S) (j : Shared) (place : ℕ) (u : UrbUnlink) → Related m w j → IsSound w.gate → w.gate.imported ≡ true → Keeps m w j (move as_deeds m w (ByClient (Asked place (Urb (urb.Unlink u)))))
 keep-unlink {S = S} m w j place u rel sound inside = go w.gate.client_over refl
   where
     st : State
@@ -111,7 +111,7 @@ keep-unlink {S = S} m w j place u rel sound inside = go w.gate.client_over refl
         by_lost true off = record { back = early.back; wire = ap (λ (l : List (ℕ × RedirPacket)). w.to_host ++ l) (none-lost off) ∙ append-nil w.to_host ∙ early.wire; held = ap (map f) early.held; half = early.half; running = early.running }
         by_lost false on = absurd (both_ways w.host.guest.first (rel.meets.behind (rel.meets.no_session inside on)).2 h)
 
-    related : Related m (record (gate_made w mark).world { to_host = w.to_host ++ qs; submits = w.submits }) later
+    related : Related m (record (gate_made as_deeds w mark).world { to_host = w.to_host ++ qs; submits = w.submits }) later
     related = record {
       line = record {
         held = rel.line.held ∙ ap (λ (l : List HostRequest). cond w.host.unplugged [] l) (sym (map-map at_queue f j.held));
@@ -155,8 +155,8 @@ keep-unlink {S = S} m w j place u rel sound inside = go w.gate.client_over refl
         no-starts [] h = tt
         no-starts (p ∷ ps) h = (subst (StartOfKind st.streams) (sym h.0.1) tt, no-starts ps h.1)
 
-    world : (gate_made w mark).world ≡ record (gate_made w mark).world { to_host = w.to_host ++ qs; submits = w.submits }
-    world = λ i. record (gate_made w mark).world { to_host = w.to_host ++ unlink-sent st by target i; submits = (ap (λ (l : List Submitted). w.submits ++ l) (unlink-named st by target) ∙ append-nil w.submits) i }
+    world : (gate_made as_deeds w mark).world ≡ record (gate_made as_deeds w mark).world { to_host = w.to_host ++ qs; submits = w.submits }
+    world = λ i. record (gate_made as_deeds w mark).world { to_host = w.to_host ++ unlink-sent st by target i; submits = (ap (λ (l : List Submitted). w.submits ++ l) (unlink-named st by target) ∙ append-nil w.submits) i }
 
     few : length (filter (gate_taken target) st.live) ≤ 1
     few = let one = sound.numbers target in let a = ap (λ (l : List Submission). length l) (filter-map (is_numbered target) (λ (p : Pending). p.submit) st.live) in omega (arith, one, a, shorter st.live, length-of (filter (λ (p : Pending). is_numbered target p.submit) st.live))
@@ -176,20 +176,20 @@ keep-unlink {S = S} m w j place u rel sound inside = go w.gate.client_over refl
             on false true k = omega (arith, k)
             on false false k = k
 
-    go : (b : Bool) → st.client_over ≡ b → Keeps m w j (move m w (ByClient (Asked place (Urb (urb.Unlink u)))))
-    go true over = keeps-quiet m w j j (move m w (ByClient (Asked place (Urb (urb.Unlink u))))) w (ap (λ (b : Bool). cond b (quiet w) (gate_made w (mark_of st (Asked place (Urb (urb.Unlink u)))))) over) rel refl
-    go false on = keeps-deed m w j later (move m w (ByClient (Asked place (Urb (urb.Unlink u))))) (Unlink by target) (record {
-      deeds = ap (λ (x : Made S). x.deeds) moved ∙ unlink-done st by target;
-      outs = ap (λ (x : Made S). x.outs) moved ∙ unlink-answers st by target few d refl;
+    go : (b : Bool) → st.client_over ≡ b → Keeps m w j (move as_deeds m w (ByClient (Asked place (Urb (urb.Unlink u)))))
+    go true over = keeps-quiet m w j j (move as_deeds m w (ByClient (Asked place (Urb (urb.Unlink u))))) w (ap (λ (b : Bool). cond b (quiet w) (gate_made as_deeds w (mark_of st (Asked place (Urb (urb.Unlink u)))))) over) rel refl
+    go false on = keeps-deed m w j later (move as_deeds m w (ByClient (Asked place (Urb (urb.Unlink u))))) (Unlink by target) (record {
+      deeds = ap (λ (x : Made S Deed). x.told) moved ∙ unlink-done st by target;
+      outs = ap (λ (x : Made S Deed). x.outs) moved ∙ unlink-answers st by target few d refl;
       same = (λ i. record d {
         live = sym (live-same st by target) i;
         queue = (map-map (marked target) at_device es ∙ sym (map-map at_device f es) ∙ ap (map at_device) split) i;
       })
-          ∙ ap (λ (x : Made S). view x.world later) (sym moved);
+          ∙ ap (λ (x : Made S Deed). view x.world later) (sym moved);
       allowed = inside;
     })
-        (subst (λ (x : Made S). Related m x.world later) (sym moved) (subst (λ (x : World S). Related m x later) (sym world) related))
+        (subst (λ (x : Made S Deed). Related m x.world later) (sym moved) (subst (λ (x : World S). Related m x later) (sym world) related))
       where
-        moved : move m w (ByClient (Asked place (Urb (urb.Unlink u)))) ≡ gate_made w mark
-        moved = (λ i. cond (on i) (quiet w) (gate_made w (mark_of st (Asked place (Urb (urb.Unlink u))))))
-            ∙ ap (λ (b : Bool). gate_made w (mark_as st (cond (not b) (refused Client place NotImported) (what by target)) None)) inside
+        moved : move as_deeds m w (ByClient (Asked place (Urb (urb.Unlink u)))) ≡ gate_made as_deeds w mark
+        moved = (λ i. cond (on i) (quiet w) (gate_made as_deeds w (mark_of st (Asked place (Urb (urb.Unlink u))))))
+            ∙ ap (λ (b : Bool). gate_made as_deeds w (mark_as st (cond (not b) (refused Client place NotImported) (what by target)) None)) inside

@@ -24,7 +24,7 @@ use Rattle.gate_history.specs.declared.note.Note.TheVariants as note
 use Rattle.direct_run.specs.Noted.{named}
 use Rattle.direct_device.specs.Direct.{Live, Direct}
 use Rattle.direct_device.specs.Acting.{Unlink, Answer, is_taken, is_target, asked_back, unlink_answers}
-use Rattle.direct_proof.specs.Moves.{deeds_of}
+use Rattle.direct_proof.specs.Deeds.{deeds_of}
 use Rattle.direct_proof.specs.Requests.{Debt, debts_of, live_of}
 use Rattle.direct_proof.proofs.lists.Counts.{any-none}
 use Rattle.direct_proof.proofs.shared.Asked.{debt_from}

@@ -34,8 +34,8 @@ use Rattle.gate_history.specs.state.Ups.{stream_at, lower, is_ended}
 use Rattle.gate_history.proofs.lemmas.Lists.{list_any-map, filter-map, map-map, Each-append}
 use Rattle.direct_device.specs.Direct.{Live, Direct, is_number}
 use Rattle.direct_device.specs.Acting.{Submit, made_of}
-use Rattle.direct_run.specs.Moves.{World, ByClient}
-use Rattle.direct_proof.specs.Moves.{move, gate_made, quiet}
+use Rattle.direct_run.specs.Moves.{World, ByClient, move, gate_made, quiet}
+use Rattle.direct_proof.specs.Deeds.{as_deeds}
 use Rattle.direct_proof.proofs.shared.New.{IsNew}
 use Rattle.direct_proof.specs.Requests.{Entry, Debt, at_device, live_of, debts_of}
 use Rattle.direct_proof.specs.Shared.{Shared, view}
@@ -190,8 +190,8 @@ module _ {S : Type 0} (m : Meaning S) (w : World S) (j : Shared) (place : ℕ) (
       })
       (device-changes m d r x made imported new-live))
 
-  pub keep-change : Keeps m w j (move m w (ByClient (Asked place (Urb (urb.Submit s)))))
-  keep-change = keeps-made m w j later (move m w (ByClient (Asked place (Urb (urb.Submit s))))) (change_world w r x) (map Urb (ending x w.gate.live)) (Submit r ∷ [])
-      ((λ i. cond (present i) (quiet w) (gate_made w (mark_as w.gate (change-means w.gate place s x imported new v i) None)))
+  pub keep-change : Keeps m w j (move as_deeds m w (ByClient (Asked place (Urb (urb.Submit s)))))
+  keep-change = keeps-made m w j later (move as_deeds m w (ByClient (Asked place (Urb (urb.Submit s))))) (change_world w r x) (map Urb (ending x w.gate.live)) (Submit r ∷ [])
+      ((λ i. cond (present i) (quiet w) (gate_made as_deeds w (mark_as w.gate (change-means w.gate place s x imported new v i) None)))
       ∙ change-made w r x (before-all w.gate.items w.gate.live gate.sound.places))
       related does

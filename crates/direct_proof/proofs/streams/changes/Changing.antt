@@ -36,8 +36,8 @@ use Rattle.gate_history.proofs.lemmas.step.NoCancel.{asks-none, none-cancelled, 
 use Rattle.direct_run.specs.Noted.{named}
 use Rattle.direct_device.specs.Direct.{Load, Live, Direct, is_number, way_by}
 use Rattle.direct_device.specs.Acting.{Answer, Submit, answers, made_of, submitted, submit_answers}
-use Rattle.direct_run.specs.Moves.{World}
-use Rattle.direct_proof.specs.Moves.{gate_made}
+use Rattle.direct_run.specs.Moves.{World, gate_made}
+use Rattle.direct_proof.specs.Deeds.{as_deeds}
 use Rattle.direct_proof.proofs.performs.Performs.{itself}
 use Rattle.direct_proof.proofs.streams.Keeping.{Does}
 use Rattle.direct_proof.proofs.submits.Submitting.{AreBefore, by-routed}
@@ -127,7 +127,7 @@ module _ (st : State) (r : Request) (x : Route) where
       by false = refl
 
 pub change-made : {S : Type 0} (w : World S) (r : Request) (x : Route) → AreBefore w.gate.items w.gate.live →
-    gate_made w (mark_as w.gate (Opens (changer w.gate r x)) None) ≡ record { world = change_world w r x; outs = map Urb (ending x w.gate.live); deeds = Submit r ∷ [] }
+    gate_made as_deeds w (mark_as w.gate (Opens (changer w.gate r x)) None) ≡ record { world = change_world w r x; outs = map Urb (ending x w.gate.live); told = Submit r ∷ [] }
 change-made {S = S} w r x before = λ i. record {
   world = record (change_world w r x) {
     gate = record (change_world w r x).gate {
@@ -138,7 +138,7 @@ change-made {S = S} w r x before = λ i. record {
     submits = (ap (λ (ps : List Pending). w.submits ++ flat_map named ((((note.Submitted r.number (last_of 0 (change_ids w.gate x)) ∷ map (λ (p : Pending). note.Answered p.submit.request.number) ps) ++ []) ++ []) ++ [])) (none-answer w.gate r x w.gate.live before)) i;
   };
   outs = ap (map Urb) (gives w.gate r x w.gate.live before) i;
-  deeds = ap (λ (ps : List Pending). ((Submit r ∷ map (λ (p : Pending). Answer p.submit.request.number) ps) ++ []) ++ []) (none-answer w.gate r x w.gate.live before) i;
+  told = ap (λ (ps : List Pending). ((Submit r ∷ map (λ (p : Pending). Answer p.submit.request.number) ps) ++ []) ++ []) (none-answer w.gate r x w.gate.live before) i;
 }
 
 -- ---- and the device

@@ -19,8 +19,8 @@ use Rattle.gate_history.proofs.lemmas.Lists.{Each-append}
 use Rattle.gate_history.specs.state.Ups.{stream_of}
 use Rattle.gate_history.specs.declared.facts.Facts.{Facts}
 use Rattle.direct_device.specs.Acting.{Offer, offered_by}
-use Rattle.direct_run.specs.Moves.{World, Offers}
-use Rattle.direct_proof.specs.Moves.{move, quiet}
+use Rattle.direct_run.specs.Moves.{World, Offers, move, quiet}
+use Rattle.direct_proof.specs.Deeds.{as_deeds}
 use Rattle.direct_proof.specs.Tagged.{Packed, on_wire, told}
 use Rattle.direct_proof.specs.Shared.{Shared, view}
 use Rattle.direct_proof.specs.Requests.{ran_of}
@@ -158,24 +158,24 @@ module _ {S : Type 0} (m : Meaning S) (laws : IsGadget m) (w : World S) (j : Sha
     outs-are = refl;
   }
 
-  pub keep-sent : Keeps m w j (move m w (Offers ep))
-  keep-sent = keeps-made m w j later (move m w (Offers ep)) new [] (Offer ep ∷ []) (offer-moved m w ep s sent plugged found ready) related offered-does
+  pub keep-sent : Keeps m w j (move as_deeds m w (Offers ep))
+  keep-sent = keeps-made m w j later (move as_deeds m w (Offers ep)) new [] (Offer ep ∷ []) (offer-moved m w ep s sent plugged found ready) related offered-does
 
 -- an offer keeps what is shared
-pub keep-offers : {S : Type 0} (m : Meaning S) → IsGadget m → (w : World S) (j : Shared) (ep : ℕ) → Related m w j → Keeps m w j (move m w (Offers ep))
+pub keep-offers : {S : Type 0} (m : Meaning S) → IsGadget m → (w : World S) (j : Shared) (ep : ℕ) → Related m w j → Keeps m w j (move as_deeds m w (Offers ep))
 keep-offers {S = S} m laws w j ep rel = by w.host.unplugged refl
   where
-    stands : move m w (Offers ep) ≡ quiet w → Keeps m w j (move m w (Offers ep))
-    stands is = keeps-quiet m w j j (move m w (Offers ep)) w is rel refl
+    stands : move as_deeds m w (Offers ep) ≡ quiet w → Keeps m w j (move as_deeds m w (Offers ep))
+    stands is = keeps-quiet m w j j (move as_deeds m w (Offers ep)) w is rel refl
 
-    given : (s : Running) → w.host.unplugged ≡ false → find (runs_at ep) w.host.running ≡ Some s → (o : Option (S × StreamPacket)) → m.offer w.host.gadget ep ≡ o → Keeps m w j (move m w (Offers ep))
+    given : (s : Running) → w.host.unplugged ≡ false → find (runs_at ep) w.host.running ≡ Some s → (o : Option (S × StreamPacket)) → m.offer w.host.gadget ep ≡ o → Keeps m w j (move as_deeds m w (Offers ep))
     given s p f None r = stands (offer-empty m w ep s p f r)
     given s p f (Some sent) r = keep-sent m laws w j rel ep s sent p f r
 
-    running : w.host.unplugged ≡ false → (o : Option Running) → find (runs_at ep) w.host.running ≡ o → Keeps m w j (move m w (Offers ep))
+    running : w.host.unplugged ≡ false → (o : Option Running) → find (runs_at ep) w.host.running ≡ o → Keeps m w j (move as_deeds m w (Offers ep))
     running p None f = stands (offer-closed m w ep p f)
     running p (Some s) f = given s p f (m.offer w.host.gadget ep) refl
 
-    by : (x : Bool) → w.host.unplugged ≡ x → Keeps m w j (move m w (Offers ep))
+    by : (x : Bool) → w.host.unplugged ≡ x → Keeps m w j (move as_deeds m w (Offers ep))
     by true gone = stands (offer-stands m w ep gone)
     by false p = running p (find (runs_at ep) w.host.running) refl

@@ -5,7 +5,7 @@ use Rattle.model_device.specs.Meaning.{Meaning}
 use Rattle.redir_host.specs.guest.Line.{Waiting as InLine}
 use Rattle.gate_history.proofs.lemmas.Lists.{Each-append}
 use Rattle.gate_history.specs.write.Bytes.{gateway_hello}
-use Rattle.direct_run.specs.Moves.{World, HostReads}
+use Rattle.direct_run.specs.Moves.{World, HostReads, move}
 use Rattle.direct_proof.specs.Shared.{Shared, lines, half_line, at_hosts, in_line, view}
 use Rattle.direct_proof.specs.Related.{Queued, Related}
 use Rattle.direct_proof.specs.Session.{Session, down_in, runs}
@@ -28,7 +28,7 @@ use Rattle.gate_history.specs.state.Ids.{times}
 use Rattle.gate_history.specs.state.Ups.{stream_of}
 use Rattle.gate_history.specs.declared.facts.Facts.{Facts}
 use Rattle.gate_history.proofs.lemmas.state.StreamIds.{times-append}
-use Rattle.direct_proof.specs.Moves.{move}
+use Rattle.direct_proof.specs.Deeds.{as_deeds}
 use Rattle.direct_proof.specs.Tagged.{Tagged, Stated, on_wire, told}
 use Rattle.direct_proof.specs.Requests.{ran_of}
 use Rattle.direct_proof.specs.Ids.{Ids}
@@ -186,8 +186,8 @@ module _ {S : Type 0} (m : Meaning S) (w : World S) (j : Shared) (rel : Related 
       farewell = farewell-sent new.host j.back (b ∷ []) plugged (rel.farewell.bye plugged) refl;
     }
 
-    keep-heard : Keeps m w j (move m w HostReads)
-    keep-heard = keeps-quiet m w j later (move m w HostReads) new (switched-moved m w q ps c wire plugged) related
+    keep-heard : Keeps m w j (move as_deeds m w HostReads)
+    keep-heard = keeps-quiet m w j later (move as_deeds m w HostReads) new (switched-moved m w q ps c wire plugged) related
         (λ i. record (view w j) { ran = cond w.gate.imported (map ran_of (sym (runs-last j.back b refl) i)) []; way = λ e. sym (way-stated (stream_of w.gate.streams e) e j.back c.kind q.0 c.ep 0) i })
 
   -- ---- a host that is unplugged reads on
@@ -243,12 +243,12 @@ module _ {S : Type 0} (m : Meaning S) (w : World S) (j : Shared) (rel : Related 
       quits-still : (e : ℕ) → Quits w.gate.fence e (runs_after e q.1 (runs w.host e)) ps → Quits w.gate.fence e (runs w.host e) ps
       quits-still e h = subst (λ (rs : List Running). Quits w.gate.fence e (list_any (runs_at e) rs) ps) (sym (rel.farewell.still gone)) (quits-off w.gate.fence e (runs_after e q.1 (runs w.host e)) ps h)
 
-  keep-unheard : advanced w.host.guest q.1 ≡ w.host.guest → w.host.unplugged ≡ true → Keeps m w j (move m w HostReads)
-  keep-unheard same gone = keeps-quiet m w j j (move m w HostReads) (record w { to_host = ps }) (unheard-moved m w q ps same wire gone) (unheard gone) refl
+  keep-unheard : advanced w.host.guest q.1 ≡ w.host.guest → w.host.unplugged ≡ true → Keeps m w j (move as_deeds m w HostReads)
+  keep-unheard same gone = keeps-quiet m w j j (move as_deeds m w HostReads) (record w { to_host = ps }) (unheard-moved m w q ps same wire gone) (unheard gone) refl
 
-  pub keep-switches : Keeps m w j (move m w HostReads)
+  pub keep-switches : Keeps m w j (move as_deeds m w HostReads)
   keep-switches = by w.host.unplugged refl
     where
-      by : (b : Bool) → w.host.unplugged ≡ b → Keeps m w j (move m w HostReads)
+      by : (b : Bool) → w.host.unplugged ≡ b → Keeps m w j (move as_deeds m w HostReads)
       by true gone = keep-unheard (switch-stays w.host.guest q x at-x) gone
       by false plugged = let s = rel.session (here plugged) (known plugged) in keep-heard plugged (here plugged) s (switch-of s)

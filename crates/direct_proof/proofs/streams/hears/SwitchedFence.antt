@@ -8,8 +8,8 @@ use Rattle.redir_host.specs.step.Moves.{quiet as host_quiet}
 use Rattle.redir_host.specs.guest.Packets.{packet_move_by}
 use Rattle.gate_history.specs.state.Ids.{times}
 use Rattle.gate_history.proofs.lemmas.state.StreamIds.{times-append}
-use Rattle.direct_run.specs.Moves.{World, HostReads}
-use Rattle.direct_proof.specs.Moves.{move, quiet, host_reads, host_takes}
+use Rattle.direct_run.specs.Moves.{World, HostReads, move, quiet, host_reads, host_takes}
+use Rattle.direct_proof.specs.Deeds.{as_deeds}
 use Rattle.direct_proof.specs.Tagged.{Tagged, Stated, on_wire}
 use Rattle.direct_proof.specs.StreamIds.{Fenced, stream_id, statuses_on, stream_ids_on}
 use Rattle.direct_proof.specs.Stale.{is_fence}
@@ -22,18 +22,18 @@ abbrev pub switched_world : {S : Type 0} → World S → List (ℕ × RedirPacke
 switched_world w ps running p = record w { to_host = ps; host = record w.host { running = running }; to_gate = w.to_gate ++ p ∷ [] }
 
 pub switched-moved : {S : Type 0} (m : Meaning S) (w : World S) (q : ℕ × RedirPacket) (ps : List (ℕ × RedirPacket)) (c : HostSwitches m w.host w.gate.streams q) → w.to_host ≡ q ∷ ps → w.host.unplugged ≡ false →
-    move m w HostReads ≡ quiet (switched_world w ps c.running (on_wire (Stated c.kind q.0 c.ep 0)))
+    move as_deeds m w HostReads ≡ quiet (switched_world w ps c.running (on_wire (Stated c.kind q.0 c.ep 0)))
 switched-moved {S = S} m w q ps c wire plugged =
-    ap (host_reads m w) wire
-    ∙ ap (host_takes (record w { to_host = ps })) (
+    ap (host_reads as_deeds m w) wire
+    ∙ ap (host_takes as_deeds (record w { to_host = ps })) (
     (λ i. cond (plugged i) (host_quiet (record w.host { guest = c.same i })) (packet_move_by m (record w.host { guest = c.same i }) q.0 q.1))
     ∙ c.moved)
 
 pub unheard-moved : {S : Type 0} (m : Meaning S) (w : World S) (q : ℕ × RedirPacket) (ps : List (ℕ × RedirPacket)) → advanced w.host.guest q.1 ≡ w.host.guest → w.to_host ≡ q ∷ ps → w.host.unplugged ≡ true →
-    move m w HostReads ≡ quiet (record w { to_host = ps })
+    move as_deeds m w HostReads ≡ quiet (record w { to_host = ps })
 unheard-moved m w q ps same wire gone =
-    ap (host_reads m w) wire
-    ∙ ap (host_takes (record w { to_host = ps })) (λ i. cond (gone i) (host_quiet (record w.host { guest = same i })) (packet_move_by m (record w.host { guest = same i }) q.0 q.1))
+    ap (host_reads as_deeds m w) wire
+    ∙ ap (host_takes as_deeds (record w { to_host = ps })) (λ i. cond (gone i) (host_quiet (record w.host { guest = same i })) (packet_move_by m (record w.host { guest = same i }) q.0 q.1))
     ∙ (λ i. quiet (record w { to_host = ps; to_gate = append-nil w.to_gate i }))
 
 -- ---- the fence

@@ -13,8 +13,8 @@ use Rattle.gate_history.specs.state.Ups.{Up, stream_of, hold}
 use Rattle.direct_device.specs.Direct.{Direct}
 use Rattle.direct_device.specs.Acting.{Answer, Arrive, received, arrived_by}
 use Rattle.direct_device.specs.Legal.{CanArrive}
-use Rattle.direct_run.specs.Moves.{World, GateReads}
-use Rattle.direct_proof.specs.Moves.{move, quiet, gate_reads, gate_made}
+use Rattle.direct_run.specs.Moves.{World, GateReads, move, quiet, gate_reads, gate_made}
+use Rattle.direct_proof.specs.Deeds.{as_deeds}
 use Rattle.direct_proof.specs.Tagged.{Tagged, Packed, on_wire, packets_in}
 use Rattle.direct_proof.specs.Shared.{Shared, way_of, view}
 use Rattle.direct_proof.specs.Requests.{live_of}
@@ -50,17 +50,17 @@ module _ {S : Type 0} (m : Meaning S) (w : World S) (j : Shared) (place : ℕ) (
   abbrev left : World S
   left = record w { to_gate = map on_wire bs }
 
-  came : move m w (GateReads place) ≡ gate_made left (mark_as w.gate (arrives w.gate ep k p (stream_of w.gate.streams ep)) None)
+  came : move as_deeds m w (GateReads place) ≡ gate_made as_deeds left (mark_as w.gate (arrives w.gate ep k p (stream_of w.gate.streams ep)) None)
   came =
-      ap (gate_reads w place) rel.answers
-      ∙ (λ i. cond (rel.sides.reads i) (quiet left) (gate_made left (arrival-means w.gate place k ep p is-in.low rel.tagged.0.2 i)))
+      ap (gate_reads as_deeds w place) rel.answers
+      ∙ (λ i. cond (rel.sides.reads i) (quiet left) (gate_made as_deeds left (arrival-means w.gate place k ep p is-in.low rel.tagged.0.2 i)))
 
   fenced-tail : Fenced w.gate.fence j.fenced w.to_host bs
   fenced-tail = fenced-same w.gate.fence j.fenced w.to_host (Packed k ep p ∷ bs) bs refl (rel.fenced (read-here m w j (Packed k ep p) bs rel))
 
-  lost-packet : stream_of w.gate.streams ep ≡ None → Keeps m w before (move m w (GateReads place))
-  lost-packet down = keeps-quiet m w before later (move m w (GateReads place)) (read_world w bs (suc w.gate.items) w.gate.live w.gate.streams w.gate.fence)
-      (came ∙ ap (λ (o : Option Up). gate_made left (mark_as w.gate (arrives w.gate ep k p o) None)) down ∙ idle-made left)
+  lost-packet : stream_of w.gate.streams ep ≡ None → Keeps m w before (move as_deeds m w (GateReads place))
+  lost-packet down = keeps-quiet m w before later (move as_deeds m w (GateReads place)) (read_world w bs (suc w.gate.items) w.gate.live w.gate.streams w.gate.fence)
+      (came ∙ ap (λ (o : Option Up). gate_made as_deeds left (mark_as w.gate (arrives w.gate ep k p o) None)) down ∙ idle-made left)
       (read-related m w j (Packed k ep p) bs rel (suc w.gate.items) w.gate.live w.gate.streams w.gate.fence (record {
         packet = packet-of k ep p;
         rows = rows-refl w.gate.streams;
@@ -125,9 +125,9 @@ module _ {S : Type 0} (m : Meaning S) (w : World S) (j : Shared) (place : ℕ) (
         (does-then m d taken (record taken { live = map live_of (stay_by ep f.fillings w.gate.live); streams = hold ep f.left taken.streams }) (Arrive ep ∷ []) (map Answer (told_by_fills ep f.fillings w.gate.live)) [] (map Urb (sent_by_fills ep f.fillings w.gate.live))
         arrive-does (fill-does (is_full up.held) refl))
 
-    held-packet : Keeps m w before (move m w (GateReads place))
-    held-packet = keeps-made m w before later (move m w (GateReads place)) new (map Urb (sent_by_fills ep f.fillings w.gate.live)) (Arrive ep ∷ map Answer (told_by_fills ep f.fillings w.gate.live))
-        (came ∙ ap (λ (o : Option Up). gate_made left (mark_as w.gate (arrives w.gate ep k p o) None)) here ∙ ap (λ e. gate_made left (mark_as w.gate e None)) (arrives-as w.gate k ep p up kind) ∙ arrives-made left ep f)
+    held-packet : Keeps m w before (move as_deeds m w (GateReads place))
+    held-packet = keeps-made m w before later (move as_deeds m w (GateReads place)) new (map Urb (sent_by_fills ep f.fillings w.gate.live)) (Arrive ep ∷ map Answer (told_by_fills ep f.fillings w.gate.live))
+        (came ∙ ap (λ (o : Option Up). gate_made as_deeds left (mark_as w.gate (arrives w.gate ep k p o) None)) here ∙ ap (λ e. gate_made as_deeds left (mark_as w.gate e None)) (arrives-as w.gate k ep p up kind) ∙ arrives-made left ep f)
         (read-related m w j (Packed k ep p) bs rel (suc w.gate.items) (stay_by ep f.fillings w.gate.live) (hold ep f.left w.gate.streams) w.gate.fence (record {
           packet = packet-of k ep p;
           rows = hold-rows ep f.left w.gate.streams is-in rel.ups.count_is;
@@ -141,9 +141,9 @@ module _ {S : Type 0} (m : Meaning S) (w : World S) (j : Shared) (place : ℕ) (
         }))
         packet-does
 
-  pub keep-packed : Keeps m w before (move m w (GateReads place))
+  pub keep-packed : Keeps m w before (move as_deeds m w (GateReads place))
   keep-packed = by (stream_of w.gate.streams ep) refl
     where
-      by : (o : Option Up) → stream_of w.gate.streams ep ≡ o → Keeps m w before (move m w (GateReads place))
+      by : (o : Option Up) → stream_of w.gate.streams ep ≡ o → Keeps m w before (move as_deeds m w (GateReads place))
       by None h = lost-packet h
       by (Some up) h = held-packet up h

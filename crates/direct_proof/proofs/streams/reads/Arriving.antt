@@ -32,8 +32,8 @@ use Rattle.gate_history.proofs.lemmas.step.NoCancel.{asks-none, none-cancelled, 
 use Rattle.direct_run.specs.declared.submitted.Submitted.{Submitted}
 use Rattle.direct_run.specs.Noted.{named}
 use Rattle.direct_device.specs.Acting.{Deed, Answer, Arrive}
-use Rattle.direct_run.specs.Moves.{World}
-use Rattle.direct_proof.specs.Moves.{gate_made}
+use Rattle.direct_run.specs.Moves.{World, gate_made}
+use Rattle.direct_proof.specs.Deeds.{as_deeds}
 use Rattle.redir_data.specs.Sent.{sent_header}
 use Rattle.redir_data.specs.StreamKinds.{is_kind_of}
 use Rattle.direct_proof.specs.Requests.{Debt, load_of, debts_of}
@@ -104,7 +104,7 @@ abbrev noted : State → ℕ → Fill → List Note
 noted st ep f = map (λ (p : Pending). note.Answered p.submit.request.number) (filter (λ p. is_by_answer (ends_by ep f.fillings p)) (st.live ++ []))
 
 pub arrives-made : {S : Type 0} (w : World S) (ep : ℕ) (f : Fill) →
-    gate_made w (mark_as w.gate (Arrives ep f) None) ≡ record { world = arrived_world w ep f; outs = map Urb (sent_by_fills ep f.fillings w.gate.live); deeds = Arrive ep ∷ map Answer (told_by_fills ep f.fillings w.gate.live) }
+    gate_made as_deeds w (mark_as w.gate (Arrives ep f) None) ≡ record { world = arrived_world w ep f; outs = map Urb (sent_by_fills ep f.fillings w.gate.live); told = Arrive ep ∷ map Answer (told_by_fills ep f.fillings w.gate.live) }
 arrives-made w ep f = λ i. record {
   world = record w {
     gate = record w.gate { items = suc w.gate.items; live = lives i; abandoned = filter-all w.gate.abandoned i; streams = hold ep f.left w.gate.streams };
@@ -112,7 +112,7 @@ arrives-made w ep f = λ i. record {
     submits = (names ∙ append-nil w.submits) i;
   };
   outs = ap (λ (ps : List Pending). map Urb (sent_by_fills ep f.fillings ps)) (append-nil w.gate.live) i;
-  deeds = deeds i;
+  told = deeds i;
 }
   where
     e : Effect

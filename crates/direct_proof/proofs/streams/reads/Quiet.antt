@@ -17,8 +17,8 @@ use Rattle.gate_history.proofs.lemmas.Lists.{filter-all}
 use Rattle.gate_history.proofs.lemmas.step.NoCancel.{asks-none, none-cancelled, stays-uncancelled}
 use Rattle.direct_run.specs.Noted.{named}
 use Rattle.direct_device.specs.Acting.{Answer}
-use Rattle.direct_run.specs.Moves.{World}
-use Rattle.direct_proof.specs.Moves.{gate_made, quiet}
+use Rattle.direct_run.specs.Moves.{World, gate_made, quiet}
+use Rattle.direct_proof.specs.Deeds.{as_deeds}
 
 -- where none of these ends
 module _ (e : Effect) (none : (s : Submission) → ends e s ≡ None) where
@@ -37,7 +37,7 @@ module _ (e : Effect) (none : (s : Submission) → ends e s ≡ None) where
 abbrev pub idle_world : {S : Type 0} → World S → Option ℕ → World S
 idle_world w fence = record w { gate = record w.gate { items = suc w.gate.items; fence = fence } }
 
-pub idle-made : {S : Type 0} (w : World S) → gate_made w (mark_as w.gate Idle None) ≡ quiet (idle_world w w.gate.fence)
+pub idle-made : {S : Type 0} (w : World S) → gate_made as_deeds w (mark_as w.gate Idle None) ≡ quiet (idle_world w w.gate.fence)
 idle-made w = λ i. record {
   world = record w {
     gate = record w.gate { items = suc w.gate.items; live = lives i; abandoned = filter-all w.gate.abandoned i };
@@ -45,14 +45,14 @@ idle-made w = λ i. record {
     submits = (ap (λ (ps : List Pending). w.submits ++ flat_map named ((((map (λ (p : Pending). note.Answered p.submit.request.number) ps ++ []) ++ []) ++ []))) (none-told Idle (λ s. refl) (w.gate.live ++ [])) ∙ append-nil w.submits) i;
   };
   outs = ap (map Urb) (none-given Idle (λ s. refl) (w.gate.live ++ [])) i;
-  deeds = ap (λ (ps : List Pending). (map (λ (p : Pending). Answer p.submit.request.number) ps ++ []) ++ []) (none-told Idle (λ s. refl) (w.gate.live ++ [])) i;
+  told = ap (λ (ps : List Pending). (map (λ (p : Pending). Answer p.submit.request.number) ps ++ []) ++ []) (none-told Idle (λ s. refl) (w.gate.live ++ [])) i;
 }
   where
     lives : live_after w.gate Idle ≡ w.gate.live
     lives = asks-none Idle (λ s. refl) (filter (λ p. is_none (ends Idle p.submit)) (w.gate.live ++ [])) ∙ all-live Idle (λ s. refl) (w.gate.live ++ []) ∙ append-nil w.gate.live
 
 -- a stream starts or stops as it was asked to
-pub stated-made : {S : Type 0} (w : World S) (id ep : ℕ) → gate_made w (mark_as w.gate (StreamTold id ep Success) None) ≡ quiet (idle_world w (lifted id w.gate.fence))
+pub stated-made : {S : Type 0} (w : World S) (id ep : ℕ) → gate_made as_deeds w (mark_as w.gate (StreamTold id ep Success) None) ≡ quiet (idle_world w (lifted id w.gate.fence))
 stated-made w id ep = λ i. record {
   world = record w {
     gate = record w.gate { items = suc w.gate.items; live = lives i; abandoned = filter-all w.gate.abandoned i; fence = lifted id w.gate.fence };
@@ -60,7 +60,7 @@ stated-made w id ep = λ i. record {
     submits = (ap (λ (ps : List Pending). w.submits ++ flat_map named ((((map (λ (p : Pending). note.Answered p.submit.request.number) ps ++ []) ++ []) ++ []))) (none-told (StreamTold id ep Success) none (w.gate.live ++ [])) ∙ append-nil w.submits) i;
   };
   outs = ap (map Urb) (none-given (StreamTold id ep Success) none (w.gate.live ++ [])) i;
-  deeds = ap (λ (ps : List Pending). (map (λ (p : Pending). Answer p.submit.request.number) ps ++ []) ++ []) (none-told (StreamTold id ep Success) none (w.gate.live ++ [])) i;
+  told = ap (λ (ps : List Pending). (map (λ (p : Pending). Answer p.submit.request.number) ps ++ []) ++ []) (none-told (StreamTold id ep Success) none (w.gate.live ++ [])) i;
 }
   where
     none : (s : Submission) → ends (StreamTold id ep Success) s ≡ None

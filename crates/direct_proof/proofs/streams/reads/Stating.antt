@@ -13,8 +13,8 @@ use Rattle.gate_history.specs.state.StreamIds.{lifted}
 use Rattle.gate_history.specs.state.State.{State}
 use Rattle.gate_history.specs.step.Meaning.{meaning, mark_as, fact_of}
 use Rattle.gate_history.specs.state.Ups.{Up, stream_of}
-use Rattle.direct_run.specs.Moves.{World, GateReads}
-use Rattle.direct_proof.specs.Moves.{move, quiet, gate_reads, gate_made}
+use Rattle.direct_run.specs.Moves.{World, GateReads, move, quiet, gate_reads, gate_made}
+use Rattle.direct_proof.specs.Deeds.{as_deeds}
 use Rattle.redir_data.specs.Sent.{sent_header}
 use Rattle.direct_proof.specs.Tagged.{Tagged, Stated, on_wire}
 use Rattle.direct_proof.specs.Shared.{Shared, way_of, view}
@@ -78,14 +78,14 @@ lifts id (Some f) fenced ps bs once b is h = by (f == id) refl
 -- ---- what is kept
 
 pub keep-stated : {S : Type 0} (m : Meaning S) (w : World S) (j : Shared) (place : ℕ) (k : StreamKind) (id ep status : ℕ) (bs : List Tagged) → Related m w (record j { back = Stated k id ep status ∷ bs }) →
-    Keeps m w (record j { back = Stated k id ep status ∷ bs }) (move m w (GateReads place))
+    Keeps m w (record j { back = Stated k id ep status ∷ bs }) (move as_deeds m w (GateReads place))
 keep-stated {S = S} m w j place k id ep status bs rel0 =
-    subst (λ (n : ℕ). Related m w (record j { back = Stated k id ep n ∷ bs }) → Keeps m w (record j { back = Stated k id ep n ∷ bs }) (move m w (GateReads place))) (sym rel0.tagged.0.2) zero-status rel0
+    subst (λ (n : ℕ). Related m w (record j { back = Stated k id ep n ∷ bs }) → Keeps m w (record j { back = Stated k id ep n ∷ bs }) (move as_deeds m w (GateReads place))) (sym rel0.tagged.0.2) zero-status rel0
   where
-    zero-status : Related m w (record j { back = Stated k id ep 0 ∷ bs }) → Keeps m w (record j { back = Stated k id ep 0 ∷ bs }) (move m w (GateReads place))
-    zero-status rel = keeps-quiet m w (record j { back = Stated k id ep 0 ∷ bs }) (record j { back = bs }) (move m w (GateReads place)) (read_world w bs (suc w.gate.items) w.gate.live w.gate.streams (lifted id w.gate.fence))
-        (ap (gate_reads w place) rel.answers
-        ∙ (λ i. cond (rel.sides.reads i) (quiet (record w { to_gate = map on_wire bs })) (gate_made (record w { to_gate = map on_wire bs }) (stated-means w.gate place k id ep i)))
+    zero-status : Related m w (record j { back = Stated k id ep 0 ∷ bs }) → Keeps m w (record j { back = Stated k id ep 0 ∷ bs }) (move as_deeds m w (GateReads place))
+    zero-status rel = keeps-quiet m w (record j { back = Stated k id ep 0 ∷ bs }) (record j { back = bs }) (move as_deeds m w (GateReads place)) (read_world w bs (suc w.gate.items) w.gate.live w.gate.streams (lifted id w.gate.fence))
+        (ap (gate_reads as_deeds w place) rel.answers
+        ∙ (λ i. cond (rel.sides.reads i) (quiet (record w { to_gate = map on_wire bs })) (gate_made as_deeds (record w { to_gate = map on_wire bs }) (stated-means w.gate place k id ep i)))
         ∙ stated-made (record w { to_gate = map on_wire bs }) id ep)
         (read-related m w j (Stated k id ep 0) bs rel (suc w.gate.items) w.gate.live w.gate.streams (lifted id w.gate.fence) (record {
           packet = status-of k id ep 0;

@@ -17,8 +17,8 @@ use Rattle.gate_history.specs.client.Requests.{request_of, address}
 use Rattle.gate_history.specs.state.State.{has_number}
 use Rattle.gate_history.specs.step.Meaning.{verdict_of, situation}
 use Rattle.gate_history.specs.declared.verdict.Verdict.TheVariants.{Stream}
-use Rattle.direct_run.specs.Moves.{World, ByClient}
-use Rattle.direct_proof.specs.Moves.{move}
+use Rattle.direct_run.specs.Moves.{World, ByClient, move}
+use Rattle.direct_proof.specs.Deeds.{as_deeds}
 use Rattle.direct_proof.specs.Shared.{Shared}
 use Rattle.direct_proof.specs.Related.{Related}
 use Rattle.direct_proof.specs.Kinds.{IsIn}
@@ -84,5 +84,5 @@ stream-in {S = S} m w j s row rel imported v =
 
 -- a submit that waits for a stream, with no premise on its bytes
 pub keep-stream-submit : {S : Type 0} (m : Meaning S) (w : World S) (j : Shared) (place : ℕ) (s : UrbSubmit) (row : EpRow) → Related m w j → IsGate w.gate → w.gate.imported ≡ true → w.gate.client_over ≡ false → has_number w.gate s.head.seqnum ≡ false → verdict_of w.gate (request_of s) ≡ Stream row →
-    Keeps m w j (move m w (ByClient (Asked place (Urb (urb.Submit s)))))
+    Keeps m w j (move as_deeds m w (ByClient (Asked place (Urb (urb.Submit s)))))
 keep-stream-submit m w j place s row rel gate imported present new v = keep-waits m w j place s row rel gate imported present new v (stream-in m w j s row rel imported v)

@@ -41,8 +41,8 @@ use Rattle.direct_run.specs.declared.submitted.Submitted.{Submitted}
 use Rattle.direct_run.specs.Noted.{named}
 use Rattle.direct_device.specs.Direct.{Live, Direct, is_number, way_by}
 use Rattle.direct_device.specs.Acting.{Deed, Answer, Submit, answers, made_of, submitted, submit_answers}
-use Rattle.direct_run.specs.Moves.{World}
-use Rattle.direct_proof.specs.Moves.{gate_made}
+use Rattle.direct_run.specs.Moves.{World, gate_made}
+use Rattle.direct_proof.specs.Deeds.{as_deeds}
 use Rattle.direct_proof.proofs.performs.Performs.{itself}
 use Rattle.direct_proof.proofs.streams.Keeping.{Does}
 use Rattle.direct_proof.proofs.streams.fills.Fills.{asking_at, ends_by}
@@ -98,11 +98,11 @@ abbrev noted : State → Request → EpRow → List Note
 noted st r row = map (λ (p : Pending). note.Answered p.submit.request.number) (filter (λ p. is_by_answer (ends_by r.transfer.ep (fill_for st r row).fillings p)) (with_waiter st r row))
 
 pub waits-made : {S : Type 0} (w : World S) (r : Request) (row : EpRow) →
-    gate_made w (mark_as w.gate (Waits (waiter w.gate r row) (fill_for w.gate r row)) None) ≡
+    gate_made as_deeds w (mark_as w.gate (Waits (waiter w.gate r row) (fill_for w.gate r row)) None) ≡
     record {
       world = waits_world w r row;
       outs = map Urb (sent_by_fills r.transfer.ep (fill_for w.gate r row).fillings (with_waiter w.gate r row));
-      deeds = Submit r ∷ map Answer (told_by_fills r.transfer.ep (fill_for w.gate r row).fillings (with_waiter w.gate r row));
+      told = Submit r ∷ map Answer (told_by_fills r.transfer.ep (fill_for w.gate r row).fillings (with_waiter w.gate r row));
     }
 waits-made {S = S} w r row = λ i. record {
   world = record (waits_world w r row) {
@@ -111,7 +111,7 @@ waits-made {S = S} w r row = λ i. record {
     submits = names i;
   };
   outs = map Urb (sent_by_fills r.transfer.ep (fill_for w.gate r row).fillings (with_waiter w.gate r row));
-  deeds = deeds i;
+  told = deeds i;
 }
   where
     lives : live_after w.gate (Waits (waiter w.gate r row) (fill_for w.gate r row)) ≡ stay_by r.transfer.ep (fill_for w.gate r row).fillings (with_waiter w.gate r row)
@@ -125,7 +125,7 @@ waits-made {S = S} w r row = λ i. record {
 
     deeds : (Submit r ∷ map (λ (p : Pending). Answer p.submit.request.number) (filter (λ p. is_by_answer (ends_by r.transfer.ep (fill_for w.gate r row).fillings p)) (with_waiter w.gate r row)) ++ []) ++ [] ≡
         Submit r ∷ map Answer (told_by_fills r.transfer.ep (fill_for w.gate r row).fillings (with_waiter w.gate r row))
-    deeds = append-nil _ ∙ append-nil _
+    told = append-nil _ ∙ append-nil _
         ∙ ap (λ (l : List Deed). Submit r ∷ l) (sym (map-map Answer (λ (p : Pending). p.submit.request.number) (filter (λ p. is_by_answer (ends_by r.transfer.ep (fill_for w.gate r row).fillings p)) (with_waiter w.gate r row))))
 
 -- ---- and the device

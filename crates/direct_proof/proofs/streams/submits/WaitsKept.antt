@@ -32,8 +32,8 @@ use Rattle.gate_history.proofs.lemmas.state.StreamIds.{start-stream_ids}
 use Rattle.direct_proof.proofs.shared.New.{next_id}
 use Rattle.direct_device.specs.Direct.{Live, Direct, is_number, way_if}
 use Rattle.direct_device.specs.Acting.{Submit, Answer, made_of}
-use Rattle.direct_run.specs.Moves.{World, ByClient}
-use Rattle.direct_proof.specs.Moves.{move, gate_made, quiet}
+use Rattle.direct_run.specs.Moves.{World, ByClient, move, gate_made, quiet}
+use Rattle.direct_proof.specs.Deeds.{as_deeds}
 use Rattle.direct_proof.specs.Shared.{Shared, way_of, view}
 use Rattle.direct_proof.specs.Requests.{live_of}
 use Rattle.direct_proof.specs.Related.{Related}
@@ -108,9 +108,9 @@ module _ {S : Type 0} (m : Meaning S) (w : World S) (j : Shared) (place : ℕ) (
     abbrev ps : List Pending
     ps = with_waiter w.gate r row
 
-    moved : move m w (ByClient (Asked place (Urb (urb.Submit s)))) ≡ record { world = waits_world w r row; outs = map Urb (sent_by_fills ep f.fillings ps); deeds = Submit r ∷ map Answer (told_by_fills ep f.fillings ps) }
+    moved : move as_deeds m w (ByClient (Asked place (Urb (urb.Submit s)))) ≡ record { world = waits_world w r row; outs = map Urb (sent_by_fills ep f.fillings ps); told = Submit r ∷ map Answer (told_by_fills ep f.fillings ps) }
     moved =
-        (λ i. cond (present i) (quiet w) (gate_made w (mark_as w.gate (waits-means w.gate place s first row imported new v kept i) None)))
+        (λ i. cond (present i) (quiet w) (gate_made as_deeds w (mark_as w.gate (waits-means w.gate place s first row imported new v kept i) None)))
         ∙ waits-made w r row
 
     related : Related m (waits_world w r row) j
@@ -135,11 +135,11 @@ module _ {S : Type 0} (m : Meaning S) (w : World S) (j : Shared) (place : ℕ) (
             ∙ way-rows (stream_of ups e) (stream_of (hold ep f.left ups) e) e j.back (sym (hold-rows ep f.left ups at after.fits.count_is e))
             ∙ ap (λ (us : List (Option Up)). way_of (stream_of (hold ep f.left us) e) e j.back) (sym raise-is)
 
-    keeps : Keeps m w j (move m w (ByClient (Asked place (Urb (urb.Submit s)))))
-    keeps = keeps-made m w j j (move m w (ByClient (Asked place (Urb (urb.Submit s))))) (waits_world w r row) (map Urb (sent_by_fills ep f.fillings ps)) (Submit r ∷ map Answer (told_by_fills ep f.fillings ps)) moved related does
+    keeps : Keeps m w j (move as_deeds m w (ByClient (Asked place (Urb (urb.Submit s)))))
+    keeps = keeps-made m w j j (move as_deeds m w (ByClient (Asked place (Urb (urb.Submit s))))) (waits_world w r row) (map Urb (sent_by_fills ep f.fillings ps)) (Submit r ∷ map Answer (told_by_fills ep f.fillings ps)) moved related does
 
   -- a stream that is up
-  keep-up : (up : Up) → stream_at w.gate.streams ep ≡ Some up → Keeps m w j (move m w (ByClient (Asked place (Urb (urb.Submit s)))))
+  keep-up : (up : Up) → stream_at w.gate.streams ep ≡ Some up → Keeps m w j (move as_deeds m w (ByClient (Asked place (Urb (urb.Submit s)))))
   keep-up up here = keeps up.row (ap (λ (o : Option Up). by_stream o (Stream first)) here) w.gate.streams (ap (λ (o : Option Up). cond (is_some o) w.gate.streams (slice_set w.gate.streams (endpoint_index ep) (Some (record { ep = ep; row = up.row; held = [] })))) here) after
       (subst (Holds w.gate.streams ep up.row.max_packet) (sym (ap held_of here)) (holds-at w.gate.streams ep up at rel.ups.count_is (by-address w.gate.streams ep at ∙ here)))
       (λ e. again (stream_of w.gate.streams e) e)
@@ -162,7 +162,7 @@ module _ {S : Type 0} (m : Meaning S) (w : World S) (j : Shared) (place : ℕ) (
   abbrev ups1 : List (Option Up)
   ups1 = slice_set w.gate.streams (endpoint_index ep) (Some (record { ep = ep; row = first; held = [] }))
 
-  keep-down : stream_at w.gate.streams ep ≡ None → Keeps m w j (move m w (ByClient (Asked place (Urb (urb.Submit s)))))
+  keep-down : stream_at w.gate.streams ep ≡ None → Keeps m w j (move as_deeds m w (ByClient (Asked place (Urb (urb.Submit s)))))
   keep-down here = keeps first (ap (λ (o : Option Up). by_stream o (Stream first)) here) ups1 (ap (λ (o : Option Up). cond (is_some o) w.gate.streams (slice_set w.gate.streams (endpoint_index up1.ep) (Some up1))) here) after
       (subst (Holds ups1 ep first.max_packet) (sym (ap held_of here)) (holds-at ups1 ep up1 at raised-fits.fits.count_is (up-here m w j ep (next_id w.gate) first rel still at facts.kind_is row-is down gate.long (id-free w.gate gate))))
       (way-raised m w j ep (next_id w.gate) first rel still at facts.kind_is row-is down gate.long (id-free w.gate gate))
@@ -183,9 +183,9 @@ module _ {S : Type 0} (m : Meaning S) (w : World S) (j : Shared) (place : ℕ) (
       after = subst (λ (l : List (ℕ × RedirPacket)). AfterWait m w j (w.to_host ++ l) (stream_ids_after l w.gate.stream_ids) (slice_set w.gate.streams (endpoint_index ep) (Some (record { ep = ep; row = first; held = [] })))) (sym sent)
           (subst (λ (c : StreamIds). AfterWait m w j (w.to_host ++ (next_id w.gate, start_packet ep first) ∷ []) c (slice_set w.gate.streams (endpoint_index ep) (Some (record { ep = ep; row = first; held = [] })))) (sym (start-stream_ids (next_id w.gate) ep first w.gate.stream_ids)) raised-fits)
 
-  pub keep-waits : Keeps m w j (move m w (ByClient (Asked place (Urb (urb.Submit s)))))
+  pub keep-waits : Keeps m w j (move as_deeds m w (ByClient (Asked place (Urb (urb.Submit s)))))
   keep-waits = by (stream_at w.gate.streams ep) refl
     where
-      by : (o : Option Up) → stream_at w.gate.streams ep ≡ o → Keeps m w j (move m w (ByClient (Asked place (Urb (urb.Submit s)))))
+      by : (o : Option Up) → stream_at w.gate.streams ep ≡ o → Keeps m w j (move as_deeds m w (ByClient (Asked place (Urb (urb.Submit s)))))
       by None h = keep-down h
       by (Some up) h = keep-up up h
