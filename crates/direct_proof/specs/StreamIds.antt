@@ -5,7 +5,7 @@ use Rattle.usb_base.specs.Endpoint.{endpoint_index}
 use Rattle.redir_data.specs.declared.packet.RedirPacket.{RedirPacket}
 use Rattle.gate_history.specs.state.StreamIds.{StreamIds}
 use Rattle.gate_history.specs.state.Ids.{times}
-use Rattle.direct_proof.specs.Running.{stream_endpoint}
+use Rattle.direct_proof.specs.Running.{passes, stream_endpoint}
 use Rattle.direct_proof.specs.Tagged.{Stated, Tagged}
 
 abbrev pub stream_id : ℕ × RedirPacket → List ℕ
@@ -23,13 +23,9 @@ abbrev pub statuses_on : List Tagged → List ℕ
 statuses_on [] = []
 statuses_on (b ∷ bs) = status_id b ++ statuses_on bs
 
-abbrev pub is_id : ℕ → Option ℕ → Bool
-is_id id None = false
-is_id id (Some other) = other == id
-
 -- the id is one that the gateway keeps for the endpoint
 abbrev pub IdIsKept : StreamIds → ℕ → ℕ → Type 0
-IdIsKept c id ep = (is_id id (get_or c.started (endpoint_index ep) None) || is_id id (get_or c.stopped (endpoint_index ep) None)) ≡ true
+IdIsKept c id ep = (passes (λ kept. kept == id) (get_or c.started (endpoint_index ep) None) || passes (λ kept. kept == id) (get_or c.stopped (endpoint_index ep) None)) ≡ true
 
 abbrev pub StreamIdIsKept : StreamIds → ℕ → Option ℕ → Type 0
 StreamIdIsKept c id None = Unit {0}

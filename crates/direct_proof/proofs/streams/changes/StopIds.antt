@@ -12,8 +12,8 @@ use Rattle.gate_history.specs.write.Packets.{stop_packet, stops}
 use Rattle.gate_history.specs.state.Ups.{Up}
 use Rattle.gate_history.proofs.lemmas.state.StreamIds.{times-append, stop-stream_ids}
 use Rattle.direct_proof.specs.Kinds.{IsIn, UpFits}
-use Rattle.direct_proof.specs.StreamIds.{IdIsKept, StreamIdIsKept, is_id, stream_id, stream_ids_on}
-use Rattle.direct_proof.specs.Running.{stream_endpoint}
+use Rattle.direct_proof.specs.StreamIds.{IdIsKept, StreamIdIsKept, stream_id, stream_ids_on}
+use Rattle.direct_proof.specs.Running.{passes, stream_endpoint}
 use Rattle.direct_proof.proofs.streams.fills.FillLists.{weight}
 use Rattle.direct_proof.proofs.shared.UpsFound.{in-place}
 use Rattle.direct_proof.proofs.streams.changes.Stops.{stopping, stop-is}
@@ -39,14 +39,14 @@ kept-stop : (up : Up) (id : ℕ) (c : StreamIds) (n e : ℕ) → get_or c.stoppe
 kept-stop up id c n e free kept = go (endpoint_index e == endpoint_index up.ep) refl
   where
     go : (b : Bool) → (endpoint_index e == endpoint_index up.ep) ≡ b → IdIsKept (stopped up.ep id c) n e
-    go false i = (λ t. is_id n (get_or c.started (endpoint_index e) None) || is_id n (get_or-set_other c.stopped (endpoint_index up.ep) (endpoint_index e) (Some id) None (apart (endpoint_index e) (endpoint_index up.ep) i) t)) ∙ kept
+    go false i = (λ t. passes (λ x. x == n) (get_or c.started (endpoint_index e) None) || passes (λ x. x == n) (get_or-set_other c.stopped (endpoint_index up.ep) (endpoint_index e) (Some id) None (apart (endpoint_index e) (endpoint_index up.ep) i) t)) ∙ kept
       where
         apart : (x y : ℕ) → (x == y) ≡ false → x ≢ y
         apart x y f g = grind (arith, f, g)
     go true i =
         let same : endpoint_index e ≡ endpoint_index up.ep = equal (endpoint_index e) (endpoint_index up.ep) i in
-        or_left (is_id n (get_or c.started (endpoint_index e) None)) (is_id n (get_or (slice_set c.stopped (endpoint_index up.ep) (Some id)) (endpoint_index e) None))
-        (left (is_id n (get_or c.started (endpoint_index e) None)) (is_id n (get_or c.stopped (endpoint_index e) None)) kept (ap (is_id n) (ap (λ (k : ℕ). get_or c.stopped k None) same ∙ free)))
+        or_left (passes (λ x. x == n) (get_or c.started (endpoint_index e) None)) (passes (λ x. x == n) (get_or (slice_set c.stopped (endpoint_index up.ep) (Some id)) (endpoint_index e) None))
+        (left (passes (λ x. x == n) (get_or c.started (endpoint_index e) None)) (passes (λ x. x == n) (get_or c.stopped (endpoint_index e) None)) kept (ap (passes (λ x. x == n)) (ap (λ (k : ℕ). get_or c.stopped k None) same ∙ free)))
       where
         equal : (x y : ℕ) → (x == y) ≡ true → x ≡ y
         equal x y f = grind (arith, f)
@@ -56,8 +56,8 @@ kept-stop up id c n e free kept = go (endpoint_index e == endpoint_index up.ep) 
         left false b x y = absurd (both_ways b y x)
 
 new-stop : (up : Up) (id : ℕ) (c : StreamIds) → IsIn up.ep → length c.stopped ≡ 32 → IdIsKept (stopped up.ep id c) id up.ep
-new-stop up id c h n = or_right (is_id id (get_or c.started (endpoint_index up.ep) None)) (is_id id (get_or (slice_set c.stopped (endpoint_index up.ep) (Some id)) (endpoint_index up.ep) None))
-    (ap (is_id id) (get_or-set_same c.stopped (endpoint_index up.ep) (Some id) None (subst (λ (k : ℕ). endpoint_index up.ep < k) (sym n) (in-place up.ep h))) ∙ itself id)
+new-stop up id c h n = or_right (passes (λ x. x == id) (get_or c.started (endpoint_index up.ep) None)) (passes (λ x. x == id) (get_or (slice_set c.stopped (endpoint_index up.ep) (Some id)) (endpoint_index up.ep) None))
+    (ap (passes (λ x. x == id)) (get_or-set_same c.stopped (endpoint_index up.ep) (Some id) None (subst (λ (k : ℕ). endpoint_index up.ep < k) (sym n) (in-place up.ep h))) ∙ itself id)
   where
     itself : (k : ℕ) → (k == k) ≡ true
     itself k = grind arith

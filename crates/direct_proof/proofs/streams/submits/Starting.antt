@@ -24,8 +24,8 @@ use Rattle.gate_history.specs.write.Packets.{start_packet}
 use Rattle.gate_history.proofs.lemmas.state.StreamIds.{AreLong, times-append}
 use Rattle.direct_proof.specs.Tagged.{Tagged, Stated}
 use Rattle.direct_proof.specs.Kinds.{IsIn}
-use Rattle.direct_proof.specs.StreamIds.{IdIsKept, StreamIdIsKept, StatusIsKept, is_id, stream_id, stream_ids_on, status_id, statuses_on}
-use Rattle.direct_proof.specs.Running.{stream_endpoint, started_kind}
+use Rattle.direct_proof.specs.StreamIds.{IdIsKept, StreamIdIsKept, StatusIsKept, stream_id, stream_ids_on, status_id, statuses_on}
+use Rattle.direct_proof.specs.Running.{passes, stream_endpoint, started_kind}
 use Rattle.direct_proof.proofs.streams.fills.FillLists.{weight}
 use Rattle.direct_proof.proofs.streams.wires.Folds.{or-either}
 use Rattle.direct_proof.proofs.shared.UpsFound.{in-place, places-differ}
@@ -72,7 +72,7 @@ can-start table k ep row h same right = λ i. small ep h i && (in-byte ep h i &&
 
 -- ---- ids that are kept
 
-held-id : (id i : ℕ) (xs : List (Option ℕ)) → is_id id (get_or xs i None) ≡ true → list_any (λ x. id == x) (flat_map option_to_list xs) ≡ true
+held-id : (id i : ℕ) (xs : List (Option ℕ)) → passes (λ x. x == id) (get_or xs i None) ≡ true → list_any (λ x. id == x) (flat_map option_to_list xs) ≡ true
 held-id id i [] h = absurd (true≢false (sym h))
 held-id id zero (None ∷ xs) h = absurd (true≢false (sym h))
 held-id id zero (Some x ∷ xs) h = or_left (id == x) (list_any (λ y. id == y) (flat_map option_to_list xs)) (flip x id h)
@@ -83,9 +83,9 @@ held-id id (suc i) (None ∷ xs) h = held-id id i xs h
 held-id id (suc i) (Some x ∷ xs) h = or_right (id == x) (list_any (λ y. id == y) (flat_map option_to_list xs)) (held-id id i xs h)
 
 pub kept-held : (c : StreamIds) (id ep : ℕ) → IdIsKept c id ep → holds (ids_of_streams c) id ≡ true
-kept-held c id ep h = list_any-append (λ x. id == x) (flat_map option_to_list c.started) (flat_map option_to_list c.stopped) ∙ go (or-either (is_id id (get_or c.started (endpoint_index ep) None)) (is_id id (get_or c.stopped (endpoint_index ep) None)) h)
+kept-held c id ep h = list_any-append (λ x. id == x) (flat_map option_to_list c.started) (flat_map option_to_list c.stopped) ∙ go (or-either (passes (λ x. x == id) (get_or c.started (endpoint_index ep) None)) (passes (λ x. x == id) (get_or c.stopped (endpoint_index ep) None)) h)
   where
-    go : (is_id id (get_or c.started (endpoint_index ep) None) ≡ true) ⊎ (is_id id (get_or c.stopped (endpoint_index ep) None) ≡ true) → (list_any (λ x. id == x) (flat_map option_to_list c.started) || list_any (λ x. id == x) (flat_map option_to_list c.stopped)) ≡ true
+    go : (passes (λ x. x == id) (get_or c.started (endpoint_index ep) None) ≡ true) ⊎ (passes (λ x. x == id) (get_or c.stopped (endpoint_index ep) None) ≡ true) → (list_any (λ x. id == x) (flat_map option_to_list c.started) || list_any (λ x. id == x) (flat_map option_to_list c.stopped)) ≡ true
     go (inl k) = or_left (list_any (λ x. id == x) (flat_map option_to_list c.started)) (list_any (λ x. id == x) (flat_map option_to_list c.stopped)) (held-id id (endpoint_index ep) c.started k)
     go (inr k) = or_right (list_any (λ x. id == x) (flat_map option_to_list c.started)) (list_any (λ x. id == x) (flat_map option_to_list c.stopped)) (held-id id (endpoint_index ep) c.stopped k)
 
@@ -116,10 +116,10 @@ no-statuses c id free (b ∷ bs) h = let rest = no-statuses c id free bs h.1 in 
 -- ---- with one start more
 
 pub kept-new : (c : StreamIds) (id ep : ℕ) → AreLong c → IsIn ep → IdIsKept (started ep id c) id ep
-kept-new c id ep long h = or_left (is_id id (get_or (slice_set c.started (endpoint_index ep) (Some id)) (endpoint_index ep) None)) _ (ap (is_id id) (get_or-set_same c.started (endpoint_index ep) (Some id) None (subst (λ (n : ℕ). endpoint_index ep < n) (sym long.started) (in-place ep h))) ∙ itself id)
+kept-new c id ep long h = or_left (passes (λ x. x == id) (get_or (slice_set c.started (endpoint_index ep) (Some id)) (endpoint_index ep) None)) _ (ap (passes (λ x. x == id)) (get_or-set_same c.started (endpoint_index ep) (Some id) None (subst (λ (n : ℕ). endpoint_index ep < n) (sym long.started) (in-place ep h))) ∙ itself id)
   where
     itself : (n : ℕ) → (n == n) ≡ true
     itself n = grind arith
 
 pub kept-other : (c : StreamIds) (id ep other e : ℕ) → IsIn ep → IsIn e → (e == ep) ≡ false → IdIsKept c other e → IdIsKept (started ep id c) other e
-kept-other c id ep other e h k apart kept = (λ i. is_id other (get_or-set_other c.started (endpoint_index ep) (endpoint_index e) (Some id) None (places-differ e ep k h apart) i) || is_id other (get_or-set_other c.stopped (endpoint_index ep) (endpoint_index e) None None (places-differ e ep k h apart) i)) ∙ kept
+kept-other c id ep other e h k apart kept = (λ i. passes (λ x. x == other) (get_or-set_other c.started (endpoint_index ep) (endpoint_index e) (Some id) None (places-differ e ep k h apart) i) || passes (λ x. x == other) (get_or-set_other c.stopped (endpoint_index ep) (endpoint_index e) None None (places-differ e ep k h apart) i)) ∙ kept
