@@ -1,5 +1,5 @@
--- A list of moves that follows a course: both sides, the packets that are on the wires, those to the client, and what is told are
--- the same.
+-- A list of moves that follows a course: both sides, the packets that are on the wires, those to the client, and what
+-- is told are the same.
 use Rattle.std.proofs.Common.{◌≡◌, ℕ, Bool, true, false, cond, List, [], ◌∷◌, ◌++◌, refl, sym, ap, ◌∙◌, append-nil, append_assoc}
 use Rattle.std.specs.List.{flat_map}
 use Rattle.std.proofs.lemmas.Grind.{flat_map-append}

@@ -1,7 +1,8 @@
 -- What stands on a wire: a hello, and behind it packets that are spelled with the same capabilities. Each has the
 -- header that it is read with.
-use Rattle.std.proofs.Common.{◌≡◌, ℕ, ◌==◌, not, Bool, true, false, List, [], ◌∷◌, ◌++◌, map, Option, Some, None, refl, sym, ap, ◌∙◌, subst, lit<, arith}
+use Rattle.std.proofs.Common.{◌≡◌, ℕ, ◌==◌, Bool, true, false, List, [], ◌∷◌, ◌++◌, map, Option, Some, None, refl, sym, ap, ◌∙◌, subst, lit<, arith}
 use Rattle.std.specs.List.{flat_map}
+use Rattle.std.proofs.lemmas.Bool.{not-true}
 use Rattle.packet_stream.specs.Format.{IsSound, wrong_at}
 use Rattle.redir_wire.specs.declared.packet.Caps.{Caps}
 use Rattle.redir_wire.specs.declared.packet.Header.{Header}
@@ -73,12 +74,8 @@ abbrev pub is_hello : RedirPacket → Bool
 is_hello (Plain p) = wire.is_hello p
 is_hello (Carrying d) = false
 
-turned : (b : Bool) → not b ≡ true → b ≡ false
-turned true e = absurd cc
-turned false e = refl
-
 pub no-hello : (caps : Caps) (way : Way) (p : ℕ × RedirPacket) → CanBeRead way caps p → is_hello p.1 ≡ false
-no-hello caps way (id, Plain p) fits = turned (wire.number_of p == 0) (header_says fits.header).in_turn
+no-hello caps way (id, Plain p) fits = not-true (wire.number_of p == 0) (header_says fits.header).in_turn
 no-hello caps way (id, Carrying d) fits = refl
 
 -- so it changes nothing of how the next is read

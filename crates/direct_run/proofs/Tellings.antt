@@ -1,4 +1,5 @@
--- A run told in two ways makes the same world and sends the same to clients, and what is told agrees where the tellings do.
+-- A run told in two ways makes the same world and sends the same to clients, and what is told agrees where the tellings
+-- do.
 use Rattle.std.proofs.Common.{◌≡◌, ℕ, Bool, true, false, cond, List, [], ◌∷◌, ◌++◌, refl, sym, ◌∙◌, subst}
 use Rattle.std.specs.List.{flat_map}
 use Rattle.redir_data.specs.declared.packet.RedirPacket.{RedirPacket}

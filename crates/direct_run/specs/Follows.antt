@@ -19,8 +19,8 @@ use Rattle.direct_run.specs.Packets.{sent_by_gate, sent_by_host, read_by_host, r
 use Rattle.direct_run.specs.Trace.{submits_of}
 use Rattle.direct_run.specs.World.{Course, first_id}
 
--- both sides are the same, the packets on the wires are those that were sent and haven't been read, and the same was sent to
--- clients, told and accepted
+-- both sides are the same, the packets on the wires are those that were sent and haven't been read, and the same was
+-- sent to clients, told and accepted
 pub record Follows {S : Type 0} (m : Meaning S) (s : S) (c : Course) (items : List Item) (r : Made S Item) (submitted : List Submission) : Type 0 where
   pub gate : r.world.gate ≡ state_of first_id (history first_id c.events)
   pub host : r.world.host ≡ host_of m s c.acts

@@ -1,5 +1,6 @@
 -- A transfer by a packet of its own is read by the host as it was asked.
-use Rattle.std.proofs.Common.{◌≡◌, ℕ, ◌%◌, ◌==◌, ◌<◌, ◌≤◌, ◌&&◌, not, Bool, true, false, cond, nat_lt, nat_le, Option, Some, None, refl, sym, ap, ◌∙◌, arith, unwrap_or}
+use Rattle.std.proofs.Common.{◌≡◌, ℕ, ◌%◌, ◌==◌, ◌<◌, ◌≤◌, not, Bool, true, false, cond, nat_lt, nat_le, Option, Some, None, refl, sym, ap, ◌∙◌, arith, unwrap_or}
+use Rattle.std.proofs.lemmas.Bool.{and_from}
 use Rattle.usb_base.specs.declared.setup.Setup.{Setup}
 use Rattle.usb_base.specs.declared.transfer.Transfer.{Transfer}
 use Rattle.redir_data.specs.declared.packet.RedirData.{RedirData}
@@ -17,11 +18,8 @@ use Rattle.direct_proof.specs.Requests.{pipe_form}
 use Rattle.direct_proof.specs.Loads.{FitsPipe}
 use Rattle.direct_proof.proofs.performs.Performs.{itself}
 
-and-true : (a b : Bool) → a ≡ true → b ≡ true → (a && b) ≡ true
-and-true a b i j = λ t. i t && j t
-
 other-endpoint : (t : Transfer) → IsTransfer t → is_control t.ep ≡ false → is_other t.ep ≡ true
-other-endpoint t is other = and-true (nat_lt (t.ep % 128) 16) (not (is_control t.ep)) (low (t.ep % 128) is.address) (ap not other)
+other-endpoint t is other = and_from (nat_lt (t.ep % 128) 16) (not (is_control t.ep)) (low (t.ep % 128) is.address) (ap not other)
   where
     low : (n : ℕ) → n < 16 → nat_lt n 16 ≡ true
     low n h = grind (arith, h)
@@ -54,7 +52,7 @@ heard-as Control t is fits d packet = go t.setup refl fits
         asked n = record { ep = t.ep; setup = Some (told n); wanted = n; body = t.body }
 heard-as Bulk t is fits d packet =
     ap asking_of (same (sym packet))
-    ∙ ap (λ (b : Bool). asked_if b (form.Bulk 0) (record { ep = t.ep; setup = None; wanted = t.wanted; body = t.body })) (and-true (is_other t.ep) (nat_le t.wanted MAX_TRANSFER) (other-endpoint t is fits.1) (few t.wanted fits.2))
+    ∙ ap (λ (b : Bool). asked_if b (form.Bulk 0) (record { ep = t.ep; setup = None; wanted = t.wanted; body = t.body })) (and_from (is_other t.ep) (nat_le t.wanted MAX_TRANSFER) (other-endpoint t is fits.1) (few t.wanted fits.2))
     ∙ (λ i. Asks (form.Bulk 0) (record t { setup = sym fits.0 i }))
   where
     same : Carrying d ≡ Carrying (moving.Bulk t.ep 0 t.wanted 0 t.body) → d ≡ moving.Bulk t.ep 0 t.wanted 0 t.body

@@ -1,5 +1,6 @@
 -- What the host makes of each packet that it reads.
 use Rattle.std.proofs.Common.{◌≡◌, ℕ, ◌||◌, ◌&&◌, not, Bool, true, false, cond, [], ◌∷◌, ◌++◌, Option, is_some, refl, sym, ap, ◌∙◌}
+use Rattle.std.proofs.Math.Bool.{and-false}
 use Rattle.usb_base.specs.declared.transfer.Transfer.{Transfer}
 use Rattle.usb_base.specs.Endpoint.{is_in_endpoint}
 use Rattle.redir_wire.specs.declared.packet.RedirControl.TheVariants as plain
@@ -102,13 +103,9 @@ joined h e id f t mark same_id same_form same_transfer = λ i. record h {
   resets_next = (ap (λ (b : Bool). not (is_control t.ep) && b) mark ∙ (parts (resets e.load.verdict) refl).1) i;
 }
   where
-    no : (b : Bool) → (b && false) ≡ false
-    no true = refl
-    no false = refl
-
     first : resets e.load.verdict ≡ true → is_control t.ep ≡ true
     first h = ap (λ (x : Transfer). is_control x.ep) same_transfer ∙ ap (λ (b : Bool). is_control (cond b (routed route.GetConfig) (normal_of e.load)).ep) h
 
     parts : (b : Bool) → resets e.load.verdict ≡ b → ((is_control t.ep && b) ≡ b) × ((not (is_control t.ep) && b) ≡ false)
     parts true h = (ap (λ (b : Bool). b && true) (first h), ap (λ (b : Bool). not b && true) (first h))
-    parts false h = (no (is_control t.ep), no (not (is_control t.ep)))
+    parts false h = (and-false (is_control t.ep), and-false (not (is_control t.ep)))

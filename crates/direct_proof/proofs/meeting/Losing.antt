@@ -2,6 +2,7 @@
 use Rattle.std.proofs.Common.{◌≡◌, ℕ, suc, ◌&&◌, not, Bool, true, false, cond, List, [], ◌∷◌, ◌++◌, map, Option, Some, None, refl, sym, ap, ◌∙◌, subst, append-nil, inl, inr, ◌⊎◌, true≢false}
 use Rattle.std.specs.List.{flat_map, AllByRecursion as Each}
 use Rattle.std.proofs.lemmas.Bool.{both_ways}
+use Rattle.std.proofs.Math.Bool.{and-true}
 use Rattle.usbip_urb.specs.declared.packet.UrbPacket.{UrbPacket}
 use Rattle.usbip_urb.specs.declared.client.ClientPacket.TheVariants.{Urb}
 use Rattle.redir_wire.specs.declared.packet.TheConstants.Caps.{DISCONNECT_ACK}
@@ -97,10 +98,6 @@ module _ {S : Type 0} (m : Meaning S) (w : World S) (j : Shared) (place : ℕ) (
       })
       ∙ (λ i. record { world = lost_world; outs = map Urb (map (λ (p : Pending). lost_answer p.submit p.unlinker) (append-nil st.live i)); told = when ((ap (λ (b : Bool). st.imported && not b) there ∙ and-true st.imported) i) Gone })
     where
-      and-true : (b : Bool) → (b && true) ≡ b
-      and-true true = refl
-      and-true false = refl
-
       unnamed : (b : Bool) → w.submits ++ flat_map named ((notes.when b note.DeviceGone ++ []) ++ []) ≡ w.submits
       unnamed true = append-nil w.submits
       unnamed false = append-nil w.submits

@@ -6,6 +6,7 @@ use Rattle.std.specs.List.{find, list_any, AllByRecursion as Each}
 use Rattle.std.proofs.lemmas.Bool.{or_left, or_right}
 use Rattle.std.proofs.lemmas.List.Folds.{list_any-append}
 use Rattle.std.proofs.lemmas.List.{map-append}
+use Rattle.std.proofs.Math.Bool.{and-false}
 use Rattle.usb_base.specs.Status.{is_success}
 use Rattle.usb_base.specs.declared.transfer.Outcome.{Outcome}
 use Rattle.usb_base.specs.declared.endpoint.EpTable.{EpTable}
@@ -143,13 +144,9 @@ module _ {S : Type 0} (m : Meaning S) (laws : IsGadget m) (w : World S) (j : Sha
   untouched : Each (λ (x : Entry). out x ≡ false) j.coming
   untouched = go j.coming (each_behind (λ (y : Entry). is_control (normal_of y.load).ep ≡ true) f.back j.coming (behind-zeros f.front e (f.back ++ j.coming) (subst Behind held.inside rel.line.behind) is-it))
     where
-      never : (b : Bool) → (b && false) ≡ false
-      never true = refl
-      never false = refl
-
       go : (es : List Entry) → Each (λ (y : Entry). is_control (normal_of y.load).ep ≡ true) es → Each (λ (x : Entry). out x ≡ false) es
       go [] h = tt
-      go (x ∷ es) h = (ap (λ (b : Bool). success && b) (control-untouched r table (normal_of x.load).ep h.0) ∙ never success, go es h.1)
+      go (x ∷ es) h = (ap (λ (b : Bool). success && b) (control-untouched r table (normal_of x.load).ep h.0) ∙ and-false success, go es h.1)
 
   rested : f.front ++ (f.back ++ j.coming) ≡ f.rest ++ j.coming
   rested = held.outside ∙ ap (λ (l : List Entry). l ++ j.coming) (sym f.rest-is)

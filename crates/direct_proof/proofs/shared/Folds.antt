@@ -1,5 +1,5 @@
 -- The wire to the host: what its packets put in line, and the relations that are kept as it grows and is read.
-use Rattle.std.proofs.Common.{◌≡◌, ℕ, ◌||◌, Bool, true, false, cond, List, [], ◌∷◌, ◌++◌, refl, sym, ap, ◌∙◌, append_assoc}
+use Rattle.std.proofs.Common.{◌≡◌, ℕ, Bool, true, false, cond, List, [], ◌∷◌, ◌++◌, refl, sym, ap, ◌∙◌, append_assoc}
 use Rattle.usb_base.specs.declared.transfer.Transfer.{Transfer}
 use Rattle.redir_wire.specs.declared.packet.RedirControl.TheVariants as plain
 use Rattle.redir_data.specs.declared.packet.RedirPacket.{RedirPacket}
@@ -14,10 +14,6 @@ use Rattle.redir_host.specs.guest.Line.{Waiting as InLine, Reset, Waits, asked_l
 use Rattle.direct_proof.specs.Requests.{Entry, at_host, form_of, queued_transfer, resets}
 use Rattle.direct_proof.specs.Shared.{in_line, lines, half_line, at_hosts}
 use Rattle.direct_proof.specs.Cancels.{begins, is_request}
-
-pub or-assoc : (a b c : Bool) → (a || (b || c)) ≡ ((a || b) || c)
-or-assoc true b c = refl
-or-assoc false b c = refl
 
 -- what is gathered from each element of a list
 pub gathers-append : {X Y : Type 0} (f : X → List Y) (all : List X → List Y) → all [] ≡ [] → ((x : X) (xs : List X) → all (x ∷ xs) ≡ f x ++ all xs) → (xs ys : List X) → all (xs ++ ys) ≡ all xs ++ all ys

@@ -2,7 +2,7 @@
 use Rattle.std.proofs.Common.{◌≡◌, ℕ, ◌+◌, ◌≤◌, ◌||◌, Bool, true, false, cond, List, [], ◌∷◌, ◌++◌, Option, Some, None, refl, sym, ap, ◌∙◌, subst, arith, append-nil, is_some, true≢false}
 use Rattle.std.specs.List.{list_any, AllByRecursion as Each}
 use Rattle.std.proofs.lemmas.Bool.{or_left}
-use Rattle.std.proofs.Math.Bool.{or-false}
+use Rattle.std.proofs.Math.Bool.{or-false, or_assoc}
 use Rattle.std.proofs.lemmas.List.Folds.{list_any-append}
 use Rattle.usb_base.specs.declared.endpoint.EpTable.{EpTable}
 use Rattle.redir_data.specs.declared.packet.RedirPacket.{RedirPacket}
@@ -15,7 +15,7 @@ use Rattle.direct_proof.specs.Stale.{asks}
 use Rattle.direct_proof.specs.Running.{Quits, runs_after, Trails, passes, stream_endpoint, started_kind, CanStart, StartsFit}
 use Rattle.direct_proof.specs.StreamIds.{stream_id, stream_ids_on, statuses_on, status_id, Controls, StreamIdIsKept, StatusIsKept, Fenced}
 use Rattle.direct_proof.specs.Kinds.{StreamIsIn}
-use Rattle.direct_proof.proofs.shared.Folds.{or-assoc, gathers-append}
+use Rattle.direct_proof.proofs.shared.Folds.{gathers-append}
 
 -- ---- packets that say nothing of streams
 
@@ -49,7 +49,7 @@ starts-quiet table c (q ∷ qs) h = (subst (CanStart table c) (sym h.0.1) tt, st
 
 pub starts-append : (table : EpTable) (c : Bool) (ps qs : List (ℕ × RedirPacket)) → StartsFit table c ps → StartsFit table (c || list_any (asks None) ps) qs → StartsFit table c (ps ++ qs)
 starts-append table c [] qs h k = subst (λ (b : Bool). StartsFit table b qs) (or-false c) k
-starts-append table c (p ∷ ps) qs h k = (h.0, starts-append table (c || asks None p) ps qs h.1 (subst (λ (b : Bool). StartsFit table b qs) (or-assoc c (asks None p) (list_any (asks None) ps)) k))
+starts-append table c (p ∷ ps) qs h k = (h.0, starts-append table (c || asks None p) ps qs h.1 (subst (λ (b : Bool). StartsFit table b qs) (sym (or_assoc c (asks None p) (list_any (asks None) ps))) k))
 
 pub starts-more : (table : EpTable) (c : Bool) (ps qs : List (ℕ × RedirPacket)) → Each IsQuiet qs → StartsFit table c ps → StartsFit table c (ps ++ qs)
 starts-more table c ps qs k h = starts-append table c ps qs h (starts-quiet table (c || list_any (asks None) ps) qs k)

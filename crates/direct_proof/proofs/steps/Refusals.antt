@@ -4,6 +4,7 @@ use Rattle.std.proofs.Common.{◌≡◌, ℕ, Bool, true, false, ◌||◌, ◌&&
 use Rattle.std.specs.List.{flat_map, list_any}
 use Rattle.std.proofs.lemmas.List.Folds.{list_any-append}
 use Rattle.std.proofs.lemmas.Grind.{flat_map-append}
+use Rattle.std.proofs.Math.Bool.{or-false}
 use Rattle.usb_base.specs.declared.refusal.Refusal.{Refusal}
 use Rattle.gate_history.specs.declared.note.Note.{Note}
 use Rattle.gate_history.specs.declared.note.Note.TheVariants as note
@@ -46,10 +47,6 @@ left-spares false = refl
 refused-is : (o : Option Refusal) → refuses (refusal_notes o) ≡ option_map_or (λ (r : Refusal). not (is_client r.side)) o false
 refused-is None = refl
 refused-is (Some r) = or-false (not (is_client r.side))
-  where
-    or-false : (b : Bool) → (b || false) ≡ b
-    or-false true = refl
-    or-false false = refl
 
 abbrev effect_refuses : Effect → Bool
 effect_refuses e = option_map_or (λ (r : Refusal). not (is_client r.side)) (refused_at e) false

@@ -2,6 +2,7 @@
 use Rattle.std.proofs.Common.{◌≡◌, ℕ, ◌||◌, not, Bool, true, false, cond, List, [], ◌∷◌, ◌++◌, map, Option, Some, None, refl, sym, ◌∙◌}
 use Rattle.std.specs.Prelude.{pos}
 use Rattle.std.specs.List.{list_any}
+use Rattle.std.proofs.lemmas.Bool.{not-false}
 use Rattle.usb_base.specs.declared.refusal.Refusal.{Refusal}
 use Rattle.usb_base.specs.declared.reason.Reason.TheVariants.{AlreadyImported}
 use Rattle.usb_base.specs.declared.side.Side.TheVariants.{Client}
@@ -133,10 +134,6 @@ module _ (st : State) (there : st.client_over ≡ false) where
       spread : (b : Bool) → cond b [] (Urb late ∷ []) ≡ map Urb (cond b [] (late ∷ []))
       spread true = refl
       spread false = refl
-
-  not-false : (b : Bool) → not b ≡ false → b ≡ true
-  not-false true h = refl
-  not-false false h = absurd (cc)
 
   urb-says : (place : ℕ) (p : UrbPacket) → Replying st (asked_meaning st place (Urb p))
   urb-says place (urb.Submit s) =

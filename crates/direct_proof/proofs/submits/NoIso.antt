@@ -2,7 +2,7 @@
 use Rattle.std.specs.Bool.{beq}
 use Rattle.std.proofs.Common.{◌≡◌, ℕ, ◌<◌, ◌&&◌, nat_lt, nat_le, not, Bool, true, false, cond, Option, Some, None, refl, sym, ap, ◌∙◌, subst, arith, ◌-◌, ◌==◌}
 use Rattle.std.specs.Prelude.{get_or}
-use Rattle.std.proofs.lemmas.Bool.{ltb-true}
+use Rattle.std.proofs.lemmas.Bool.{ltb-true, not-false}
 use Rattle.usb_base.specs.declared.setup.Setup.{Setup}
 use Rattle.usb_base.specs.declared.endpoint.EpKind.{EpKind}
 use Rattle.usb_base.specs.declared.endpoint.EpKind.TheVariants as kind
@@ -107,11 +107,7 @@ no-iso {S = S} m laws w j rel inside there s is row e = laws.no_iso_out w.host.g
     out = subst (λ (o : Option Setup). IsDirected r.is_in o ep) known.3 (is_request s is).directed ∙ known.1
 
     narrow : nat_lt ep 128 ≡ true
-    narrow = go (nat_lt ep 128) out
-      where
-        go : (b : Bool) → not b ≡ false → b ≡ true
-        go true h = refl
-        go false h = absurd (cc)
+    narrow = not-false (nat_lt ep 128) out
 
     low : ep < 16
     low = let a = at.low in let b = ltb-true ep 128 narrow in omega (arith, a, b)

@@ -2,6 +2,7 @@
 use Rattle.std.specs.Option.{option_or}
 use Rattle.std.proofs.Common.{◌≡◌, ℕ, ◌-◌, ◌<◌, ◌≤◌, ◌&&◌, ◌||◌, not, Bool, true, false, cond, inl, List, [], ◌∷◌, ◌++◌, Option, Some, is_some, Result, Ok, Err, refl, sym, ap, ◌∙◌, subst, arith, append-nil, append_assoc}
 use Rattle.std.specs.Result.{IsErrAnd}
+use Rattle.std.proofs.Math.Bool.{and-false}
 use Rattle.usb_base.specs.declared.side.Side.{Side}
 use Rattle.usb_base.specs.declared.side.Side.TheVariants.{Client, Host}
 use Rattle.usb_base.specs.declared.refusal.Refusal.{Refusal}
@@ -107,12 +108,8 @@ has-taken gives stands tells terms p asks k begun now calls e events is just cal
   over = over-of terms p e events (events_of calls) k is t.client_up t.host_up;
 }
 
-and-none : (u : Bool) → (u && not true) ≡ false
-and-none true = refl
-and-none false = refl
-
 host-down : (terms : Terms) (p : Prescribed) (e : LinkEvent) (events : List LinkEvent) (refused : Bool) → refused ≡ refuses Host (gained p.refusals events e) → refused ≡ true → is_up Host terms p (e ∷ events) ≡ false
-host-down terms p e events refused is down = ap (λ (r : Bool). host_at e (host_since (is_some terms.host) p events) && not r) (sym is ∙ down) ∙ and-none (host_at e (host_since (is_some terms.host) p events))
+host-down terms p e events refused is down = ap (λ (r : Bool). host_at e (host_since (is_some terms.host) p events) && not r) (sym is ∙ down) ∙ and-false (host_at e (host_since (is_some terms.host) p events))
 
 -- which links are up behind the closing of those that the event takes down
 links-behind : (terms : Terms) (p : Prescribed) (e : LinkEvent) (events : List LinkEvent) (calls : List Call) (refused dropped : Bool) (of : Side) → dropped ≡ drops p events e → refused ≡ refuses Host (gained p.refusals events e) → up_by of calls ≡ up_at of terms p e events
@@ -133,7 +130,7 @@ host-closed terms p e events down = go (ends_next e true)
     go false = down
 
 client-down : (p : Prescribed) (e : LinkEvent) (events : List LinkEvent) (dropped : Bool) → dropped ≡ drops p events e → dropped ≡ true → client_behind p (e ∷ events) ≡ false
-client-down p e events dropped is down = ap (λ (d : Bool). client_at e (client_behind p events) && not d) (sym is ∙ down) ∙ and-none (client_at e (client_behind p events))
+client-down p e events dropped is down = ap (λ (d : Bool). client_at e (client_behind p events) && not d) (sym is ∙ down) ∙ and-false (client_at e (client_behind p events))
 
 -- the calls behind the closing of the links that the event takes down
 abbrev closed-behind : Bool → Bool → List Call → List Call
@@ -196,7 +193,7 @@ put-behind gives stands tells terms p asks e events k begun now calls refused dr
     taken none = has-taken gives stands tells terms p asks k begun now all e events (behind ∙ ap (λ (b : Bool). cond b (SideEnd Client ∷ e ∷ events) (e ∷ events)) none) just called settled asked links written before t
 
     ended : dropped ≡ true → (of : Side) → up_by of all ≡ up_at of terms p (SideEnd Client) (e ∷ events)
-    ended is Client = client-closing refused dropped calls ∙ ap (λ (d : Bool). up_by Client calls && not d) is ∙ and-none (up_by Client calls)
+    ended is Client = client-closing refused dropped calls ∙ ap (λ (d : Bool). up_by Client calls && not d) is ∙ and-false (up_by Client calls)
     ended is Host = links Host
 
     ends : dropped ≡ true → (b : Bool) → ends_next e true ≡ b → IsBehind (ends_next e true) gives stands tells terms p asks k begun now
@@ -236,7 +233,7 @@ host-kept terms p e events k k' sent lines prepared kept up =
     ap (λ (q : Rounds). q.host_up) kept ∙ ap (λ (u : Bool). u && not (refuses Host sent.refusals)) up ∙ ap (λ (rs : List Refusal). host_at e (host_since (is_some terms.host) p events) && not (refuses Host rs)) prepared.refusals
 
 dropped-down : (k k' : Rounds) (sent : Sent) (dropped : Bool) → k' ≡ refusing sent.refusals sent.lets_go k → dropped ≡ (refuses Client sent.refusals || sent.lets_go) → dropped ≡ true → k'.client_up ≡ false
-dropped-down k k' sent dropped kept is down = ap (λ (q : Rounds). q.client_up) kept ∙ ap (λ (d : Bool). k.client_up && not d) (sym is ∙ down) ∙ and-none k.client_up
+dropped-down k k' sent dropped kept is down = ap (λ (q : Rounds). q.client_up) kept ∙ ap (λ (d : Bool). k.client_up && not d) (sym is ∙ down) ∙ and-false k.client_up
 
 -- the first refusal of all
 refused-kept : (p : Prescribed) (e : LinkEvent) (events : List LinkEvent) (k k' : Rounds) (sent : Sent) (lines : List ℕ) → Prepared p events e sent lines → k' ≡ refusing sent.refusals sent.lets_go k

@@ -1,6 +1,6 @@
 -- A session's log, as a round ends.
 use Rattle.std.proofs.Common.{◌≡◌, ℕ, ◌+◌, ◌-◌, ◌<◌, ◌≤◌, not, Bool, true, false, List, is_some, Result, Ok, Err, refl, sym, ap, ◌∙◌, subst, inr, arith}
-use Rattle.std.proofs.lemmas.Bool.{false≢true}
+use Rattle.std.proofs.lemmas.Bool.{false≢true, not-true}
 use Rattle.gate_outside.specs.Calls.{Call}
 use Rattle.bridge_run.specs.events.Events.{LinkEvent}
 use Rattle.bridge_run.specs.declared.course.rounds.Rounds.{Rounds}
@@ -116,13 +116,9 @@ rest-fault gives stands runs_out tells terms p k begun now a due taped =
       written = a.on.at.written;
       goes_on = a.on.goes_on;
       begins = begins-of terms p k a.asks a.on.at.calls a.on.at.host_up a.on.at.asks-are a.turn;
-      quiet = subst (λ (l : List Ask). 0 < quiet_rounds l) (sym a.on.at.asks-are) (some-quiet (quiet_rounds a.asks) terms.idle k.waits (a.waited.quiet (not-busy k.busy due)) a.patient.within);
+      quiet = subst (λ (l : List Ask). 0 < quiet_rounds l) (sym a.on.at.asks-are) (some-quiet (quiet_rounds a.asks) terms.idle k.waits (a.waited.quiet (not-true k.busy due)) a.patient.within);
       is_taped = taped;
     }))
   where
     some-quiet : (q i w : ℕ) → w + q ≡ i + 1 → w ≤ i → 0 < q
     some-quiet q i w is within = omega arith
-
-    not-busy : (b : Bool) → not b ≡ true → b ≡ false
-    not-busy true due = sym due
-    not-busy false due = refl

@@ -1,6 +1,6 @@
 -- A session's log, as memory runs out.
 use Rattle.std.proofs.Common.{◌≡◌, ◌⊎◌, ℕ, ◌||◌, Bool, true, false, cond, List, [], ◌∷◌, ◌++◌, is_some, Err, refl, sym, ap, ◌∙◌, subst, inl, inr, append-nil, append_assoc}
-use Rattle.std.proofs.lemmas.Bool.{false≢true, or_parts}
+use Rattle.std.proofs.lemmas.Bool.{false≢true, or_parts, or_left}
 use Rattle.usb_base.specs.declared.side.Side.TheVariants.{Client, Host}
 use Rattle.usb_base.specs.declared.refusal.Refusal.{Refusal}
 use Rattle.gate_outside.specs.Calls.{Call, went}
@@ -27,9 +27,6 @@ use Rattle.bridge_run.proofs.lemmas.log.Sink.{told-all, part-more}
 has-none : (xs : List ℕ) → has_any xs ≡ false → xs ≡ []
 has-none [] is = refl
 has-none (x ∷ xs) is = absurd (false≢true (sym is))
-
-or-more : (a b : Bool) → a ≡ true → (a || b) ≡ true
-or-more a b is = ap (λ (x : Bool). x || b) is
 
 unsent : (u : Bool) (all written bytes : List ℕ) → written ≡ all → bytes ≡ [] → written ≡ all ++ cond u bytes []
 unsent true all written bytes is none = is ∙ sym (append-nil all) ∙ ap (λ (l : List ℕ). all ++ l) (sym none)
@@ -75,8 +72,7 @@ none-written gives runs_out terms p e events k client host begun now none-client
 pub stop-none : {D : Type 0} → (gives : D → Call → D → Type 0) (runs_out : List LinkEvent → LinkEvent → List ℕ → List ℕ → Type 0) (terms : Terms) (p : Prescribed) (e : LinkEvent) (events : List LinkEvent) (k : Rounds) (client host : List ℕ) (begun now : D) → (has_any client || has_any host) ≡ false
     → IsPart runs_out p events e client host → IsStopping gives terms p e events k begun now → HasStopped gives runs_out terms p e events begun now
 stop-none gives runs_out terms p e events k client host begun now none part s =
-    let parts = or_parts (has_any client) (has_any host) none in
-    none-written gives runs_out terms p e events k client host begun now (has-none client parts.0) (has-none host parts.1)
+    none-written gives runs_out terms p e events k client host begun now (has-none client (or_parts (has_any client) (has_any host) none).0) (has-none host (or_parts (has_any client) (has_any host) none).1)
     (why runs_out terms.taped p events e client host part.ran_out) s
 
 -- its line couldn't be recorded
@@ -106,7 +102,7 @@ stop-tape end.Memory old new gives runs_out terms p e events k made refusals beg
     none-written gives runs_out terms p e events k [] [] begun now refl refl
     (inr (inr (record {
       is_taped = taped ∙ (wants refl).0;
-      has_lines = or-more (is_recorded e) (has_any (gained p.refusals events e)) (alone (is_recorded e) (ap (λ (rs : List Refusal). is_recorded e || has_any rs) (sym none) ∙ (wants refl).1));
+      has_lines = or_left (is_recorded e) (has_any (gained p.refusals events e)) (alone (is_recorded e) (ap (λ (rs : List Refusal). is_recorded e || has_any rs) (sym none) ∙ (wants refl).1));
       client-is = refl;
       host-is = refl;
     }))) s

@@ -1,5 +1,6 @@
 -- A session's log, as bytes are written to a link, and links are closed.
 use Rattle.std.proofs.Common.{◌≡◌, ℕ, ◌&&◌, not, Bool, true, false, List, [], ◌∷◌, ◌++◌, Result, Err, refl, sym, ap, ◌∙◌, append-nil, append_assoc}
+use Rattle.std.proofs.Math.Bool.{and-false, and-true}
 use Rattle.usb_base.specs.declared.side.Side.{Side}
 use Rattle.usb_base.specs.declared.side.Side.TheVariants.{Client, Host}
 use Rattle.gate_outside.specs.declared.fault.Failed.{Failed as Fault}
@@ -77,25 +78,17 @@ settled-closing true of terms p calls down s = (s, down refl)
 settled-closing false of terms p calls down s = s
 
 -- which links are up behind that
-and-none : (u : Bool) → false ≡ (u && not true)
-and-none true = refl
-and-none false = refl
-
-and-kept : (u : Bool) → u ≡ (u && not false)
-and-kept true = refl
-and-kept false = refl
-
 pub client-closing : (refused dropped : Bool) (calls : List Call) → up_by Client (closing refused Host (closing dropped Client calls)) ≡ (up_by Client calls && not dropped)
-client-closing true true calls = and-none (up_by Client calls)
-client-closing false true calls = and-none (up_by Client calls)
-client-closing true false calls = and-kept (up_by Client calls)
-client-closing false false calls = and-kept (up_by Client calls)
+client-closing true true calls = sym (and-false (up_by Client calls))
+client-closing false true calls = sym (and-false (up_by Client calls))
+client-closing true false calls = sym (and-true (up_by Client calls))
+client-closing false false calls = sym (and-true (up_by Client calls))
 
 pub host-closing : (refused dropped : Bool) (calls : List Call) → up_by Host (closing refused Host (closing dropped Client calls)) ≡ (up_by Host calls && not refused)
-host-closing true true calls = and-none (up_by Host calls)
-host-closing true false calls = and-none (up_by Host calls)
-host-closing false true calls = and-kept (up_by Host calls)
-host-closing false false calls = and-kept (up_by Host calls)
+host-closing true true calls = sym (and-false (up_by Host calls))
+host-closing true false calls = sym (and-false (up_by Host calls))
+host-closing false true calls = sym (and-true (up_by Host calls))
+host-closing false false calls = sym (and-true (up_by Host calls))
 
 pub events-closing : (r : Bool) (calls : List Call) → events_of (closing r Host calls) ≡ events_of calls
 events-closing true calls = refl

@@ -3,6 +3,7 @@ use Rattle.std.proofs.Common.{◌≡◌, ℕ, ◌||◌, Bool, true, false, cond,
 use Rattle.std.specs.List.{flat_map, list_any}
 use Rattle.std.specs.Result.{OnOk}
 use Rattle.std.proofs.Math.Seq.{drop-append_seam}
+use Rattle.std.proofs.Math.Bool.{or-false}
 use Rattle.usb_base.specs.declared.side.Side.TheVariants.{Client}
 use Rattle.usb_base.specs.declared.refusal.Refusal.{Refusal}
 use Rattle.model_device.specs.Meaning.{Meaning}
@@ -124,10 +125,6 @@ lent-stands m s old mid new past e lent acts came is =
       waiting = ap (λ (l : Lent _). l.waiting) is ∙ ap (λ (b : Bool). cond b [] mid.waiting) come
           ∙ waits-is (has_come past) (is_coming e) (host_out m s (acts_of m s past)) acts.given (host_out m s (acts_of m s (e ∷ past))) old.waiting mid.waiting acts.sends lent.waiting acts.sent;
     }
-
-or-false : (b : Bool) → (b || false) ≡ b
-or-false true = refl
-or-false false = refl
 
 pub lent-sends : {S : Type 0} (m : Meaning S) (s : S) (old mid : Lent S) (past : List LinkEvent) (e : LinkEvent) (sent sent' : Sent) → IsLent m s old past
     → Acts m s mid.core (acts_of m s past) (acts_behind m s (acts_of m s past) e) old.waiting mid.waiting → mid.has_come ≡ (is_coming e || old.has_come)

@@ -5,6 +5,7 @@ use Rattle.std.proofs.lemmas.Bool.{false≢true}
 use Rattle.std.specs.Io.KnownBytes.{append_known, Appends}
 use Rattle.std.specs.List.{flat_map}
 use Rattle.std.specs.Result.{IsErrAnd}
+use Rattle.std.proofs.Math.Bool.{and-true}
 use Rattle.usb_base.specs.Refusal.{refusal_line}
 use Rattle.usb_base.specs.declared.side.Side.TheVariants.{Client, Host}
 use Rattle.usb_base.specs.declared.refusal.Refusal.{Refusal}
@@ -361,10 +362,6 @@ put-in_lines {ran_out = ran_out} p c e sent lines due w w' out out' prepared t c
 
 -- ---- a side that isn't refused
 
-and-not_false : (b : Bool) → (b && not false) ≡ b
-and-not_false true = refl
-and-not_false false = refl
-
 or_else-none : (o : Option Refusal) → option_or o None ≡ o
 or_else-none None = refl
 or_else-none (Some r) = refl
@@ -372,8 +369,8 @@ or_else-none (Some r) = refl
 pub refusing-none : (refusals : List Refusal) (go : Bool) (k k' : Rounds) → refusals ≡ [] → go ≡ false → k' ≡ refusing refusals go k → k' ≡ k
 refusing-none refusals go k k' none stays is =
     is ∙ ap (λ (rs : List Refusal). refusing rs go k) none ∙ ap (λ (b : Bool). refusing [] b k) stays
-    ∙ ap (λ (u : Bool). record k { client_up = u; host_up = k.host_up && not false; refused = option_or k.refused None }) (and-not_false k.client_up)
-    ∙ ap (λ (u : Bool). record k { host_up = u; refused = option_or k.refused None }) (and-not_false k.host_up)
+    ∙ ap (λ (u : Bool). record k { client_up = u; host_up = k.host_up && not false; refused = option_or k.refused None }) (and-true k.client_up)
+    ∙ ap (λ (u : Bool). record k { host_up = u; refused = option_or k.refused None }) (and-true k.host_up)
     ∙ ap (λ (r : Option Refusal). record k { refused = r }) (or_else-none k.refused)
 
 -- an error that a `?` hands on

@@ -3,6 +3,7 @@ use Rattle.std.proofs.Common.{◌≡◌, ℕ, ◌||◌, Bool, true, false, cond,
 use Rattle.std.proofs.lemmas.Bool.{false≢true}
 use Rattle.std.specs.List.{flat_map}
 use Rattle.std.specs.Io.KnownBytes.{append_known}
+use Rattle.std.proofs.Math.Bool.{or-true}
 use Rattle.usb_base.specs.declared.refusal.Refusal.{Refusal}
 use Rattle.session_tape.specs.Lines.{refusal_comment}
 use Rattle.session_tape.specs.Tapes.{GrowsInPart}
@@ -23,10 +24,6 @@ use Rattle.bridge_run.proofs.lemmas.written.Put.{more_if, wrote-shows, between-a
 has-more : (xs ys all : List ℕ) → all ≡ xs ++ ys → has_any xs ≡ true → has_any all ≡ true
 has-more [] ys all is some = absurd (false≢true some)
 has-more (x ∷ xs) ys all is some = ap has_any is
-
-or-true : (b : Bool) → (b || true) ≡ true
-or-true true = refl
-or-true false = refl
 
 any-of : (a b x y rest : Bool) → (a || b) ≡ true → (a ≡ true → x ≡ true) → (b ≡ true → y ≡ true) → (x || (y || rest)) ≡ true
 any-of true b x y rest some first second = ap (λ (z : Bool). z || (y || rest)) (first refl)

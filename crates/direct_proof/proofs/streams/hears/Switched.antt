@@ -18,7 +18,7 @@ use Rattle.direct_proof.proofs.streams.wires.Sorts.{IsSwitch, Switches_or, is-sw
 use Rattle.direct_proof.proofs.streams.hears.Switching.{HostSwitches, host-switches}
 use Rattle.direct_proof.proofs.streams.hears.SwitchedFence.{switched_world, switched-moved, unheard-moved, unfenced, stays-clean, fenced-switched}
 use Rattle.std.specs.List.{list_any, AllByRecursion as Each}
-use Rattle.std.proofs.lemmas.Bool.{both_ways, or_left, or_right}
+use Rattle.std.proofs.lemmas.Bool.{both_ways, or_left, or_right, or_cases}
 use Rattle.std.proofs.Math.Bool.{or-false}
 use Rattle.std.proofs.lemmas.List.{map-append}
 use Rattle.redir_data.specs.Streams.{advanced}
@@ -35,7 +35,7 @@ use Rattle.direct_proof.specs.Ids.{Ids}
 use Rattle.direct_proof.specs.Stale.{asks, is_fence}
 use Rattle.direct_proof.proofs.shared.Keeps.{Keeps, keeps-quiet}
 use Rattle.direct_proof.proofs.streams.wires.SortsMore.{switch-stays}
-use Rattle.direct_proof.proofs.streams.wires.Folds.{or-either, quits-off}
+use Rattle.direct_proof.proofs.streams.wires.Folds.{quits-off}
 use Rattle.direct_proof.proofs.shared.Backs.{clean-append}
 use Rattle.direct_proof.proofs.shared.Streaming.{statuses-append}
 use Rattle.direct_proof.proofs.streams.wires.Growing.{runs-last, told-last, no-fact-told, way-stated}
@@ -133,7 +133,7 @@ module _ {S : Type 0} (m : Meaning S) (w : World S) (j : Shared) (rel : Related 
 
     -- a status of a stream that is down has an end behind it, or is one
     covered : down_in w.gate.streams c.ep ≡ true → ((any_change (j.held ++ j.coming) || fenced') || (is_fence w.gate.fence q.0 || false)) ≡ true
-    covered down = go (or-either (asks w.gate.fence q) (list_any (asks w.gate.fence) ps) (trails.0 (ap (passes (down_in w.gate.streams)) c.at ∙ down)))
+    covered down = go (or_cases (asks w.gate.fence q) (list_any (asks w.gate.fence) ps) (trails.0 (ap (passes (down_in w.gate.streams)) c.at ∙ down)))
       where
         stop : (list_any line_changes (in_line q) ≡ true) ⊎ ((is_fence w.gate.fence q.0 ≡ true) × (stream_id q ≡ q.0 ∷ [])) → is_fence w.gate.fence q.0 ≡ true
         stop (inl k) = absurd (true≢false (sym k ∙ ap (list_any line_changes) is_switch.line))

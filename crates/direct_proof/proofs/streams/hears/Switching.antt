@@ -1,6 +1,7 @@
 -- The host reads a start or a stop: its streams run as the packet says, and it tells of a success.
 use Rattle.std.proofs.Common.{◌≡◌, ℕ, ◌==◌, ◌||◌, not, Bool, true, false, cond, List, [], ◌∷◌, ◌++◌, Option, Some, None, refl, sym, ap, ◌∙◌, arith}
 use Rattle.std.specs.List.{list_any, AllByRecursion as Each}
+use Rattle.std.proofs.Math.Bool.{or-false, or_assoc}
 use Rattle.redir_wire.specs.declared.packet.RedirControl.TheVariants as plain
 use Rattle.redir_data.specs.declared.packet.RedirPacket.{RedirPacket}
 use Rattle.redir_data.specs.declared.packet.RedirPacket.TheVariants.{Plain, Carrying}
@@ -48,15 +49,7 @@ started-runs k ep e rs = last (stopped ep rs) ∙ (λ i. stopped-runs ep e rs i 
   where
     last : (xs : List Running) → list_any (runs_at e) (xs ++ record { ep = ep; kind = k } ∷ []) ≡ (list_any (runs_at e) xs || (ep == e))
     last [] = or-false (ep == e)
-      where
-        or-false : (b : Bool) → (b || false) ≡ b
-        or-false true = refl
-        or-false false = refl
-    last (x ∷ xs) = ap (λ (b : Bool). (x.ep == e) || b) (last xs) ∙ or-assoc (x.ep == e) (list_any (runs_at e) xs) (ep == e)
-      where
-        or-assoc : (a b c : Bool) → (a || (b || c)) ≡ ((a || b) || c)
-        or-assoc true b c = refl
-        or-assoc false b c = refl
+    last (x ∷ xs) = ap (λ (b : Bool). (x.ep == e) || b) (last xs) ∙ sym (or_assoc (x.ep == e) (list_any (runs_at e) xs) (ep == e))
 
     by : (b r : Bool) → (cond b false r || b) ≡ cond b true r
     by true r = refl

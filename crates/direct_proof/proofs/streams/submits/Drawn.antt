@@ -1,17 +1,14 @@
 -- Ids that were drawn.
-use Rattle.std.proofs.Common.{◌≡◌, ℕ, ◌≤◌, ◌==◌, ◌||◌, Bool, true, false, List, [], ◌∷◌, ◌++◌, refl, ap, ◌∙◌, subst, arith}
+use Rattle.std.proofs.Common.{◌≡◌, ℕ, ◌≤◌, ◌==◌, Bool, true, false, List, [], ◌∷◌, ◌++◌, refl, ap, ◌∙◌, subst, arith}
 use Rattle.std.specs.Prelude.{nat_eq}
 use Rattle.std.specs.List.{AllByRecursion, IsDistinct}
+use Rattle.std.proofs.lemmas.Bool.{or_parts}
 use Rattle.gate_history.specs.state.Ids.{times, holds}
 use Rattle.direct_proof.proofs.streams.fills.FillLists.{weight}
 
-or-parts : (a b : Bool) → (a || b) ≡ false → b ≡ false
-or-parts true b h = absurd (cc)
-or-parts false b h = h
-
 pub any-back : (xs ys : List ℕ) (id : ℕ) → holds (xs ++ ys) id ≡ false → holds ys id ≡ false
 any-back [] ys id h = h
-any-back (x ∷ xs) ys id h = any-back xs ys id (or-parts (id == x) (holds (xs ++ ys) id) h)
+any-back (x ∷ xs) ys id h = any-back xs ys id (or_parts (id == x) (holds (xs ++ ys) id) h).1
 
 pub times-some : (n : ℕ) (ids : List ℕ) (fly : List ℕ) → AllByRecursion (λ id. holds fly id ≡ false) ids → 1 ≤ times n ids → holds fly n ≡ false
 times-some n [] fly h k = absurd (omega (arith, k))

@@ -4,7 +4,7 @@ use Rattle.std.specs.Prelude.{get_or, slice_set}
 use Rattle.std.specs.List.{list_any, flat_map, AllByRecursion as Each}
 use Rattle.std.specs.Option.{option_to_list}
 use Rattle.std.proofs.lemmas.List.{get_or-set_same, get_or-set_other}
-use Rattle.std.proofs.lemmas.Bool.{both_ways, or_left, or_right}
+use Rattle.std.proofs.lemmas.Bool.{both_ways, or_left, or_right, or_cases}
 use Rattle.std.proofs.lemmas.List.Folds.{list_any-append}
 use Rattle.usb_base.specs.Endpoint.{endpoint_index, is_in_endpoint, row_of, is_iso}
 use Rattle.usb_base.specs.declared.endpoint.EpKind.{EpKind}
@@ -27,7 +27,6 @@ use Rattle.direct_proof.specs.Kinds.{IsIn}
 use Rattle.direct_proof.specs.StreamIds.{IdIsKept, StreamIdIsKept, StatusIsKept, stream_id, stream_ids_on, status_id, statuses_on}
 use Rattle.direct_proof.specs.Running.{passes, stream_endpoint, started_kind}
 use Rattle.direct_proof.proofs.streams.fills.FillLists.{weight}
-use Rattle.direct_proof.proofs.streams.wires.Folds.{or-either}
 use Rattle.direct_proof.proofs.shared.UpsFound.{in-place, places-differ}
 
 -- ---- its packet
@@ -83,7 +82,7 @@ held-id id (suc i) (None ∷ xs) h = held-id id i xs h
 held-id id (suc i) (Some x ∷ xs) h = or_right (id == x) (list_any (λ y. id == y) (flat_map option_to_list xs)) (held-id id i xs h)
 
 pub kept-held : (c : StreamIds) (id ep : ℕ) → IdIsKept c id ep → holds (ids_of_streams c) id ≡ true
-kept-held c id ep h = list_any-append (λ x. id == x) (flat_map option_to_list c.started) (flat_map option_to_list c.stopped) ∙ go (or-either (passes (λ x. x == id) (get_or c.started (endpoint_index ep) None)) (passes (λ x. x == id) (get_or c.stopped (endpoint_index ep) None)) h)
+kept-held c id ep h = list_any-append (λ x. id == x) (flat_map option_to_list c.started) (flat_map option_to_list c.stopped) ∙ go (or_cases (passes (λ x. x == id) (get_or c.started (endpoint_index ep) None)) (passes (λ x. x == id) (get_or c.stopped (endpoint_index ep) None)) h)
   where
     go : (passes (λ x. x == id) (get_or c.started (endpoint_index ep) None) ≡ true) ⊎ (passes (λ x. x == id) (get_or c.stopped (endpoint_index ep) None) ≡ true) → (list_any (λ x. id == x) (flat_map option_to_list c.started) || list_any (λ x. id == x) (flat_map option_to_list c.stopped)) ≡ true
     go (inl k) = or_left (list_any (λ x. id == x) (flat_map option_to_list c.started)) (list_any (λ x. id == x) (flat_map option_to_list c.stopped)) (held-id id (endpoint_index ep) c.started k)

@@ -1,6 +1,6 @@
 -- The folds over the wires: how they grow at the end and lose their first, and what they say where no change is under
 -- way.
-use Rattle.std.proofs.Common.{◌≡◌, ℕ, ◌||◌, ◌⊎◌, inl, inr, Bool, true, false, List, [], ◌∷◌, ◌++◌, Option, Some, None, refl, sym, ap, ◌∙◌, true≢false}
+use Rattle.std.proofs.Common.{◌≡◌, ℕ, ◌||◌, Bool, true, false, List, [], ◌∷◌, ◌++◌, Option, Some, None, refl, sym, ap, ◌∙◌, true≢false}
 use Rattle.std.specs.List.{list_any, AllByRecursion as Each}
 use Rattle.std.proofs.lemmas.List.Folds.{list_any-append}
 use Rattle.std.proofs.lemmas.Bool.{both_ways, or_left, or_parts}
@@ -14,10 +14,6 @@ use Rattle.direct_proof.proofs.streams.wires.Sorts.{runs-less, runs-same, is_for
 use Rattle.direct_proof.proofs.lists.Counts.{list_any-same}
 
 -- ---- tests
-
-pub or-either : (a b : Bool) → (a || b) ≡ true → (a ≡ true) ⊎ (b ≡ true)
-or-either true b h = inl refl
-or-either false b h = inr h
 
 -- ---- what is stale
 

@@ -1,7 +1,7 @@
 -- What asks on the wire to the host is a change that is to be performed, or the fence's stop.
 use Rattle.std.proofs.Common.{◌≡◌, ℕ, ◌+◌, ◌≤◌, ◌||◌, ◌⊎◌, inl, inr, Bool, true, false, cond, List, [], ◌∷◌, ◌++◌, Option, Some, None, refl, sym, ap, ◌∙◌, arith, true≢false}
 use Rattle.std.specs.List.{list_any}
-use Rattle.std.proofs.lemmas.Bool.{or_left, or_right}
+use Rattle.std.proofs.lemmas.Bool.{or_left, or_right, or_cases}
 use Rattle.std.proofs.lemmas.List.Folds.{list_any-append}
 use Rattle.redir_data.specs.declared.packet.RedirPacket.{RedirPacket}
 use Rattle.control_route.specs.declared.route.Route.{Route}
@@ -20,7 +20,6 @@ use Rattle.direct_proof.specs.Stale.{asks, is_fence}
 use Rattle.direct_proof.specs.Cancels.{any_change, is_change}
 use Rattle.direct_proof.specs.StreamIds.{Fenced, stream_ids_on, stream_id}
 use Rattle.direct_proof.proofs.streams.wires.Sorts.{line_changes, form_changes, asks-parts}
-use Rattle.direct_proof.proofs.streams.wires.Folds.{or-either}
 use Rattle.gate_history.proofs.lemmas.state.StreamIds.{times-append}
 
 -- ---- changes
@@ -39,7 +38,7 @@ reset-changes _ h = absurd (true≢false (sym h))
 
 in-line : (v : Verdict) (b : Bool) → (b ≡ true → changes v ≡ true) → (l : InLine) → (line_changes l ≡ true → changes v ≡ true) → list_any line_changes (cond b (Reset ∷ []) [] ++ l ∷ []) ≡ true → changes v ≡ true
 in-line v true reset l by h = reset refl
-in-line v false reset l by h = go (or-either (line_changes l) false h)
+in-line v false reset l by h = go (or_cases (line_changes l) false h)
   where
     go : (line_changes l ≡ true) ⊎ (false ≡ true) → changes v ≡ true
     go (inl y) = by y
@@ -63,7 +62,7 @@ entry-changes e = go e.load.verdict
 
 pub coming-changes : (es : List Entry) → list_any line_changes (at_hosts es) ≡ true → any_change es ≡ true
 coming-changes [] h = absurd (true≢false (sym h))
-coming-changes (e ∷ es) h = go (coming-changes es) (or-either (list_any line_changes (at_host e)) (list_any line_changes (at_hosts es)) (sym (list_any-append line_changes (at_host e) (at_hosts es)) ∙ h))
+coming-changes (e ∷ es) h = go (coming-changes es) (or_cases (list_any line_changes (at_host e)) (list_any line_changes (at_hosts es)) (sym (list_any-append line_changes (at_host e) (at_hosts es)) ∙ h))
   where
     go : (list_any line_changes (at_hosts es) ≡ true → any_change es ≡ true) → (list_any line_changes (at_host e) ≡ true) ⊎ (list_any line_changes (at_hosts es) ≡ true) → any_change (e ∷ es) ≡ true
     go rest (inl k) = or_left (changes e.load.verdict) (any_change es) (entry-changes e k)
@@ -88,7 +87,7 @@ stops-later (Some f) q ps h = let a = times-append f (stream_id q) (stream_ids_o
 
 pub asked-by : (fence : Option ℕ) (ps : List (ℕ × RedirPacket)) → list_any (asks fence) ps ≡ true → (list_any line_changes (lines ps) ≡ true) ⊎ Stops fence ps
 asked-by fence [] h = absurd (true≢false (sym h))
-asked-by fence (q ∷ ps) h = go (asked-by fence ps) (or-either (asks fence q) (list_any (asks fence) ps) h)
+asked-by fence (q ∷ ps) h = go (asked-by fence ps) (or_cases (asks fence q) (list_any (asks fence) ps) h)
   where
     lined : Bool
     lined = list_any line_changes (lines ps)
