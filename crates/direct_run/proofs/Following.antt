@@ -29,7 +29,7 @@ use Rattle.direct_run.specs.declared.item.Item.{Item}
 use Rattle.direct_run.specs.World.{Course, first_id, nothing_yet, happened, acted}
 use Rattle.direct_run.specs.Noted.{item_of, named}
 use Rattle.direct_run.specs.Trace.{given_of}
-use Rattle.direct_run.specs.Follows.{Follows}
+use Rattle.direct_run.specs.Follows.{FollowsCourse}
 use Rattle.direct_run.specs.Moves.{World, Made, as_items, as_submits, first_world, quiet, then_made}
 use Rattle.direct_run.specs.Packets.{bares, sent_by_gate, sent_by_host, read_by_host, read_by_gate}
 use Rattle.direct_run.proofs.Several.{gate_all}
@@ -39,7 +39,7 @@ pub accepted-all : (first : ℕ) (ms : List Mark) → accepted ms ≡ all_of as_
 accepted-all first [] = refl
 accepted-all first (m ∷ ms) = ap (λ (l : List Submission). l ++ opened m.what) (accepted-all first ms)
 
-pub follows-first : {S : Type 0} (m : Meaning S) (s : S) → Follows m s nothing_yet [] (quiet (first_world s)) []
+pub follows-first : {S : Type 0} (m : Meaning S) (s : S) → FollowsCourse m s nothing_yet [] (quiet (first_world s)) []
 follows-first m s = record {
   gate = refl;
   host = refl;
@@ -67,9 +67,9 @@ items-given st (x ∷ xs) = (λ i. one (is_left_out st x) i ++ items-given (step
     one true = refl
     one false = refl
 
-pub follows-event : {S : Type 0} (m : Meaning S) (s : S) (c : Course) (items : List Item) (r : Made S Item) (submitted : List Submission) (e : Event) (later : List (ℕ × RedirPacket)) → Follows m s c items r submitted →
+pub follows-event : {S : Type 0} (m : Meaning S) (s : S) (c : Course) (items : List Item) (r : Made S Item) (submitted : List Submission) (e : Event) (later : List (ℕ × RedirPacket)) → FollowsCourse m s c items r submitted →
     first_packet ∷ sent_by_host m s c ≡ bares (read_by_gate (happened c e)) ++ later →
-    Follows m s (happened c e) (items ++ flat_map item_of (given_of notes_of c.events e)) (then_made r (gate_all as_items (record r.world { to_gate = later }) (brought c.events e))) (submitted ++ given_by as_submits.by_gate r.world.gate (brought c.events e))
+    FollowsCourse m s (happened c e) (items ++ flat_map item_of (given_of notes_of c.events e)) (then_made r (gate_all as_items (record r.world { to_gate = later }) (brought c.events e))) (submitted ++ given_by as_submits.by_gate r.world.gate (brought c.events e))
 follows-event m s c items r submitted e later f rest =
     let xs = brought c.events e in
     let st = state_of first_id (history first_id c.events) in
@@ -92,10 +92,10 @@ follows-event m s c items r submitted e later f rest =
 abbrev pub host_gives : {S : Type 0} → World S → Host S → List (ℕ × RedirPacket) → List (ℕ × RedirPacket) → List Item → Made S Item
 host_gives w new sent later items = record { world = record w { host = new; to_gate = w.to_gate ++ sent; to_host = later }; outs = []; told = items }
 
-pub follows-act : {S : Type 0} (m : Meaning S) (s : S) (c : Course) (items more : List Item) (r : Made S Item) (submitted : List Submission) (a : Act) (new : Host S) (sent later : List (ℕ × RedirPacket)) (told : List Item) → Follows m s c items r submitted →
+pub follows-act : {S : Type 0} (m : Meaning S) (s : S) (c : Course) (items more : List Item) (r : Made S Item) (submitted : List Submission) (a : Act) (new : Host S) (sent later : List (ℕ × RedirPacket)) (told : List Item) → FollowsCourse m s c items r submitted →
     new ≡ host_of m s (a ∷ c.acts) → sent ≡ host_given (λ v. v.sent) m (host_of m s c.acts) (act_brought c.acts a) →
     (0, gateway_hello) ∷ sent_by_gate c ≡ bares (read_by_host (acted c a)) ++ later → told ≡ more →
-    Follows m s (acted c a) (items ++ more) (then_made r (host_gives r.world new sent later told)) (submitted ++ [])
+    FollowsCourse m s (acted c a) (items ++ more) (then_made r (host_gives r.world new sent later told)) (submitted ++ [])
 follows-act m s c items more r submitted a new sent later told f host gives rest same = record {
   gate = f.gate;
   host = host;

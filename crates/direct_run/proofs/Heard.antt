@@ -26,7 +26,7 @@ use Rattle.redir_host.specs.device.Offering.{offer_move, offered_on}
 use Rattle.redir_host.specs.guest.Packets.{runs_at, data_move, start_move, can_start, cancel_move, packet_move, packet_move_by}
 use Rattle.redir_host.specs.device.Performing.{first_performed, perform_move, perform_move_by}
 use Rattle.redir_host.specs.state.Queues.{is_at, is_cancelled_by}
-use Rattle.redir_host.specs.state.Sound.{IsRequest, IsRunning, IsSound}
+use Rattle.redir_host.specs.state.Sound.{IsGuestRequest, IsRunning, IsSound}
 use Rattle.gate_history.proofs.lemmas.Lists.{Each}
 use Rattle.redir_host.proofs.lemmas.state.Sound.{Keeps, keeps-perform, keeps-offer, keeps-unplug, unplugged-by}
 use Rattle.redir_host.proofs.lemmas.guest.Sound.{keeps-packet}
@@ -101,7 +101,7 @@ packet-hears {S = S} m h p fits k =
 hello-hears : {S : Type 0} (m : Meaning S) (h : Host S) → IsDeaf h → Hears (packet_move m h 0 gateway_hello).host
 hello-hears {S = S} m h d =
     let g : Host S = record h { guest = met both_caps } in
-    let known : Hears g = record { guest = refl; sound = record { requests = subst (Each (IsRequest (met both_caps))) (sym d.queue) tt; streams = subst (Each (IsRunning (met both_caps))) (sym d.running) tt } } in
+    let known : Hears g = record { guest = refl; sound = record { requests = subst (Each (IsGuestRequest (met both_caps))) (sym d.queue) tt; streams = subst (Each (IsRunning (met both_caps))) (sym d.running) tt } } in
     elim h.unplugged as (λ (b : Bool). Hears (cond b (quiet g) (packet_move_by m g 0 gateway_hello)).host) [ true ↦ known | false ↦ known ]
 
 -- ---- what was sent

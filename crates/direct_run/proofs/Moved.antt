@@ -26,7 +26,7 @@ use Rattle.gate_history.specs.state.State.{State}
 use Rattle.gate_history.proofs.lemmas.step.Runs.{state-run}
 use Rattle.direct_run.specs.declared.item.Item.{Item}
 use Rattle.direct_run.specs.Clients.{IsMove, present, present_outs}
-use Rattle.direct_run.specs.Follows.{Follows, AreMoves}
+use Rattle.direct_run.specs.Follows.{FollowsCourse, AreMoves}
 use Rattle.direct_run.specs.Moves.{World, Made, Telling, Move, ByClient, HostReads, GateReads, as_items, as_submits, then_made, run}
 use Rattle.direct_run.specs.Noted.{item_of, item_of_host}
 use Rattle.direct_run.specs.Packets.{Found, bare, bares, read_by_host, read_by_gate, sent_by_host}
@@ -78,15 +78,15 @@ follows-moves : {S : Type 0} (m : Meaning S) (s : S) (c : Course) (items : List 
     made_by as_items m (run as_items m s h.moves).world ms ≡ gate_all as_items (record (run as_items m s h.moves).world { to_gate = later }) (brought c.events e) →
     made_by as_submits m (run as_items m s h.moves).world ms ≡ gate_all as_submits (record (run as_items m s h.moves).world { to_gate = later }) (brought c.events e) →
     first_packet ∷ sent_by_host m s c ≡ bares (read_by_gate (happened c e)) ++ later →
-    Follows m s (happened c e) (items ++ flat_map item_of (given_of notes_of c.events e)) (run as_items m s (onto ms h.moves)) (run as_submits m s (onto ms h.moves)).told
+    FollowsCourse m s (happened c e) (items ++ flat_map item_of (given_of notes_of c.events e)) (run as_items m s (onto ms h.moves)) (run as_submits m s (onto ms h.moves)).told
 follows-moves {S = S} m s c items e later ms h told submitted rest =
     let r = run as_items m s h.moves in
     let o = run as_submits m s h.moves in
     let new = items ++ flat_map item_of (given_of notes_of c.events e) in
     let made : run as_items m s (onto ms h.moves) ≡ then_made r (gate_all as_items (record r.world { to_gate = later }) (brought c.events e)) = told-onto as_items m s ms h.moves ∙ ap (then_made r) told in
     let more : (run as_submits m s (onto ms h.moves)).told ≡ o.told ++ given_by as_submits.by_gate r.world.gate (brought c.events e) = ap (λ (y : Made S Submission). y.told) (told-onto as_submits m s ms h.moves ∙ ap (then_made o) submitted) in
-    subst (Follows m s (happened c e) new (run as_items m s (onto ms h.moves))) (sym more)
-    (subst (λ (y : Made S Item). Follows m s (happened c e) new y (o.told ++ given_by as_submits.by_gate r.world.gate (brought c.events e))) (sym made) (follows-event m s c items r o.told e later h.follows rest))
+    subst (FollowsCourse m s (happened c e) new (run as_items m s (onto ms h.moves))) (sym more)
+    (subst (λ (y : Made S Item). FollowsCourse m s (happened c e) new y (o.told ++ given_by as_submits.by_gate r.world.gate (brought c.events e))) (sym made) (follows-event m s c items r o.told e later h.follows rest))
 
 pub moved-event : {S : Type 0} (m : Meaning S) (s : S) (c : Course) (items : List Item) (e : Event) → read_by_gate (happened c e) ≡ read_by_gate c → Each IsMove (map ByClient (brought c.events e)) → (h : AreMoves m s c items) →
     present (e ∷ c.events) ≡ present_outs m s (onto (map ByClient (brought c.events e)) h.moves) → AreMoves m s (happened c e) (items ++ flat_map item_of (given_of notes_of c.events e))
@@ -165,7 +165,7 @@ moved-asked {S = S} m s c items n g h =
     let none : (run as_submits m s (onto ms h.moves)).told ≡ o.told ++ [] = ap (λ (y : Made S Submission). y.told) (told-onto as_submits m s ms h.moves) ∙ ap (λ (l : List Submission). o.told ++ l) (asked-submits m w g.fresh) in
     record {
       moves = onto ms h.moves;
-      follows = subst (Follows m s (acted c a) more (run as_items m s (onto ms h.moves))) (sym none) (subst (λ (y : Made S Item). Follows m s (acted c a) more y (o.told ++ [])) (sym made)
+      follows = subst (FollowsCourse m s (acted c a) more (run as_items m s (onto ms h.moves))) (sym none) (subst (λ (y : Made S Item). FollowsCourse m s (acted c a) more y (o.told ++ [])) (sym made)
           (follows-act m s c items (act_items m s c.acts (submits_of c.events) a) r o.told a new sent g.later told h.follows
           ((λ i. host_steps m (h.follows.host i) (sym g.brought-is i)) ∙ sym (act-host m s c.acts a))
           (λ i. host_given (λ v. v.sent) m (h.follows.host i) (sym g.brought-is i))

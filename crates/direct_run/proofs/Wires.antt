@@ -15,7 +15,7 @@ use Rattle.redir_data.specs.Sent.{sent_packet_bytes}
 use Rattle.gate_history.specs.write.Bytes.{client_bytes_of, host_bytes_of, gateway_hello, out_client, out_host}
 use Rattle.redir_wire.specs.Capability.{no_caps}
 use Rattle.gate_history.specs.Headline.{Gains}
-use Rattle.gate_core.specs.step.Stands.{Takes as GateTakes, Stands as GateStands}
+use Rattle.gate_core.specs.step.Stands.{TakesEvent as GateTakes, Stands as GateStands}
 use Rattle.gate_history.proofs.lemmas.step.Events.{event-gives}
 use Rattle.model_device.specs.Meaning.{Meaning}
 use Rattle.redir_host.specs.step.Acts.{Act, guest_bytes}
@@ -30,7 +30,7 @@ use Rattle.direct_run.specs.World.{Course, first_id, happened, acted, sent_to_ho
 use Rattle.gate_history.specs.write.Refusals.{refusal_in}
 use Rattle.direct_run.specs.Noted.{item_of, named}
 use Rattle.direct_run.specs.Trace.{given_of, trace, untold}
-use Rattle.direct_run.specs.Stands.{Runs}
+use Rattle.direct_run.specs.Stands.{SystemRuns}
 use Rattle.direct_run.specs.inner.Doing.{DoesEvent, DoesAct}
 
 pub if-ok : {T E : Type 0} (r : Result T E) (P Q : T → Type 0) → ((v : T) → P v → Q v) → IfOk r P → IfOk r Q
@@ -97,8 +97,8 @@ more-fits n xs ys h = omega (arith, h, length-append xs ys)
 
 -- the event's bytes were taken off the wire to the gateway
 pub event-runs : {S : Type 0} (m : Meaning S) (s : S) (old new : SystemKept S) (c : Course) (e : Event) (told : Told) (rest : List ℕ) →
-    Runs m s old c → DoesEvent (record old { to_gate = rest }) new c.events e told →
-    rest ≡ drop (length (host_bytes (e ∷ c.events))) (sent_to_gate m s c) → length (host_bytes (e ∷ c.events)) ≤ length (sent_to_gate m s c) → Runs m s new (happened c e)
+    SystemRuns m s old c → DoesEvent (record old { to_gate = rest }) new c.events e told →
+    rest ≡ drop (length (host_bytes (e ∷ c.events))) (sent_to_gate m s c) → length (host_bytes (e ∷ c.events)) ≤ length (sent_to_gate m s c) → SystemRuns m s new (happened c e)
 event-runs {S = S} m s old new c e told rest r d rest-is fits = record {
   gate = d.gate;
   host = subst (λ (k : SystemKept S). HostStands m s k.host c.acts) (sym d.new-is) r.host;
@@ -117,8 +117,8 @@ event-runs {S = S} m s old new c e told rest r d rest-is fits = record {
 
 -- the act's bytes were taken off the wire to the host
 pub act-runs : {S : Type 0} (m : Meaning S) (s : S) (old new : SystemKept S) (c : Course) (a : Act) (told : Told) (rest : List ℕ) →
-    Runs m s old c → DoesAct m s (record old { to_host = rest }) new c.acts a told →
-    rest ≡ drop (length (guest_bytes (a ∷ c.acts))) (sent_to_host c) → length (guest_bytes (a ∷ c.acts)) ≤ length (sent_to_host c) → Runs m s new (acted c a)
+    SystemRuns m s old c → DoesAct m s (record old { to_host = rest }) new c.acts a told →
+    rest ≡ drop (length (guest_bytes (a ∷ c.acts))) (sent_to_host c) → length (guest_bytes (a ∷ c.acts)) ≤ length (sent_to_host c) → SystemRuns m s new (acted c a)
 act-runs {S = S} m s old new c a told rest r d rest-is fits = record {
   gate = subst (λ (k : SystemKept S). GateStands first_id k.gate c.events) (sym d.new-is) r.gate;
   host = d.host;

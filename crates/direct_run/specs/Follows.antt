@@ -21,7 +21,7 @@ use Rattle.direct_run.specs.World.{Course, first_id}
 
 -- both sides are the same, the packets on the wires are those that were sent and haven't been read, and the same was
 -- sent to clients, told and accepted
-pub record Follows {S : Type 0} (m : Meaning S) (s : S) (c : Course) (items : List Item) (r : Made S Item) (submitted : List Submission) : Type 0 where
+pub record FollowsCourse {S : Type 0} (m : Meaning S) (s : S) (c : Course) (items : List Item) (r : Made S Item) (submitted : List Submission) : Type 0 where
   pub gate : r.world.gate ≡ state_of first_id (history first_id c.events)
   pub host : r.world.host ≡ host_of m s c.acts
   pub submits : r.world.submits ≡ submits_of c.events
@@ -37,7 +37,7 @@ pub record AreMoves {S : Type 0} (m : Meaning S) (s : S) (c : Course) (items : L
   pub moves : List Move
   -- each is one that bytes can make
   pub legal : AllByRecursion IsMove moves
-  pub follows : Follows m s c items (run as_items m s moves) (run as_submits m s moves).told
+  pub follows : FollowsCourse m s c items (run as_items m s moves) (run as_submits m s moves).told
   -- and the present client is sent the same
   pub present-is : present c.events ≡ present_outs m s moves
   -- the host has refused nothing of what came

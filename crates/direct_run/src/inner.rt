@@ -8,7 +8,7 @@ ghost use Rattle.redir_host.specs.step.Acts.{Act, Piece, Perform, Offer, Unplug}
 ghost use Rattle.redir_host.specs.step.Stands.{HostStands};
 ghost use Rattle.direct_run.specs.Steps.{Step as PastStep, step_of};
 ghost use Rattle.direct_run.specs.World.{first_id, sent_to_host, sent_to_gate, nothing_yet};
-ghost use Rattle.direct_run.specs.Stands.{SystemStands, Takes};
+ghost use Rattle.direct_run.specs.Stands.{SystemStands, TakesStep};
 ghost use Rattle.direct_run.specs.inner.Views.{kept_of};
 ghost use Rattle.gate_history.specs.write.Refusals.{refusal_in};
 ghost use Rattle.direct_run.specs.Noted.{item_of, named};
@@ -92,7 +92,7 @@ impl<G: Gadget> Inner<G> {
     /// Does a step. Once memory has run out it does nothing.
     pub fn step(&mut self, step: Step) -> Result<Told, Memory>
         ensures takes { IfOk result (λ told. (first : G) (past : ListOf PastStep) → SystemStands G.meaning first (kept_of self.old) past
-            → Takes G.meaning first (kept_of self.new) past (step_of step.entry) told) }
+            → TakesStep G.meaning first (kept_of self.new) past (step_of step.entry) told) }
         ensures failed { is_some self.old.want ≡ true → IsErr result × (self.new ≡ self.old) }
     {
         match step {

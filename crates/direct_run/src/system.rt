@@ -6,7 +6,7 @@ ghost use Rattle.gate_history.specs.write.All.{counts_of};
 ghost use Rattle.direct_run.specs.Steps.{Step as PastStep, step_of};
 ghost use Rattle.direct_run.specs.World.{first_id, course};
 ghost use Rattle.direct_run.specs.Trace.{told_first, trace as trace_of};
-ghost use Rattle.direct_run.specs.Stands.{SystemStands, Takes, HasFailed};
+ghost use Rattle.direct_run.specs.Stands.{SystemStands, TakesStep, SystemHasFailed};
 
 use crate::inner::Inner;
 use crate::item::Items;
@@ -48,9 +48,9 @@ impl<G: Gadget> System<G> {
     /// Does a step.
     pub fn step(&mut self, step: Step) -> Result<Told, Memory>
         ensures takes { IfOk result (λ told. (first : G) (past : List PastStep) → SystemStands G.meaning first self.old past
-            → Takes G.meaning first self.new past (step_of step.entry) told) }
-        ensures fails { OnErr result (HasFailed self.new) }
-        ensures failed { HasFailed self.old → IsErr result × (self.new ≡ self.old) }
+            → TakesStep G.meaning first self.new past (step_of step.entry) told) }
+        ensures fails { OnErr result (SystemHasFailed self.new) }
+        ensures failed { SystemHasFailed self.old → IsErr result × (self.new ≡ self.old) }
     {
         match step {
             Step::Client(bytes) => {

@@ -8,7 +8,7 @@ ghost use Rattle.gate_history.specs.step.History.{history, rest_length};
 ghost use Rattle.gate_history.specs.write.All.{counts_of};
 ghost use Rattle.gate_history.specs.write.Bytes.{out_host};
 ghost use Rattle.usb_base.specs.declared.limits.TheConstants.{LONGEST_CLIENT_PACKET, LONGEST_HOST_PACKET};
-ghost use Rattle.gate_core.specs.step.Stands.{Stands, StandsFor, Takes, Stops, HasFailed};
+ghost use Rattle.gate_core.specs.step.Stands.{Stands, StandsFor, TakesEvent, Stops, GateHasFailed};
 
 use crate::step::inner::Inner;
 use gate_history::{Counts, Event, Notes};
@@ -60,11 +60,11 @@ impl Gate {
         to_host: &mut Bytes,
     ) -> Result<Notes, Memory>
         ensures takes { IfOk result (λ notes. (first : ℕ) (past : List PastEvent) → Stands first self.old past
-            → Takes first self.new past (event_of event.entry) to_client.old to_client.new to_host.old to_host.new notes) }
+            → TakesEvent first self.new past (event_of event.entry) to_client.old to_client.new to_host.old to_host.new notes) }
         ensures stops { OnErr result ((first : ℕ) (past : List PastEvent) → Stands first self.old past
             → Stops first self.new past (event_of event.entry) to_client.old to_client.new to_host.old to_host.new) }
-        ensures fails { OnErr result (HasFailed self.new) }
-        ensures failed { HasFailed self.old → IsErr result × (self.new ≡ self.old)
+        ensures fails { OnErr result (GateHasFailed self.new) }
+        ensures failed { GateHasFailed self.old → IsErr result × (self.new ≡ self.old)
             × (to_client.new ≡ to_client.old) × (to_host.new ≡ to_host.old) }
     {
         if let Some(memory) = self.inner.want {

@@ -60,7 +60,7 @@ TookWithin Ended buf = Unit {0}
 TookWithin Failed buf = Unit {0}
 
 -- a poll gives what these turns have
-pub record Gives (polled : Polled) (buf : List ℕ) (turns : List Turn) : Type 0 where
+pub record GivesTurns (polled : Polled) (buf : List ℕ) (turns : List Turn) : Type 0 where
   pub answers : polled ≡ answer (length buf) (pending turns)
   pub bytes : take (taken polled) buf ≡ given (length buf) (pending turns)
 
@@ -79,9 +79,9 @@ pub record PollFails (old new : Link) : Type 0 where
 
 -- an answer other than `Failed` is that of the front turn, where the turns are told
 abbrev pub Polls : Polled → List ℕ → Link → Link → Type 0
-Polls (Took n) buf old new = IfSome old.turns (Gives (Took n) buf) × (new ≡ turned (length buf) old)
-Polls NotYet buf old new = IfSome old.turns (Gives NotYet buf) × (new ≡ turned (length buf) (idled old))
-Polls Ended buf old new = IfSome old.turns (Gives Ended buf) × (new ≡ turned (length buf) (closed old))
+Polls (Took n) buf old new = IfSome old.turns (GivesTurns (Took n) buf) × (new ≡ turned (length buf) old)
+Polls NotYet buf old new = IfSome old.turns (GivesTurns NotYet buf) × (new ≡ turned (length buf) (idled old))
+Polls Ended buf old new = IfSome old.turns (GivesTurns Ended buf) × (new ≡ turned (length buf) (closed old))
 Polls Failed buf old new = PollFails old new
 
 -- the link goes down. The rest of a client's turns goes with it, and the host's stay.

@@ -9,7 +9,7 @@ use Rattle.gate_outside.specs.Calls.{Call, Dial, Listen, Accept, Poll, Write, Cl
 use Rattle.gate_outside.specs.Faults.{one_more}
 use Rattle.gate_outside.specs.Link.{Link, Door, other}
 use Rattle.gate_outside.specs.Turns.{pending, after}
-use Rattle.gate_outside.specs.Doors.{Gives, first}
+use Rattle.gate_outside.specs.Doors.{GivesTurns, first}
 use Rattle.gate_outside.specs.Plan.{Plan, fails_now, passed, failed, fresh}
 
 pub record Scripted : Type 0 where
@@ -85,7 +85,7 @@ polled_side Failed side = record side { plan = failed side.plan }
 
 abbrev pub PolledAs : Bool → Polled → List ℕ → Scripted → Scripted → Type 0
 PolledAs true polled buf old new = (polled ≡ Failed) × (new ≡ record old { plan = failed old.plan })
-PolledAs false polled buf old new = Gives polled buf old.turns × (new ≡ polled_side polled (record old { turns = after (length buf) (pending old.turns) }))
+PolledAs false polled buf old new = GivesTurns polled buf old.turns × (new ≡ polled_side polled (record old { turns = after (length buf) (pending old.turns) }))
 
 -- a poll fails as planned, and otherwise takes the front turn
 abbrev pub PolledScript : Polled → List ℕ → Scripted → Scripted → Type 0

@@ -37,7 +37,7 @@ impl Model for ScriptReader {
 
 impl ScriptReader {
     ghost use Rattle.gate_outside.specs.Reading.{NextBegins};
-    ghost use Rattle.gate_outside.specs.Doors.{Gives, TookWithin};
+    ghost use Rattle.gate_outside.specs.Doors.{GivesTurns, TookWithin};
 
     /// A reader that has begun no script.
     pub(crate) fn new(scripts: Scripts) -> ScriptReader
@@ -67,7 +67,7 @@ impl ScriptReader {
     pub(crate) fn poll(&mut self, buf: &mut [u8]) -> Polled
         requires { 0 < length buf.old }
         ensures bound { TookWithin result buf.new }
-        ensures gives { Gives result buf.new self.old.turns }
+        ensures gives { GivesTurns result buf.new self.old.turns }
         ensures moves { self.new ≡ record self.old { turns = after (length buf.new) (pending self.old.turns) } }
     {
         let turns = begun_script(self.scripts.as_slice(), self.begun);

@@ -7,7 +7,7 @@ use Rattle.gate_sockets.specs.Ahead.{ReadsAhead}
 use Rattle.gate_sockets.specs.Calls.{Call, Calls, came, came_by, went, went_by, tries, tries_by, broken, broken_by}
 use Rattle.gate_sockets.specs.State.{State, untold, broke, faulted}
 use Rattle.gate_sockets.specs.Step.{step_for, moved_of, IsStepWithin}
-use Rattle.gate_sockets.specs.Writing.{most_tries, Called, Waited, Sent, Sends, WroteOnce, GivesUp, Takes}
+use Rattle.gate_sockets.specs.Writing.{most_tries, Called, Waited, Sent, WritesFront, WroteOnce, GivesUp, TakesFront}
 
 calls-join : {S : Type 0} (r w : S → List ℕ → Result ℕ Error → S → Type 0) (later earlier : List Call) (a b c : Option S) → Calls r w earlier a b → Calls r w later b c → Calls r w (later ++ earlier) a c
 calls-join r w [] earlier a b c x y = subst (λ s. Calls r w earlier a s) (sym y) x
@@ -54,7 +54,7 @@ waited-join {m = m} x y = record {
   count = tries-join y.calls x.calls ∙ ap (λ k. k + tries x.calls 0) y.count ∙ ap (λ k. m + k) x.count;
 }
 
-pub sends-join : {S : Type 0} {r w : S → List ℕ → Result ℕ Error → S → Type 0} {n k : ℕ} {piece : List ℕ} {a b c : State S} → Waited r w n a b → Sends r w k piece b c → Sends r w k piece a c
+pub sends-join : {S : Type 0} {r w : S → List ℕ → Result ℕ Error → S → Type 0} {n k : ℕ} {piece : List ℕ} {a b c : State S} → Waited r w n a b → WritesFront r w k piece b c → WritesFront r w k piece a c
 sends-join {k = k} {piece = piece} {c = c} x y = record {
   some = y.some;
   within = y.within;
@@ -160,7 +160,7 @@ waits-once r w step piece answer s t old new up gives is none e = record {
 
 sends-once : {S : Type 0} (r w : S → List ℕ → Result ℕ Error → S → Type 0) (step : Step) (n : ℕ) (piece : List ℕ) (answer : Result ℕ Error) (s t : S) (old new : State S) →
     0 < n → n ≤ length piece → old.stream ≡ Some s → w s piece answer t → step ≡ step_for answer → Sent n piece (moved_of step piece) new.broken →
-    new ≡ record old { stream = Some t; broken = broken_by step old.broken } → Sends r w n piece old new
+    new ≡ record old { stream = Some t; broken = broken_by step old.broken } → WritesFront r w n piece old new
 sends-once r w step n piece answer s t old new some within up gives is sent e = record {
   some = some;
   within = within;
@@ -171,7 +171,7 @@ sends-once r w step n piece answer s t old new some within up gives is sent e = 
 
 pub wrote-once : {S : Type 0} (r w : S → List ℕ → Result ℕ Error → S → Type 0) (step : Step) (taken : Option ℕ) (piece : List ℕ) (answer : Result ℕ Error) (s t : S) (old mid new : State S) →
     0 < length piece → old.broken ≡ false → IsStepWithin (length piece) step → old.stream ≡ Some s → w s piece answer t → step ≡ step_for answer →
-    mid ≡ record old { stream = Some t } → Takes step (length piece) taken mid new → WroteOnce r w taken piece old new
+    mid ≡ record old { stream = Some t } → TakesFront step (length piece) taken mid new → WroteOnce r w taken piece old new
 wrote-once {S = S} r w (Moved zero) taken piece answer s t old mid new some whole within up gives is e takes =
     let stands : new ≡ record old { stream = Some t } = takes.2 ∙ e in
     subst (λ k. WroteOnce r w k piece old new) (sym (takes.0 refl))

@@ -60,7 +60,7 @@ pub record Heard {S : Type 0} (gives : S → List ℕ → Result ℕ Error → S
   pub hears : Hears (step_for answer) (length buf) polled (read_to stream old) new
 
 -- what was read ahead is given
-pub record Gives {S : Type 0} (polled : Polled) (buf : List ℕ) (ahead : List ℕ) (old new : State S) : Type 0 where
+pub record GivesAhead {S : Type 0} (polled : Polled) (buf : List ℕ) (ahead : List ℕ) (old new : State S) : Type 0 where
   pub count : polled ≡ Took (min (length ahead) (length buf))
   pub bytes : take (min (length ahead) (length buf)) buf ≡ take (min (length ahead) (length buf)) ahead
   pub rest : new ≡ record old { ahead = drop (min (length ahead) (length buf)) ahead }
@@ -68,7 +68,7 @@ pub record Gives {S : Type 0} (polled : Polled) (buf : List ℕ) (ahead : List �
 -- what was read ahead comes first, before bytes that came later, and before the end
 abbrev pub PollsBehind : {S : Type 0} → (S → List ℕ → Result ℕ Error → S → Type 0) → List ℕ → Polled → List ℕ → State S → State S → Type 0
 PollsBehind gives [] polled buf old new = Heard gives polled buf old new ⊎ Passed polled old new
-PollsBehind gives (b ∷ ahead) polled buf old new = Gives polled buf (b ∷ ahead) old new
+PollsBehind gives (b ∷ ahead) polled buf old new = GivesAhead polled buf (b ∷ ahead) old new
 
 abbrev pub PollSteps : {S : Type 0} → (S → List ℕ → Result ℕ Error → S → Type 0) → Polled → List ℕ → State S → State S → Type 0
 PollSteps gives polled buf old new = PollsBehind gives old.ahead polled buf old new

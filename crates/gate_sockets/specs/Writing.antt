@@ -35,7 +35,7 @@ Sent n piece bytes true = (n ≡ length piece) × (bytes ≡ [])
 Sent n piece bytes false = bytes ≡ take n piece
 
 -- a front of the piece, at least one byte of it, is told as written
-pub record Sends {S : Type 0} (reads writes : S → List ℕ → Result ℕ Error → S → Type 0) (n : ℕ) (piece : List ℕ) (old new : State S) : Type 0 where
+pub record WritesFront {S : Type 0} (reads writes : S → List ℕ → Result ℕ Error → S → Type 0) (n : ℕ) (piece : List ℕ) (old new : State S) : Type 0 where
   pub some : 0 < n
   pub within : n ≤ length piece
   pub calls : List Call
@@ -44,7 +44,7 @@ pub record Sends {S : Type 0} (reads writes : S → List ℕ → Result ℕ Erro
 
 -- a write that was tried once: on a link that isn't broken it may have to wait
 abbrev pub WroteOnce : {S : Type 0} → (S → List ℕ → Result ℕ Error → S → Type 0) → (S → List ℕ → Result ℕ Error → S → Type 0) → Option ℕ → List ℕ → State S → State S → Type 0
-WroteOnce reads writes (Some n) piece old new = Sends reads writes n piece old new
+WroteOnce reads writes (Some n) piece old new = WritesFront reads writes n piece old new
 WroteOnce reads writes None piece old new = Waited reads writes 1 old new × (new.broken ≡ false)
 
 -- a write that fails was tried as often as it may be, on a link that isn't broken
@@ -56,12 +56,12 @@ pub record GivesUp {S : Type 0} (reads writes : S → List ℕ → Result ℕ Er
 
 -- what a write does to its link
 abbrev pub WriteSteps : {S E : Type 0} → (S → List ℕ → Result ℕ Error → S → Type 0) → (S → List ℕ → Result ℕ Error → S → Type 0) → Result ℕ E → List ℕ → State S → State S → Type 0
-WriteSteps reads writes (Ok n) piece old new = Sends reads writes n piece old new
+WriteSteps reads writes (Ok n) piece old new = WritesFront reads writes n piece old new
 WriteSteps reads writes (Err _) piece old new = GivesUp reads writes old new
 
 -- how many bytes a step of a write has taken of so many, and whether it broke the link
-abbrev pub Takes : {S : Type 0} → Step → ℕ → Option ℕ → State S → State S → Type 0
-Takes (Moved n) most taken old new = (n ≡ 0 → taken ≡ None) × (0 < n → taken ≡ Some n) × (new ≡ old)
-Takes Blocked most taken old new = (taken ≡ None) × (new ≡ old)
-Takes Cut most taken old new = (taken ≡ None) × (new ≡ old)
-Takes (Broken e) most taken old new = (taken ≡ Some most) × (new ≡ broke old)
+abbrev pub TakesFront : {S : Type 0} → Step → ℕ → Option ℕ → State S → State S → Type 0
+TakesFront (Moved n) most taken old new = (n ≡ 0 → taken ≡ None) × (0 < n → taken ≡ Some n) × (new ≡ old)
+TakesFront Blocked most taken old new = (taken ≡ None) × (new ≡ old)
+TakesFront Cut most taken old new = (taken ≡ None) × (new ≡ old)
+TakesFront (Broken e) most taken old new = (taken ≡ Some most) × (new ≡ broke old)

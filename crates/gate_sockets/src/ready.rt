@@ -16,8 +16,11 @@ const QUIET_LOOKS: u32 = 2;
 /// How long a look waits at most for something to come.
 const READ_WAIT_MILLIS: u64 = 10;
 
-/// How often one looks without sleeping before one waits, behind something that came or went.
+/// How often one looks without sleeping before one waits, behind a lone packet.
 const EAGER_LOOKS: u32 = 64;
+
+/// How many times bytes come or go at most where a lone packet went its way: in and out again.
+const LONE_MOVES: u32 = 2;
 
 /// How often in a row such looks may find nothing before most waits begin without them.
 const VAIN: u32 = 4;
@@ -69,8 +72,8 @@ pub struct Ready {
     host: Told,
     // How many looks in a row have found nothing.
     quiet: u32,
-    // Bytes came or went since the last wait.
-    stirred: bool,
+    // How many times bytes came or went since the last wait.
+    moves: u32,
     // How many waits behind that, in a row, weren't saved by looking without sleep.
     vain: u32,
     // How long a look waits that finds nothing, where that is asked.
@@ -86,7 +89,7 @@ impl Ready {
             client: Told::NOTHING,
             host: Told::NOTHING,
             quiet: 0,
-            stirred: false,
+            moves: 0,
             vain: 0,
             pace: None,
         })
@@ -113,7 +116,7 @@ impl Ready {
     /// Bytes came or went.
     pub(crate) fn moved(&mut self) {
         self.quiet = 0;
-        self.stirred = true;
+        self.moves = self.moves.saturating_add(1);
     }
 
     /// The side is read now, so that what was told of it is done with.
@@ -168,11 +171,13 @@ impl Ready {
     }
 
     /// Waits for something to read, for so long at most. A peer on this machine answers sooner than a sleeper wakes, so
-    /// behind something that came or went one looks for its answer first. Where that is in vain it is seldom tried.
+    /// behind a lone packet one looks for its answer first. Where that is in vain it is seldom tried. Where more came or
+    /// went than one packet's bytes, more is under way, and what comes meanwhile goes on together.
     fn wait(&mut self, most: Duration) -> io::Result<()> {
-        if self.stirred && self.pace.is_none() {
-            self.stirred = false;
-            if self.is_worth_looking() && self.has_looked()? {
+        if self.moves > 0 && self.pace.is_none() {
+            let is_lone = self.moves <= LONE_MOVES;
+            self.moves = 0;
+            if is_lone && self.is_worth_looking() && self.has_looked()? {
                 self.vain = 0;
                 return Ok(());
             }

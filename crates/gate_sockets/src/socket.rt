@@ -4,7 +4,7 @@ ghost use Rattle.std.specs.Prelude.{◌≡◌, ◌<◌, false, length, IsTrue, i
 ghost use Rattle.gate_outside.specs.Doors.{Polls, TookWithin};
 ghost use Rattle.gate_sockets.specs.Polling.{PassesOver, Hears, PollSteps};
 ghost use Rattle.gate_sockets.specs.State.{fresh, opened, closed, broke, faulted, idled, untold};
-ghost use Rattle.gate_sockets.specs.Writing.{ReadOn, WroteOnce, Takes};
+ghost use Rattle.gate_sockets.specs.Writing.{ReadOn, WroteOnce, TakesFront};
 
 use crate::ahead::Ahead;
 use crate::connection::Connection;
@@ -241,7 +241,7 @@ impl<S: Connection> Socket<S> {
 
     /// How many bytes a write of so many has taken.
     fn take(&mut self, step: Step, most: usize) -> Option<usize>
-        ensures { Takes step most result self.old self.new }
+        ensures { TakesFront step most result self.old self.new }
     {
         match step {
             Step::Moved(count) if count > 0 => Some(count),

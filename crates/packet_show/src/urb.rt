@@ -3,7 +3,7 @@
 ghost use Rattle.std.specs.Prelude.{◌≡◌, ◌++◌, ◌∷◌, IfOk, map, string_bytes};
 ghost use Rattle.packet_stream.specs.Writes.{Appends, AppendsSome};
 ghost use Rattle.packet_show.specs.Line.{decimal, numbers, spaced_words};
-ghost use Rattle.packet_show.specs.Urb.{IsRequest, urb_line, urb_words, submit_words, unlink_words, desc_word};
+ghost use Rattle.packet_show.specs.Urb.{IsShown, urb_line, urb_words, submit_words, unlink_words, desc_word};
 
 use crate::line::{end_line, push_begin, push_bytes, push_numbers, push_word};
 use std::alloc::Global;
@@ -19,7 +19,7 @@ pub fn show_urb(
     packet: &UrbPacket,
     out: &mut Bytes,
 ) -> Result<(), Memory>
-    requires { IsRequest packet.now }
+    requires { IsShown packet.now }
     ensures { Appends result out.old out.new (urb_line place packet.now) }
 {
     let from = out.len();
@@ -34,7 +34,7 @@ fn push_request(
     packet: &UrbPacket,
     out: &mut Bytes,
 ) -> Result<(), Memory>
-    requires { IsRequest packet.now }
+    requires { IsShown packet.now }
     ensures { AppendsSome result out.old out.new (decimal place ++ spaced_words (urb_words packet.now)) }
 {
     match packet {

@@ -9,7 +9,7 @@ use Rattle.packet_stream.proofs.Laws.{IsSteady, split-is, split-more, further-wi
 use Rattle.usb_base.specs.declared.reason.Reason.{Reason}
 use Rattle.packet_stream.specs.declared.read.ReadError.{ReadError}
 use Rattle.packet_stream.specs.Reads.{WantsMemory}
-use Rattle.packet_stream.specs.Streams.{capped, StreamView, passed, Left, FollowsBy, Follows, Drained, Wrongs, Gives, Wants, Holds, Changes, after_piece, after_piece_by}
+use Rattle.packet_stream.specs.Streams.{capped, StreamView, passed, Left, FollowsBy, Follows, Drained, Wrongs, GivesNext, WantsNext, Holds, Changes, after_piece, after_piece_by}
 
 with_packets-twice : {S P R : Type 0} (front more : List (ℕ × P)) (y : Splitting S P R) → with_packets front (with_packets more y) ≡ with_packets (front ++ more) y
 with_packets-twice {P = P} front more y = ap (λ (l : List (ℕ × P)). record y { packets = l }) (sym (append_assoc front more y.packets))
@@ -80,13 +80,13 @@ capped-past place a n new e f = omega (arith, e, f)
 
 pub follows-whole : {S P R : Type 0} (r : Reader S P R) → IsSteady r → (start : Position S) (kept old new : StreamView S) (bytes : List ℕ) (given : List (ℕ × P)) (p : P) (n told : ℕ) → kept ≡ old →
     kept.over ≡ false → r.read kept.state kept.rest ≡ Whole p n → new ≡ record { state = r.next kept.state p; rest = drop n kept.rest; place = capped (kept.place + n); held = kept.rest; at = kept.place; over = false } →
-    told ≡ kept.place → Follows r start old bytes given → Gives r start new bytes given told p
+    told ≡ kept.place → Follows r start old bytes given → GivesNext r start new bytes given told p
 follows-whole {S = S} {P = P} {R = R} r steady start kept old new bytes given p n told view runs h e is g =
     let f : Follows r start kept bytes given = subst (λ (k : StreamView S). Follows r start k bytes given) (sym view) g in
     let left = going r kept (split r start bytes) given kept.over runs f.follows in
     let item : List (ℕ × P) = (left.at.place, p) ∷ [] in
     let z = past r.next left.at p n in
-    subst (λ (k : StreamView S). Gives r start k bytes given told p) (sym e) (record {
+    subst (λ (k : StreamView S). GivesNext r start k bytes given told p) (sym e) (record {
       at = left.at.place;
       place-is = is ∙ left.place;
       follows = record {
@@ -113,7 +113,7 @@ follows-short {S = S} {P = P} {R = R} r steady start kept old new bytes given vi
 
 -- memory is wanting for the next packet alone
 pub follows-wants : {S P : Type 0} (r : Reader S P Reason) → IsSteady r → (takes : P → Bool) (start : Position S) (kept old : StreamView S) (bytes : List ℕ) (given : List (ℕ × P)) (found : Found P Reason) → kept ≡ old →
-    kept.over ≡ false → r.read kept.state kept.rest ≡ found → WantsMemory takes found → Follows r start old bytes given → Wants takes (split r start bytes) given
+    kept.over ≡ false → r.read kept.state kept.rest ≡ found → WantsMemory takes found → Follows r start old bytes given → WantsNext takes (split r start bytes) given
 follows-wants {S = S} {P = P} r steady takes start kept old bytes given (Whole p n) view runs h wants g =
     let f : Follows r start kept bytes given = subst (λ (k : StreamView S). Follows r start k bytes given) (sym view) g in
     let left = going r kept (split r start bytes) given kept.over runs f.follows in

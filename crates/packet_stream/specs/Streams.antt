@@ -68,13 +68,13 @@ pub record Wrongs {S P R : Type 0} (place : ℕ) (reason : R) (x : Splitting S P
   pub place-is : place ≡ capped at
 
 -- this packet comes next
-pub record Gives {S P R : Type 0} (r : Reader S P R) (start : Position S) (kept : StreamView S) (bytes : List ℕ) (given : List (ℕ × P)) (place : ℕ) (packet : P) : Type 0 where
+pub record GivesNext {S P R : Type 0} (r : Reader S P R) (start : Position S) (kept : StreamView S) (bytes : List ℕ) (given : List (ℕ × P)) (place : ℕ) (packet : P) : Type 0 where
   pub at : ℕ
   pub place-is : place ≡ capped at
   pub follows : Follows r start kept bytes (given ++ (at, packet) ∷ [])
 
 -- a packet comes next that takes memory
-pub record Wants {S P R : Type 0} (takes : P → Bool) (x : Splitting S P R) (given : List (ℕ × P)) : Type 0 where
+pub record WantsNext {S P R : Type 0} (takes : P → Bool) (x : Splitting S P R) (given : List (ℕ × P)) : Type 0 where
   pub next : ℕ × P
   pub left : List (ℕ × P)
   pub packets : x.packets ≡ given ++ next ∷ left
@@ -88,10 +88,10 @@ pub record Holds {S P R : Type 0} (r : Reader S P R) (kept : StreamView S) (x : 
 
 -- what an answer of `next` says of the splitting
 abbrev pub Answered : {S P : Type 0} → Reader S P Reason → (P → Bool) → Position S → Result (Option (ℕ × P)) ReadError → StreamView S → List ℕ → List (ℕ × P) → Type 0
-Answered r takes start (Ok (Some i)) new bytes given = Gives r start new bytes given i.0 i.1
+Answered r takes start (Ok (Some i)) new bytes given = GivesNext r start new bytes given i.0 i.1
 Answered r takes start (Ok None) new bytes given = new.over ≡ false → Drained new (split r start bytes) given
 Answered r takes start (Err (Refused place reason)) new bytes given = Wrongs place reason (split r start bytes) given
-Answered r takes start (Err (Memory memory)) new bytes given = Wants takes (split r start bytes) given
+Answered r takes start (Err (Memory memory)) new bytes given = WantsNext takes (split r start bytes) given
 
 -- whatever has come and was given: the answer is what comes next of the splitting
 abbrev pub Nexts : {S P : Type 0} → Reader S P Reason → (P → Bool) → Result (Option (ℕ × P)) ReadError → StreamView S → StreamView S → Type 0

@@ -16,7 +16,7 @@ ghost use Rattle.usbgate_tapes.specs.inner.show.Show.{shown_by};
 ghost use Rattle.usbgate_tapes.specs.Causes.{HasCauses};
 ghost use Rattle.usbgate_tapes.specs.declared.status.Status.TheVariants.{Usage};
 ghost use Rattle.usbgate_tapes.specs.inner.model.Model.{IsModelled};
-ghost use Rattle.usbgate_tapes.specs.inner.tape.TapeReader.{Stage, Runs, end_text};
+ghost use Rattle.usbgate_tapes.specs.inner.tape.TapeReader.{Stage, ReaderRuns, end_text};
 
 use crate::model::ModelRun;
 use crate::model::device::Device;
@@ -143,7 +143,7 @@ fn over_tape<C: TapeCommand + Drop, S: Source, K: Sink>(
 ) -> Status
     requires { (task : C.Task) × C.Keeps task command (C.means task).start × (text ≡ (C.means task).opening) }
     ensures runs { (task : C.Task) → C.Keeps task command (C.means task).start → text ≡ (C.means task).opening
-        → Runs (C.means task) (C.Keeps task) S.read_gives K.write_gives S.remaining K.contents result tape.old tape.new out.old out.new }
+        → ReaderRuns (C.means task) (C.Keeps task) S.read_gives K.write_gives S.remaining K.contents result tape.old tape.new out.old out.new }
     ensures causes { HasCauses result (S.faults tape.old) (S.faults tape.new) (K.faults out.old) (K.faults out.new) }
     ensures command { result ≢ Status.Usage }
 {
@@ -171,7 +171,7 @@ fn read_pieces<C: TapeCommand + Drop, S: Source, K: Sink>(
     requires start { (task : C.Task) × Stage (C.means task) (C.Keeps task) reader [] [] }
     requires room { 0 < length buf.old }
     ensures runs { (task : C.Task) → Stage (C.means task) (C.Keeps task) reader [] []
-        → Runs (C.means task) (C.Keeps task) S.read_gives K.write_gives S.remaining K.contents result tape.old tape.new out.old out.new }
+        → ReaderRuns (C.means task) (C.Keeps task) S.read_gives K.write_gives S.remaining K.contents result tape.old tape.new out.old out.new }
     ensures causes { HasCauses result (S.faults tape.old) (S.faults tape.new) (K.faults out.old) (K.faults out.new) }
     ensures command { result ≢ Status.Usage }
 {

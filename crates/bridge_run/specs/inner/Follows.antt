@@ -26,7 +26,7 @@ pub record Prepared (p : Prescribed) (events : List LinkEvent) (e : LinkEvent) (
   pub lines-is : lines ≡ flat_map refusal_line sent.refusals
 
 -- what is served stands for the course's events, the rest is kept, and the outside tells it
-pub record Follows (stands : List LinkEvent → Type 0) (p : Prescribed) (k : Rounds) (w : Outside) (out : Written) (c : Course) : Type 0 where
+pub record IsServing (stands : List LinkEvent → Type 0) (p : Prescribed) (k : Rounds) (w : Outside) (out : Written) (c : Course) : Type 0 where
   pub stands_for : stands c.events
   pub tells : Tells w out c
   pub client_up : k.client_up ≡ c.client_up
@@ -52,7 +52,7 @@ IsCutEnd _ = ⊥
 -- ---- one event
 
 abbrev pub Puts : Result Bool ServeEnd → (List LinkEvent → Type 0) → (List LinkEvent → LinkEvent → List ℕ → List ℕ → Type 0) → Prescribed → LinkEvent → Rounds → Outside → Written → Course → Type 0
-Puts (Ok dropped) stands runs_out p e k w out c = Follows stands p k w out (put p e c) × (dropped ≡ drops p c.events e)
+Puts (Ok dropped) stands runs_out p e k w out c = IsServing stands p k w out (put p e c) × (dropped ≡ drops p c.events e)
 Puts (Err end) stands runs_out p e k w out c = Cut (MayRunOut end runs_out p) w out c (put p e c)
 
 -- ---- some calls
@@ -63,11 +63,11 @@ setting p k = record { served = p; idle = k.idle }
 pub record Comes (stands : List LinkEvent → Type 0) (s : Setting) (k : Rounds) (w : Outside) (out : Written) (from : Outcome) (next : Next) : Type 0 where
   pub course : Course
   pub reaches : Reaches s from (Goes next course)
-  pub follows : Follows stands s.served k w out course
+  pub follows : IsServing stands s.served k w out course
 
-abbrev pub Runs : {T : Type 0} → Result T ServeEnd → (List LinkEvent → Type 0) → (List LinkEvent → LinkEvent → List ℕ → List ℕ → Type 0) → Setting → Rounds → Outside → Written → Outcome → Next → Type 0
-Runs (Ok _) stands runs_out s k w out from next = Comes stands s k w out from next
-Runs (Err e) stands runs_out s k w out from next = Leaves e runs_out s from w out
+abbrev pub RunsOn : {T : Type 0} → Result T ServeEnd → (List LinkEvent → Type 0) → (List LinkEvent → LinkEvent → List ℕ → List ℕ → Type 0) → Setting → Rounds → Outside → Written → Outcome → Next → Type 0
+RunsOn (Ok _) stands runs_out s k w out from next = Comes stands s k w out from next
+RunsOn (Err e) stands runs_out s k w out from next = Leaves e runs_out s from w out
 
 -- where a side is polled, and what comes behind that
 abbrev pub polls : Side → Next

@@ -6,7 +6,7 @@ use Rattle.bridge_run.specs.events.Prescribed.{Prescribed, gained}
 use Rattle.bridge_run.specs.events.RanOut.{RanOutWithin}
 use Rattle.bridge_run.specs.log.Log.{IsFront}
 
-pub record Sends (p : Prescribed) (events : List LinkEvent) (e : LinkEvent) (old new : Sent) : Type 0 where
+pub record SendsAll (p : Prescribed) (events : List LinkEvent) (e : LinkEvent) (old new : Sent) : Type 0 where
   pub client : new.to_client ≡ old.to_client ++ gained p.to_client events e
   pub host : new.to_host ≡ old.to_host ++ gained p.to_host events e
   pub refusals : new.refusals ≡ old.refusals ++ gained p.refusals events e

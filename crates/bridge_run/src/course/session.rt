@@ -10,7 +10,7 @@ ghost use Rattle.bridge_run.specs.course.Outside.{outside, gathering, written, f
 ghost use Rattle.bridge_run.specs.written.Recorded.{sends_any};
 ghost use Rattle.bridge_run.specs.course.Serves.{MayRunOut, Leaves};
 ghost use Rattle.bridge_run.specs.inner.Keeping.{Agrees, Wears, IsLive, rounds_of, up_of, is_last};
-ghost use Rattle.bridge_run.specs.inner.Follows.{Prepared, Follows, HasFaults, IsCutEnd, Puts, setting, Runs, polls, behind};
+ghost use Rattle.bridge_run.specs.inner.Follows.{Prepared, IsServing, HasFaults, IsCutEnd, Puts, setting, RunsOn, polls, behind};
 ghost use Rattle.bridge_run.specs.course.Outside.{HasCause, HasReason};
 ghost use Rattle.bridge_run.specs.log.Asks.{Ask};
 ghost use Rattle.bridge_run.specs.log.Log.{Terms, Told, Logged};
@@ -136,7 +136,7 @@ impl<C: Served + Drop> Session<C> {
         tape: &mut T,
     ) -> Result<bool, ServeEnd>
         requires { Agrees self.old.rounds (outside (D.link doors.old) (D.door doors.old)) }
-        ensures course { (first : C.First) (begun : Option (List ℕ)) (c : Course) → Follows (C.stands first self.old.core) (C.sends first) self.old.rounds (outside (D.link doors.old) (D.door doors.old)) (gathering begun (K.contents out.old) (T.contents tape.old) self.old.waiting) c
+        ensures course { (first : C.First) (begun : Option (List ℕ)) (c : Course) → IsServing (C.stands first self.old.core) (C.sends first) self.old.rounds (outside (D.link doors.old) (D.door doors.old)) (gathering begun (K.contents out.old) (T.contents tape.old) self.old.waiting) c
             → Puts result (C.stands first self.new.core) (C.runs_out first) (C.sends first) (event_of event.entry) self.new.rounds (outside (D.link doors.new) (D.door doors.new)) (gathering begun (K.contents out.new) (T.contents tape.new) self.new.waiting) c }
         ensures log { (first : C.First) (terms : Terms) (asks : List Ask) (begun : D) (begun_out : K) → terms.taped ≡ T.made tape.old → IsTaking D.call_gives (C.stands first self.old.core) (Told K.write_gives begun_out out.old) terms (C.sends first) asks (event_of event.entry) self.old.rounds begun doors.old
             → PutLogs result D.call_gives (C.stands first self.new.core) (C.runs_out first) (Told K.write_gives begun_out out.new) terms (C.sends first) asks (event_of event.entry) self.new.rounds begun doors.new }
@@ -185,8 +185,8 @@ impl<C: Served + Drop> Session<C> {
         tape: &mut T,
     ) -> Result<(), ServeEnd>
         requires { Agrees self.old.rounds (outside (D.link doors.old) (D.door doors.old)) }
-        ensures course { (first : C.First) (begun : Option (List ℕ)) (next : Next) (c : Course) → Follows (C.stands first self.old.core) (C.sends first) self.old.rounds (outside (D.link doors.old) (D.door doors.old)) (gathering begun (K.contents out.old) (T.contents tape.old) self.old.waiting) c
-            → Runs result (C.stands first self.new.core) (C.runs_out first) (setting (C.sends first) self.old.rounds) self.new.rounds (outside (D.link doors.new) (D.door doors.new)) (gathering begun (K.contents out.new) (T.contents tape.new) self.new.waiting) (Goes (Takes (event_of event.entry) next) c) next }
+        ensures course { (first : C.First) (begun : Option (List ℕ)) (next : Next) (c : Course) → IsServing (C.stands first self.old.core) (C.sends first) self.old.rounds (outside (D.link doors.old) (D.door doors.old)) (gathering begun (K.contents out.old) (T.contents tape.old) self.old.waiting) c
+            → RunsOn result (C.stands first self.new.core) (C.runs_out first) (setting (C.sends first) self.old.rounds) self.new.rounds (outside (D.link doors.new) (D.door doors.new)) (gathering begun (K.contents out.new) (T.contents tape.new) self.new.waiting) (Goes (Takes (event_of event.entry) next) c) next }
         ensures log { (first : C.First) (terms : Terms) (asks : List Ask) (begun : D) (begun_out : K) → terms.taped ≡ T.made tape.old → IsTaking D.call_gives (C.stands first self.old.core) (Told K.write_gives begun_out out.old) terms (C.sends first) asks (event_of event.entry) self.old.rounds begun doors.old
             → HappenLogs result D.call_gives (C.stands first self.new.core) (C.runs_out first) (Told K.write_gives begun_out out.new) terms (C.sends first) asks self.new.rounds begun doors.new }
         ensures faults { HasFaults result (outside (D.link doors.old) (D.door doors.old)) (outside (D.link doors.new) (D.door doors.new)) (faults (K.faults out.old) (T.counts tape.old)) (faults (K.faults out.new) (T.counts tape.new)) }
@@ -215,8 +215,8 @@ impl<C: Served + Drop> Session<C> {
     ) -> Result<(), ServeEnd>
         requires agrees { Agrees self.old.rounds (outside (D.link doors.old) (D.door doors.old)) }
         requires left { 0 < self.old.rounds.left }
-        ensures course { (first : C.First) (begun : Option (List ℕ)) (c : Course) → Follows (C.stands first self.old.core) (C.sends first) self.old.rounds (outside (D.link doors.old) (D.door doors.old)) (gathering begun (K.contents out.old) (T.contents tape.old) self.old.waiting) c
-            → Runs result (C.stands first self.new.core) (C.runs_out first) (setting (C.sends first) self.old.rounds) self.new.rounds (outside (D.link doors.new) (D.door doors.new)) (gathering begun (K.contents out.new) (T.contents tape.new) self.new.waiting) (Goes AtDoor c) AtClient }
+        ensures course { (first : C.First) (begun : Option (List ℕ)) (c : Course) → IsServing (C.stands first self.old.core) (C.sends first) self.old.rounds (outside (D.link doors.old) (D.door doors.old)) (gathering begun (K.contents out.old) (T.contents tape.old) self.old.waiting) c
+            → RunsOn result (C.stands first self.new.core) (C.runs_out first) (setting (C.sends first) self.old.rounds) self.new.rounds (outside (D.link doors.new) (D.door doors.new)) (gathering begun (K.contents out.new) (T.contents tape.new) self.new.waiting) (Goes AtDoor c) AtClient }
         ensures log { (first : C.First) (terms : Terms) (begun : D) (begun_out : K) → terms.taped ≡ T.made tape.old → IsAsking AtDoor D.call_gives (C.stands first self.old.core) (Told K.write_gives begun_out out.old) terms (C.sends first) self.old.rounds begun doors.old
             → Logs result AtClient D.call_gives (C.stands first self.new.core) (C.runs_out first) (Told K.write_gives begun_out out.new) terms (C.sends first) self.new.rounds begun doors.new }
         ensures faults { HasFaults result (outside (D.link doors.old) (D.door doors.old)) (outside (D.link doors.new) (D.door doors.new)) (faults (K.faults out.old) (T.counts tape.old)) (faults (K.faults out.new) (T.counts tape.new)) }
@@ -251,8 +251,8 @@ impl<C: Served + Drop> Session<C> {
     ) -> Result<(), ServeEnd>
         requires agrees { Agrees self.old.rounds (outside (D.link doors.old) (D.door doors.old)) }
         requires left { 0 < self.old.rounds.left }
-        ensures course { (first : C.First) (begun : Option (List ℕ)) (next : Next) (c : Course) → Follows (C.stands first self.old.core) (C.sends first) self.old.rounds (outside (D.link doors.old) (D.door doors.old)) (gathering begun (K.contents out.old) (T.contents tape.old) self.old.waiting) c
-            → Runs result (C.stands first self.new.core) (C.runs_out first) (setting (C.sends first) self.old.rounds) self.new.rounds (outside (D.link doors.new) (D.door doors.new)) (gathering begun (K.contents out.new) (T.contents tape.new) self.new.waiting) (Goes (quiet side next) c) next }
+        ensures course { (first : C.First) (begun : Option (List ℕ)) (next : Next) (c : Course) → IsServing (C.stands first self.old.core) (C.sends first) self.old.rounds (outside (D.link doors.old) (D.door doors.old)) (gathering begun (K.contents out.old) (T.contents tape.old) self.old.waiting) c
+            → RunsOn result (C.stands first self.new.core) (C.runs_out first) (setting (C.sends first) self.old.rounds) self.new.rounds (outside (D.link doors.new) (D.door doors.new)) (gathering begun (K.contents out.new) (T.contents tape.new) self.new.waiting) (Goes (quiet side next) c) next }
         ensures log { (first : C.First) (terms : Terms) (asks : List Ask) (begun : D) (begun_out : K) → terms.taped ≡ T.made tape.old → IsResting side D.call_gives (C.stands first self.old.core) (Told K.write_gives begun_out out.old) terms (C.sends first) asks self.old.rounds begun doors.old
             → HappenLogs result D.call_gives (C.stands first self.new.core) (C.runs_out first) (Told K.write_gives begun_out out.new) terms (C.sends first) asks self.new.rounds begun doors.new }
         ensures faults { HasFaults result (outside (D.link doors.old) (D.door doors.old)) (outside (D.link doors.new) (D.door doors.new)) (faults (K.faults out.old) (T.counts tape.old)) (faults (K.faults out.new) (T.counts tape.new)) }
@@ -281,8 +281,8 @@ impl<C: Served + Drop> Session<C> {
         requires agrees { Agrees self.old.rounds (outside (D.link doors.old) (D.door doors.old)) }
         requires left { 0 < self.old.rounds.left }
         requires room { length buf.old ≡ POLL_LIMIT }
-        ensures course { (first : C.First) (begun : Option (List ℕ)) (c : Course) → Follows (C.stands first self.old.core) (C.sends first) self.old.rounds (outside (D.link doors.old) (D.door doors.old)) (gathering begun (K.contents out.old) (T.contents tape.old) self.old.waiting) c
-            → Runs result (C.stands first self.new.core) (C.runs_out first) (setting (C.sends first) self.old.rounds) self.new.rounds (outside (D.link doors.new) (D.door doors.new)) (gathering begun (K.contents out.new) (T.contents tape.new) self.new.waiting) (Goes (polls side) c) (behind side) }
+        ensures course { (first : C.First) (begun : Option (List ℕ)) (c : Course) → IsServing (C.stands first self.old.core) (C.sends first) self.old.rounds (outside (D.link doors.old) (D.door doors.old)) (gathering begun (K.contents out.old) (T.contents tape.old) self.old.waiting) c
+            → RunsOn result (C.stands first self.new.core) (C.runs_out first) (setting (C.sends first) self.old.rounds) self.new.rounds (outside (D.link doors.new) (D.door doors.new)) (gathering begun (K.contents out.new) (T.contents tape.new) self.new.waiting) (Goes (polls side) c) (behind side) }
         ensures log { (first : C.First) (terms : Terms) (begun : D) (begun_out : K) → terms.taped ≡ T.made tape.old → IsAsking (polls side) D.call_gives (C.stands first self.old.core) (Told K.write_gives begun_out out.old) terms (C.sends first) self.old.rounds begun doors.old
             → Logs result (behind side) D.call_gives (C.stands first self.new.core) (C.runs_out first) (Told K.write_gives begun_out out.new) terms (C.sends first) self.new.rounds begun doors.new }
         ensures faults { HasFaults result (outside (D.link doors.old) (D.door doors.old)) (outside (D.link doors.new) (D.door doors.new)) (faults (K.faults out.old) (T.counts tape.old)) (faults (K.faults out.new) (T.counts tape.new)) }
@@ -322,8 +322,8 @@ impl<C: Served + Drop> Session<C> {
         requires agrees { Agrees self.old.rounds (outside (D.link doors.old) (D.door doors.old)) }
         requires live { IsLive self.old.rounds }
         requires room { length buf.old ≡ POLL_LIMIT }
-        ensures course { (first : C.First) (begun : Option (List ℕ)) (c : Course) → Follows (C.stands first self.old.core) (C.sends first) self.old.rounds (outside (D.link doors.old) (D.door doors.old)) (gathering begun (K.contents out.old) (T.contents tape.old) self.old.waiting) c
-            → Runs result (C.stands first self.new.core) (C.runs_out first) (setting (C.sends first) self.old.rounds) self.new.rounds (outside (D.link doors.new) (D.door doors.new)) (gathering begun (K.contents out.new) (T.contents tape.new) self.new.waiting) (Goes AtDoor c) AtDoor }
+        ensures course { (first : C.First) (begun : Option (List ℕ)) (c : Course) → IsServing (C.stands first self.old.core) (C.sends first) self.old.rounds (outside (D.link doors.old) (D.door doors.old)) (gathering begun (K.contents out.old) (T.contents tape.old) self.old.waiting) c
+            → RunsOn result (C.stands first self.new.core) (C.runs_out first) (setting (C.sends first) self.old.rounds) self.new.rounds (outside (D.link doors.new) (D.door doors.new)) (gathering begun (K.contents out.new) (T.contents tape.new) self.new.waiting) (Goes AtDoor c) AtDoor }
         ensures log { (first : C.First) (terms : Terms) (begun : D) (begun_out : K) → terms.taped ≡ T.made tape.old → IsAsking AtDoor D.call_gives (C.stands first self.old.core) (Told K.write_gives begun_out out.old) terms (C.sends first) self.old.rounds begun doors.old
             → Logs result AtDoor D.call_gives (C.stands first self.new.core) (C.runs_out first) (Told K.write_gives begun_out out.new) terms (C.sends first) self.new.rounds begun doors.new }
         ensures faults { HasFaults result (outside (D.link doors.old) (D.door doors.old)) (outside (D.link doors.new) (D.door doors.new)) (faults (K.faults out.old) (T.counts tape.old)) (faults (K.faults out.new) (T.counts tape.new)) }
@@ -353,7 +353,7 @@ impl<C: Served + Drop> Session<C> {
         requires live { IsLive self.old.rounds }
         requires room { length buf.old ≡ POLL_LIMIT }
         requires fresh { self.old.rounds.waits ≡ self.old.rounds.idle }
-        ensures course { (first : C.First) (begun : Option (List ℕ)) (c : Course) → Follows (C.stands first self.old.core) (C.sends first) self.old.rounds (outside (D.link doors.old) (D.door doors.old)) (gathering begun (K.contents out.old) (T.contents tape.old) self.old.waiting) c
+        ensures course { (first : C.First) (begun : Option (List ℕ)) (c : Course) → IsServing (C.stands first self.old.core) (C.sends first) self.old.rounds (outside (D.link doors.old) (D.door doors.old)) (gathering begun (K.contents out.old) (T.contents tape.old) self.old.waiting) c
             → Leaves result (C.runs_out first) (setting (C.sends first) self.old.rounds) (Goes AtDoor c) (outside (D.link doors.new) (D.door doors.new)) (written begun (K.contents out.new) (T.contents tape.new)) }
         ensures log { (first : C.First) (terms : Terms) (begun : D) (begun_out : K) → terms.taped ≡ T.made tape.old → IsAsking AtDoor D.call_gives (C.stands first self.old.core) (Told K.write_gives begun_out out.old) terms (C.sends first) self.old.rounds begun doors.old
             → Logged result D.call_gives (C.runs_out first) (Told K.write_gives begun_out out.new) terms (C.sends first) begun doors.new }

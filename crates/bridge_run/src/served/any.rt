@@ -2,7 +2,7 @@
 
 ghost use Rattle.std.specs.Prelude.{◌≡◌, ℕ, Bool, List, [], ◌∷◌, OnOk, OnErr, true};
 ghost use Rattle.bridge_run.specs.events.Events.{LinkEvent as PastEvent, event_of, is_quiet};
-ghost use Rattle.bridge_run.specs.inner.Sends.{Sends, SendsPart};
+ghost use Rattle.bridge_run.specs.inner.Sends.{SendsAll, SendsPart};
 
 use crate::events::event::LinkEvent;
 use crate::events::sent::Sent;
@@ -34,7 +34,7 @@ pub trait Served {
     fn take(&mut self, event: LinkEvent, sent: &mut Sent) -> Result<(), Memory>
         requires { sent.old.to_client ≡ [] }
         ensures stands { OnOk result ((first : First) (past : List PastEvent) → stands first self.old past → stands first self.new (event_of event.entry ∷ past)) }
-        ensures sends { OnOk result ((first : First) (past : List PastEvent) → stands first self.old past → Sends (sends first) past (event_of event.entry) sent.old sent.new) }
+        ensures sends { OnOk result ((first : First) (past : List PastEvent) → stands first self.old past → SendsAll (sends first) past (event_of event.entry) sent.old sent.new) }
         ensures stops { OnErr result ((first : First) (past : List PastEvent) → stands first self.old past → SendsPart (runs_out first) (sends first) past (event_of event.entry) sent.old sent.new) }
         ensures quiet { OnOk result (is_quiet (event_of event.entry) ≡ true → sent.new.refusals ≡ sent.old.refusals) }
         ensures stays { OnOk result (is_quiet (event_of event.entry) ≡ true → sent.new.lets_go ≡ sent.old.lets_go) }

@@ -27,14 +27,14 @@ raw_told place p = raw.Told place p.0 p.1
 -- ---- an event
 
 -- from these items to those this was sent and told
-pub record Sends (first : ℕ) (out_old out_new : Outputs) (h k : List Item) : Type 0 where
+pub record SendsItems (first : ℕ) (out_old out_new : Outputs) (h k : List Item) : Type 0 where
   pub client : Gains out_old.to_client out_new.to_client (out_client first (past first h)) (out_client first (past first k))
   pub host : Gains out_old.to_host out_new.to_host (out_host first (past first h)) (out_host first (past first k))
   pub told : Gains out_old.notes out_new.notes (all_of notes_of first (past first h)) (all_of notes_of first (past first k))
 
 pub record TakesOn (first : ℕ) (new : Inner) (events : List Event) (e : Event) (out_old out_new : Outputs) : Type 0 where
   pub stands : Stands first (kept_of new) (e ∷ events)
-  pub sends : Sends first out_old out_new (arrivals events) (arrivals (e ∷ events))
+  pub sends : SendsItems first out_old out_new (arrivals events) (arrivals (e ∷ events))
 
 -- whatever has come: the event was taken, or memory ran out
 abbrev pub TakesEvent : Result (Unit {0}) Memory → Inner → Inner → Event → Outputs → Outputs → Type 0

@@ -26,8 +26,8 @@ use Rattle.gate_history.specs.step.Came.{asked, told}
 use Rattle.gate_history.specs.Headline.{client_output, host_output, notes as told_notes, Gains}
 
 -- it met want of memory: from then on it does nothing
-abbrev pub HasFailed : GateKept → Type 0
-HasFailed g = g.failed ≡ true
+abbrev pub GateHasFailed : GateKept → Type 0
+GateHasFailed g = g.failed ≡ true
 
 -- ---- items
 
@@ -99,7 +99,7 @@ IsReady g = g.failed ≡ false → HasPast g
 
 -- ---- one event more
 
-pub record Takes (first : ℕ) (new : GateKept) (events : List Event) (e : Event) (client_old client_new host_old host_new : List ℕ) (notes : List Note) : Type 0 where
+pub record TakesEvent (first : ℕ) (new : GateKept) (events : List Event) (e : Event) (client_old client_new host_old host_new : List ℕ) (notes : List Note) : Type 0 where
   pub stands : Stands first new (e ∷ events)
   pub client : Gains client_old client_new (client_output first events) (client_output first (e ∷ events))
   pub host : Gains host_old host_new (host_output first events) (host_output first (e ∷ events))

@@ -34,12 +34,12 @@ greatest wide = if wide then 18446744073709551615 else 4294967295
 -- ---- the same by a relation
 
 -- `found` comes k turns after `from`, isn't in flight, and all before it are
-abbrev pub Reaches : ℕ → List ℕ → ℕ → ℕ → ℕ → Type 0
-Reaches m flying zero from found = (found ≡ from) × (holds flying found ≡ false)
-Reaches m flying (suc k) from found = (holds flying from ≡ true) × Reaches m flying k (after m from) found
+abbrev pub ReachesId : ℕ → List ℕ → ℕ → ℕ → ℕ → Type 0
+ReachesId m flying zero from found = (found ≡ from) × (holds flying found ≡ false)
+ReachesId m flying (suc k) from found = (holds flying from ≡ true) × ReachesId m flying k (after m from) found
 
 abbrev pub IsNext : ℕ → List ℕ → ℕ → ℕ → Type 0
-IsNext m flying last found = (k : ℕ) × Reaches m flying k (after m last) found
+IsNext m flying last found = (k : ℕ) × ReachesId m flying k (after m last) found
 
 -- an id that a packet can have
 pub record Fits (m id : ℕ) : Type 0 where

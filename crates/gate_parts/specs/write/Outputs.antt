@@ -8,7 +8,7 @@ abbrev pub lengths_of : Outputs → Lengths
 lengths_of o = record { to_client = length o.to_client; to_host = length o.to_host; notes = length o.notes }
 
 -- there is so much of each
-pub record Reaches (n : Lengths) (o : Outputs) : Type 0 where
+pub record ReachesLengths (n : Lengths) (o : Outputs) : Type 0 where
   pub client : n.to_client ≤ length o.to_client
   pub host : n.to_host ≤ length o.to_host
   pub notes : n.notes ≤ length o.notes

@@ -1,7 +1,7 @@
 //! What an event gives: the bytes for each side, and what is told.
 
 ghost use Rattle.std.specs.Prelude.{◌≡◌, []};
-ghost use Rattle.gate_parts.specs.write.Outputs.{lengths_of, first_of, Reaches};
+ghost use Rattle.gate_parts.specs.write.Outputs.{lengths_of, first_of, ReachesLengths};
 
 use gate_history::Notes;
 use std::alloc::Global;
@@ -48,7 +48,7 @@ impl Outputs {
 
     /// Keeps the first of each, up to these lengths: what came behind them is undone.
     pub fn back_to(&mut self, lengths: Lengths)
-        requires { Reaches lengths self.old }
+        requires { ReachesLengths lengths self.old }
         ensures { self.new ≡ first_of lengths self.old }
     {
         self.to_client.cut(lengths.to_client);

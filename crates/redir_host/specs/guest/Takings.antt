@@ -9,7 +9,7 @@ use Rattle.redir_host.specs.declared.state.host.Host.{Host}
 use Rattle.redir_host.specs.declared.write.note.HostNote.{HostNote}
 use Rattle.redir_host.specs.step.Items.{Item, Asked, Wrong}
 use Rattle.redir_host.specs.step.Machine.{move}
-use Rattle.redir_host.specs.step.Makes.{Takes}
+use Rattle.redir_host.specs.step.Makes.{TakesMove}
 use Rattle.redir_host.specs.step.Wants.{GivesSome}
 use Rattle.redir_host.specs.write.Readable.{TakesInRange}
 
@@ -23,5 +23,5 @@ IsInRange m h (Err reason) = Unit {0}
 
 -- it is taken, or memory was wanted for it and it has sent nothing
 abbrev pub TakesFound : {S : Type 0} → Meaning S → ℕ → Result (Header × RedirPacket) Reason → Result (Unit {0}) Memory → Host S → Host S → List ℕ → List ℕ → List HostNote → List HostNote → Type 0
-TakesFound m place found (Ok v) old new old_out new_out old_notes new_notes = Takes (move m old (item_of place found)) new old_out new_out old_notes new_notes × IsInRange m old found
+TakesFound m place found (Ok v) old new old_out new_out old_notes new_notes = TakesMove (move m old (item_of place found)) new old_out new_out old_notes new_notes × IsInRange m old found
 TakesFound m place found (Err memory) old new old_out new_out old_notes new_notes = (new_out ≡ old_out) × GivesSome old (move m old (item_of place found))

@@ -43,7 +43,7 @@ FormFits (form.Control setup) = (setup.value < 2 ^ 16) × (setup.index < 2 ^ 16)
 FormFits (form.Bulk stream) = stream < 2 ^ 32
 FormFits _ = Unit {0}
 
-pub record IsRequest (guest : RedirState) (q : Request) : Type 0 where
+pub record IsGuestRequest (guest : RedirState) (q : Request) : Type 0 where
   -- a request comes behind the hello
   pub greeted : guest.first ≡ false
   pub id_fits : IdFits (is_wide false guest.caps) q.id
@@ -58,5 +58,5 @@ pub record IsRunning (guest : RedirState) (s : Running) : Type 0 where
   pub in_endpoint : is_in_endpoint s.ep ≡ true
 
 pub record IsSound {S : Type 0} (h : Host S) : Type 0 where
-  pub requests : AllByRecursion (IsRequest h.guest) h.queue
+  pub requests : AllByRecursion (IsGuestRequest h.guest) h.queue
   pub streams : AllByRecursion (IsRunning h.guest) h.running

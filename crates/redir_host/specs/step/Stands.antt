@@ -23,8 +23,8 @@ use Rattle.redir_host.specs.write.Readable.{AreRead}
 use Rattle.redir_host.specs.state.Sound.{IsSound}
 
 -- memory ran out in an earlier call: from then on it does nothing
-abbrev pub HasFailed : {S : Type 0} → HostKept S → Type 0
-HasFailed k = k.failed ≡ true
+abbrev pub HostHasFailed : {S : Type 0} → HostKept S → Type 0
+HostHasFailed k = k.failed ≡ true
 
 -- what decides how the next packet is read, behind these packets
 abbrev pub told_state : RedirState → List (ℕ × (Header × RedirPacket)) → RedirState

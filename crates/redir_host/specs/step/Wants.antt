@@ -22,12 +22,12 @@ takes_memory _ = false
 abbrev pub GivesSome : {S : Type 0} → Host S → Move S → Type 0
 GivesSome h v = 0 < length v.sent + length v.notes + (length v.host.queue - length h.queue)
 
-abbrev pub Wants : {S : Type 0} → Meaning S → Host S → Item → Type 0
-Wants m h x = (takes_memory x ≡ true) ⊎ GivesSome h (move m h x)
+abbrev pub HostWants : {S : Type 0} → Meaning S → Host S → Item → Type 0
+HostWants m h x = (takes_memory x ≡ true) ⊎ GivesSome h (move m h x)
 
 -- so does the first of these
 abbrev pub FirstWants : {S : Type 0} → Meaning S → Host S → List Item → Type 0
-FirstWants m h xs = IsSomeAnd (slice_get xs 0) (Wants m h)
+FirstWants m h xs = IsSomeAnd (slice_get xs 0) (HostWants m h)
 
 -- behind these acts a piece has bytes, and the guest's stream has met no wrong place
 abbrev pub IsHeld : List Act → Act → Type 0

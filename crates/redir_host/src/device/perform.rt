@@ -17,7 +17,7 @@ ghost use Rattle.redir_host.specs.device.Resets.{PerformsNow, ResetsTo};
 ghost use Rattle.redir_host.specs.write.Readable.{InRange};
 ghost use Rattle.usb_base.specs.Firsts.{without_first};
 ghost use Rattle.redir_host.specs.state.Queues.{is_at};
-ghost use Rattle.redir_host.specs.state.Sound.{IsRequest, IsSound};
+ghost use Rattle.redir_host.specs.state.Sound.{IsGuestRequest, IsSound};
 
 use crate::device::change::change_of;
 use crate::device::facts::write_facts;
@@ -95,7 +95,7 @@ impl<G: Gadget> Host<G> {
         out: &mut Bytes,
     ) -> Result<(), Memory>
         requires sound { IsSound self.old }
-        requires request { IsRequest self.old.guest request.now }
+        requires request { IsGuestRequest self.old.guest request.now }
         requires marked { request.now.reset ≡ true }
         ensures ok { OnOk result (PerformsNow (performs_marked G.meaning self.old request.now request.now.form) self.new out.old out.new) }
         ensures err { OnErr result (Begins out.old out.new) }
@@ -131,7 +131,7 @@ impl<G: Gadget> Host<G> {
     /// Carries out a request of endpoint 0, for which the device is always ready.
     fn carry_out(&mut self, alloc: Global, request: &Request, out: &mut Bytes) -> Result<(), Memory>
         requires sound { IsSound self.old }
-        requires request { IsRequest self.old.guest request.now }
+        requires request { IsGuestRequest self.old.guest request.now }
         requires marked { request.now.reset ≡ true }
         ensures ok { OnOk result (PerformsNow (performs G.meaning self.old request.now) self.new out.old out.new) }
         ensures err { OnErr result (Begins out.old out.new) }
@@ -155,7 +155,7 @@ impl<G: Gadget> Host<G> {
         out: &mut Bytes,
     ) -> Result<(), Memory>
         requires sound { IsSound self.old }
-        requires request { IsRequest self.old.guest request.now }
+        requires request { IsGuestRequest self.old.guest request.now }
         requires outcome { IsOutcome request.now.transfer outcome }
         ensures ok { OnOk result (Tells (done_by G.meaning table.now self.old request.now change outcome) self.new out.old out.new) }
         ensures err { OnErr result (Begins out.old out.new) }
@@ -172,7 +172,7 @@ impl<G: Gadget> Host<G> {
 
     /// Answers a request.
     fn answer(&self, request: &Request, outcome: Outcome, out: &mut Bytes) -> Result<(), Memory>
-        requires request { IsRequest self.now.guest request.now }
+        requires request { IsGuestRequest self.now.guest request.now }
         requires outcome { IsOutcome request.now.transfer outcome }
         ensures ok { OnOk result (out.new ≡ out.old ++ sent_packet_bytes self.now.guest.caps (answer (G.meaning.configuration self.now.gadget) request.now outcome)) }
         ensures err { OnErr result (out.new ≡ out.old) }

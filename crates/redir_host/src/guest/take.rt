@@ -8,7 +8,7 @@ ghost use Rattle.packet_stream.specs.Writes.{Begins};
 ghost use Rattle.redir_wire.specs.Header.{IdFits, is_wide};
 ghost use Rattle.redir_host.specs.guest.Asking.{asking_of};
 ghost use Rattle.redir_host.specs.step.Machine.{bytes_of};
-ghost use Rattle.redir_host.specs.step.Makes.{IdFitsOf, IsTaken, Makes, Takes};
+ghost use Rattle.redir_host.specs.step.Makes.{IdFitsOf, IsTaken, Makes, TakesMove};
 ghost use Rattle.redir_host.specs.guest.Packets.{can_start, cancel_move, data_move, greets, packet_move, packet_move_by, queued, start_move, status_of, stop_move};
 ghost use Rattle.redir_host.specs.state.Queues.{is_cancelled_by};
 ghost use Rattle.redir_host.specs.write.Readable.{GreetsInRange, InRange, TakesInRange};
@@ -42,7 +42,7 @@ impl<G: Gadget> Host<G> {
     ) -> Result<(), Memory>
         requires sound { IsSound self.old }
         requires taken { IsTaken self.old.guest header packet }
-        ensures ok { OnOk result (Takes (packet_move G.meaning self.old header.id packet) self.new out.old out.new notes.old notes.new) }
+        ensures ok { OnOk result (TakesMove (packet_move G.meaning self.old header.id packet) self.new out.old out.new notes.old notes.new) }
         ensures wants { OnErr result (GivesSome self.old (packet_move G.meaning self.old header.id packet)) }
         ensures ranges { OnOk result (TakesInRange G.meaning self.old packet) }
         ensures err { OnErr result (out.new ≡ out.old) }
@@ -69,7 +69,7 @@ impl<G: Gadget> Host<G> {
         notes: &mut HostNotes,
     ) -> Result<(), Memory>
         requires { IdFitsOf self.old.guest.caps id packet }
-        ensures ok { OnOk result (Takes (packet_move_by G.meaning self.old id (Plain packet)) self.new out.old out.new notes.old notes.new) }
+        ensures ok { OnOk result (TakesMove (packet_move_by G.meaning self.old id (Plain packet)) self.new out.old out.new notes.old notes.new) }
         ensures wants { OnErr result (GivesSome self.old (packet_move_by G.meaning self.old id (Plain packet))) }
         ensures ranges { OnOk result (GreetsInRange G.meaning self.old packet) }
         ensures err { OnErr result (Begins out.old out.new) }
@@ -207,7 +207,7 @@ impl<G> Host<G> {
         notes: &mut HostNotes,
     ) -> Result<(), Memory>
         requires { IdFits (is_wide false self.old.guest.caps) id }
-        ensures ok { OnOk result (Takes (cancel_move self.old id (find (is_cancelled_by id) self.old.queue)) self.new out.old out.new notes.old notes.new) }
+        ensures ok { OnOk result (TakesMove (cancel_move self.old id (find (is_cancelled_by id) self.old.queue)) self.new out.old out.new notes.old notes.new) }
         ensures wants { OnErr result (GivesSome self.old (cancel_move self.old id (find (is_cancelled_by id) self.old.queue))) }
         ensures err { OnErr result (Begins out.old out.new) }
     {

@@ -5,7 +5,7 @@ ghost use Rattle.redir_host.specs.step.Acts.{Piece, Perform, Offer, Unplug};
 ghost use Rattle.redir_host.specs.device.Offering.{told_offered};
 ghost use Rattle.redir_host.specs.write.Output.{host_out};
 ghost use Rattle.redir_host.specs.device.Performing.{told_performed};
-ghost use Rattle.redir_host.specs.step.Stands.{Does, HasFailed, HostStands, StopsIn, TakesPiece, TellsOf};
+ghost use Rattle.redir_host.specs.step.Stands.{Does, HostHasFailed, HostStands, StopsIn, TakesPiece, TellsOf};
 
 use crate::step::inner::Inner;
 use crate::write::hello::write_hello;
@@ -53,8 +53,8 @@ impl<G: Gadget> HostCore<G> {
     pub fn take(&mut self, bytes: &[u8], out: &mut Bytes) -> Result<HostNotes, Memory>
         ensures takes { IfOk result (TakesPiece G.meaning bytes.now self.old self.new out.old out.new []) }
         ensures stops { OnErr result (StopsIn G.meaning (Piece bytes.now) self.old out.old out.new) }
-        ensures fails { OnErr result (HasFailed self.new) }
-        ensures failed { HasFailed self.old → IsErr result × (self.new ≡ self.old) × (out.new ≡ out.old) }
+        ensures fails { OnErr result (HostHasFailed self.new) }
+        ensures failed { HostHasFailed self.old → IsErr result × (self.new ≡ self.old) × (out.new ≡ out.old) }
     {
         self.inner.works()?;
         let mut notes = HostNotes::new(self.inner.alloc);
@@ -70,8 +70,8 @@ impl<G: Gadget> HostCore<G> {
         ensures does { OnOk result (Does G.meaning (Perform ep) self.old self.new out.old out.new) }
         ensures stops { OnErr result (StopsIn G.meaning (Perform ep) self.old out.old out.new) }
         ensures err { OnErr result (out.new ≡ out.old) }
-        ensures fails { OnErr result (HasFailed self.new) }
-        ensures failed { HasFailed self.old → IsErr result × (self.new ≡ self.old) }
+        ensures fails { OnErr result (HostHasFailed self.new) }
+        ensures failed { HostHasFailed self.old → IsErr result × (self.new ≡ self.old) }
     {
         self.inner.works()?;
         let before = out.len();
@@ -87,8 +87,8 @@ impl<G: Gadget> HostCore<G> {
         ensures does { OnOk result (Does G.meaning (Offer ep) self.old self.new out.old out.new) }
         ensures stops { OnErr result (StopsIn G.meaning (Offer ep) self.old out.old out.new) }
         ensures err { OnErr result (out.new ≡ out.old) }
-        ensures fails { OnErr result (HasFailed self.new) }
-        ensures failed { HasFailed self.old → IsErr result × (self.new ≡ self.old) }
+        ensures fails { OnErr result (HostHasFailed self.new) }
+        ensures failed { HostHasFailed self.old → IsErr result × (self.new ≡ self.old) }
     {
         self.inner.works()?;
         let told = self.inner.host.offer(self.inner.alloc, ep, out);
@@ -102,8 +102,8 @@ impl<G: Gadget> HostCore<G> {
         ensures does { OnOk result (Does G.meaning Unplug self.old self.new out.old out.new) }
         ensures stops { OnErr result (StopsIn G.meaning Unplug self.old out.old out.new) }
         ensures err { OnErr result (out.new ≡ out.old) }
-        ensures fails { OnErr result (HasFailed self.new) }
-        ensures failed { HasFailed self.old → IsErr result × (self.new ≡ self.old) }
+        ensures fails { OnErr result (HostHasFailed self.new) }
+        ensures failed { HostHasFailed self.old → IsErr result × (self.new ≡ self.old) }
     {
         self.inner.works()?;
         let told = self.inner.host.unplug(out);

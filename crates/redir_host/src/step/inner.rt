@@ -2,7 +2,7 @@
 
 ghost use Rattle.std.specs.Prelude.{◌≡◌, [], false, OnOk, OnErr};
 ghost use Rattle.redir_host.specs.step.Acts.{Piece};
-ghost use Rattle.redir_host.specs.step.Stands.{HasFailed, HasPast, HostStands, StopsIn, TakesPiece};
+ghost use Rattle.redir_host.specs.step.Stands.{HostHasFailed, HasPast, HostStands, StopsIn, TakesPiece};
 ghost use Rattle.redir_host.specs.inner.Views.{kept_of};
 
 use crate::state::host::Host;
@@ -28,7 +28,7 @@ impl<G> Inner<G> {
     /// Whether it works: once memory has run out in a call, it doesn't any more.
     pub fn works(&self) -> Result<(), Memory>
         ensures ok { OnOk result ((kept_of self.now).failed ≡ false) }
-        ensures err { OnErr result (HasFailed (kept_of self.now)) }
+        ensures err { OnErr result (HostHasFailed (kept_of self.now)) }
     {
         match self.want {
             Some(memory) => Err(memory),
@@ -40,7 +40,7 @@ impl<G> Inner<G> {
     pub fn fail_on_err<T>(&mut self, given: Result<T, Memory>) -> Result<T, Memory>
         ensures same { result ≡ given }
         ensures ok { OnOk given (self.new ≡ self.old) }
-        ensures err { OnErr given (HasFailed (kept_of self.new)) }
+        ensures err { OnErr given (HostHasFailed (kept_of self.new)) }
     {
         if let Err(memory) = &given {
             self.want = Some(*memory);

@@ -20,7 +20,7 @@ use Rattle.gate_history.specs.write.All.{all_of}
 use Rattle.gate_history.specs.write.Output.{present}
 use Rattle.gate_history.specs.write.Bytes.{out_client, out_host}
 use Rattle.gate_history.specs.Headline.{Gains}
-use Rattle.gate_core.specs.step.Stands.{Takes}
+use Rattle.gate_core.specs.step.Stands.{TakesEvent}
 use Rattle.usbgate_tapes.specs.declared.replay.Replay.{Replay}
 use Rattle.usbgate_tapes.specs.Text.{sent_text}
 use Rattle.usbgate_tapes.specs.tape.Tape.{added}
@@ -87,7 +87,7 @@ gains-is : (old new before after : List ℕ) → old ≡ [] → Gains old new be
 gains-is old new before after none g = more-is old new before after _ none g.new-is g.after-is
 
 pub sees : (first : ℕ) (old new : Replay) (events : List Event) (e : Event) (client host text_old text_new : List ℕ) (notes : List Note) → HasReplayed first old events
-    → Takes first new.gate events e old.to_client client old.to_host host notes → text_new ≡ text_old ++ sent_text client host notes → new.to_client ≡ [] → new.to_host ≡ []
+    → TakesEvent first new.gate events e old.to_client client old.to_host host notes → text_new ≡ text_old ++ sent_text client host notes → new.to_client ≡ [] → new.to_host ≡ []
     → new.refused ≡ (old.refused || list_any is_refusal notes) → PutsEvent first new events e text_old text_new
 sees first old new events e client host text_old text_new notes h t text no_client no_host refused =
     let clients : List Event → List ℕ = λ es. out_client first (history first es) in

@@ -18,7 +18,7 @@ use Rattle.usbgate_tapes.specs.Causes.{HasCauses, OpensNoLink}
 use Rattle.usbgate_tapes.specs.Run.{ReadInPart, WrittenInPart, WrittenWhole, LeavesTold, ComesToEnd}
 use Rattle.usbgate_tapes.specs.Logs.{LeavesByLog}
 use Rattle.usbgate_tapes.specs.Wants.{ReadWants, RunsOut}
-use Rattle.usbgate_tapes.specs.inner.tape.TapeReader.{SomeKeeps, Stage, Closes, Runs, end_text}
+use Rattle.usbgate_tapes.specs.inner.tape.TapeReader.{SomeKeeps, Stage, Closes, ReaderRuns, end_text}
 use Rattle.usbgate_tapes.proofs.lemmas.tape.Stages.{text_begins}
 use Rattle.gate_outside.proofs.Moving.{moves-none, moves-append}
 use Rattle.usbgate_tapes.proofs.lemmas.Moving.{at_end}
@@ -199,7 +199,7 @@ module _ {C T S K : Type 0} {command : TapeCommand T} {Keeps : C → T → Type 
   -- ---- ends in the middle
 
   -- memory runs out before anything was read
-  pub runs-none : (tape : S) (out : K) → Runs command Keeps read_gives write_gives remaining contents OutOfMemory tape tape out out
+  pub runs-none : (tape : S) (out : K) → ReaderRuns command Keeps read_gives write_gives remaining contents OutOfMemory tape tape out out
   runs-none tape out = record { leaves = leaves-none read_gives write_gives remaining contents (tape_printout command) tape out; kept = record { by_log = tt; where_told = tt } }
 
   -- a front of the text is written
@@ -212,7 +212,7 @@ module _ {C T S K : Type 0} {command : TapeCommand T} {Keeps : C → T → Type 
       }
 
   -- the write of the text fails
-  pub runs-write : {tape_old tape : S} {out_old out new : K} {p : TapeReader C} {bytes : List ℕ} → Goes command Keeps read_gives write_gives remaining contents tape_old tape out_old out p → bytes ≡ p.text → AppendsFront (contents out) (contents new) bytes → MovesFront write_gives bytes out new → Runs command Keeps read_gives write_gives remaining contents WriteFault tape_old tape out_old new
+  pub runs-write : {tape_old tape : S} {out_old out new : K} {p : TapeReader C} {bytes : List ℕ} → Goes command Keeps read_gives write_gives remaining contents tape_old tape out_old out p → bytes ≡ p.text → AppendsFront (contents out) (contents new) bytes → MovesFront write_gives bytes out new → ReaderRuns command Keeps read_gives write_gives remaining contents WriteFault tape_old tape out_old new
   runs-write {tape_old = tape_old} {tape = tape} {out_old = out_old} {out = out} {new = new} g bytes-is f m = record {
     leaves = record {
       by_log = record {
@@ -265,7 +265,7 @@ module _ {C T S K : Type 0} {command : TapeCommand T} {Keeps : C → T → Type 
 
   -- the read fails
   pub runs-read : {tape_old tape new : S} {out_old out : K} {p : TapeReader C} (buf : List ℕ) (failed : Failed) → Goes command Keeps read_gives write_gives remaining contents tape_old tape out_old out p → p.text ≡ [] → KeepsBytes (remaining tape) (remaining new) → read_gives tape buf (Err failed) new
-      → Runs command Keeps read_gives write_gives remaining contents ReadFault tape_old new out_old out
+      → ReaderRuns command Keeps read_gives write_gives remaining contents ReadFault tape_old new out_old out
   runs-read {tape_old = tape_old} {tape = tape} {new = new} {out_old = out_old} {out = out} buf failed g none kept gives = record {
     leaves = record {
       by_log = one-read buf (Err failed) g gives (λ later follows. part-alone g none later) (λ e. read-memory e);
@@ -285,7 +285,7 @@ module _ {C T S K : Type 0} {command : TapeCommand T} {Keeps : C → T → Type 
       }
 
   pub runs-memory : {tape_old tape new : S} {out_old out : K} {p : TapeReader C} (n : ℕ) (buf : List ℕ) (g : Goes command Keeps read_gives write_gives remaining contents tape_old tape out_old out p) → p.text ≡ [] → Consumes (remaining tape) (remaining new) (take n buf) → read_gives tape buf (Ok n) new
-      → ReadWants (tape_printout command) (moved g.reads) (take n buf) → Runs command Keeps read_gives write_gives remaining contents OutOfMemory tape_old new out_old out
+      → ReadWants (tape_printout command) (moved g.reads) (take n buf) → ReaderRuns command Keeps read_gives write_gives remaining contents OutOfMemory tape_old new out_old out
   runs-memory {tape_old = tape_old} {tape = tape} {new = new} {out_old = out_old} {out = out} n buf g none read gives wants = record {
     leaves = record {
       by_log = one-read buf (Ok n) g gives (λ later follows. memory-part g (take n buf) later)
@@ -301,7 +301,7 @@ module _ {C T S K : Type 0} {command : TapeCommand T} {Keeps : C → T → Type 
   -- all text is written, and the run ends; what the command then keeps
   pub runs-end : {tape_old tape new : S} {out_old out last : K} {p q : TapeReader C} {status : Status} {bytes : List ℕ} (n : ℕ) (buf : List ℕ) (g : Goes command Keeps read_gives write_gives remaining contents tape_old tape out_old out p) → n ≤ length buf → Consumes (remaining tape) (remaining new) (take n buf)
       → (take n buf ≡ [] → IsAtEnd (remaining new)) → read_gives tape buf (Ok n) new → Closes command Keeps status q (take n buf) (moved g.reads) g.written → bytes ≡ q.text ++ end_text status → Appends (contents out) (contents last) bytes → Moves write_gives bytes out last
-      → Runs command Keeps read_gives write_gives remaining contents status tape_old new out_old last
+      → ReaderRuns command Keeps read_gives write_gives remaining contents status tape_old new out_old last
   runs-end {tape_old = tape_old} {tape = tape} {new = new} {out_old = out_old} {out = out} {last = last} {status = status} {bytes = bytes} n buf g bound read end gives c bytes-is a m =
       let piece = take n buf in
       let consumed = Consumes-trans (remaining tape_old) (remaining tape) (remaining new) (moved g.reads) piece g.consumed read in
@@ -330,7 +330,7 @@ module _ {C T S K : Type 0} {command : TapeCommand T} {Keeps : C → T → Type 
   -- the last write fails
   pub runs-last : {tape_old tape new : S} {out_old out last : K} {p q : TapeReader C} {status : Status} {bytes : List ℕ} (n : ℕ) (buf : List ℕ) (g : Goes command Keeps read_gives write_gives remaining contents tape_old tape out_old out p) → n ≤ length buf → Consumes (remaining tape) (remaining new) (take n buf)
       → (take n buf ≡ [] → IsAtEnd (remaining new)) → read_gives tape buf (Ok n) new → Closes command Keeps status q (take n buf) (moved g.reads) g.written → bytes ≡ q.text ++ end_text status → AppendsFront (contents out) (contents last) bytes
-      → MovesFront write_gives bytes out last → Runs command Keeps read_gives write_gives remaining contents WriteFault tape_old new out_old last
+      → MovesFront write_gives bytes out last → ReaderRuns command Keeps read_gives write_gives remaining contents WriteFault tape_old new out_old last
   runs-last {tape_old = tape_old} {tape = tape} {new = new} {out_old = out_old} {out = out} {last = last} n buf g bound read end gives c bytes-is f m =
       let piece = take n buf in
       record {

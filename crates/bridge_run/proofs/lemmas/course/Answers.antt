@@ -8,7 +8,7 @@ use Rattle.gate_outside.specs.declared.turn.Polled.{Polled}
 use Rattle.gate_outside.specs.declared.turn.Polled.TheVariants.{Took, NotYet, Ended, Failed}
 use Rattle.gate_outside.specs.Link.{Link, Door, other}
 use Rattle.gate_outside.specs.Turns.{pending, answer, given, after, taken}
-use Rattle.gate_outside.specs.Doors.{faulted, first, Accepts, Gives, PollFails, FailTaken}
+use Rattle.gate_outside.specs.Doors.{faulted, first, Accepts, GivesTurns, PollFails, FailTaken}
 use Rattle.bridge_run.specs.events.Events.{LinkEvent, ClientComes}
 use Rattle.bridge_run.specs.declared.course.rounds.Rounds.{Rounds}
 use Rattle.bridge_run.specs.events.Prescribed.{Prescribed}
@@ -18,7 +18,7 @@ use Rattle.bridge_run.specs.course.Calls.{Goes, come, down, heard, poll, call, c
 use Rattle.bridge_run.specs.course.Calls.{turned as passed}
 use Rattle.bridge_run.specs.course.Outside.{Outside, outside, NoFault, Shows, Tells, IsTold, IsBetween, IsOneOf, HasLines, IsTaped, Cut, Written, Faults}
 use Rattle.bridge_run.specs.inner.Keeping.{up_of, with_up}
-use Rattle.bridge_run.specs.inner.Follows.{Follows, setting, polls, behind}
+use Rattle.bridge_run.specs.inner.Follows.{IsServing, setting, polls, behind}
 use Rattle.bridge_run.proofs.lemmas.written.Put.{between-none, all-recorded, if-told, retold}
 
 -- ---- the door
@@ -47,9 +47,9 @@ come-is clients turns later c e = ap (λ (cs : List (List Turn)). come cs c) e
 pub record HasCome (stands : List LinkEvent → Type 0) (p : Prescribed) (k : Rounds) (w : Outside) (out : Written) (c : Course) : Type 0 where
   pub course : Course
   pub is : come c.clients c ≡ Goes (Takes ClientComes AtClient) course
-  pub follows : Follows stands p k w out course
+  pub follows : IsServing stands p k w out course
 
-pub accepted : (stands : List LinkEvent → Type 0) (p : Prescribed) (k k' : Rounds) (w w' : Outside) (out : Written) (c : Course) → Follows stands p k w out c
+pub accepted : (stands : List LinkEvent → Type 0) (p : Prescribed) (k k' : Rounds) (w w' : Outside) (out : Written) (c : Course) → IsServing stands p k w out c
     → Accepts {E = Fault} (Ok true) w.door w'.door w.client w'.client → w'.host ≡ w.host → k' ≡ record k { client_up = true; busy = true; left = k.left - 1 }
     → HasCome stands p k' w' out c
 accepted stands p k k' w w' out c f a host kept =
@@ -57,7 +57,7 @@ accepted stands p k k' w w' out c f a host kept =
     record {
       course = come_course t.0 t.1 c;
       is = come-is c.clients t.0 t.1 c t.2;
-      follows = subst (λ (q : Rounds). Follows stands p q w' out (come_course t.0 t.1 c)) (sym kept) (record {
+      follows = subst (λ (q : Rounds). IsServing stands p q w' out (come_course t.0 t.1 c)) (sym kept) (record {
         stands_for = f.stands_for;
         tells = record {
           client = record {
@@ -90,8 +90,8 @@ none-come (Some cs) clients e none = sym (some-is cs clients e) ∙ none
 same-shows : (old new : Link) (up : Bool) (turns : List Turn) (written : List ℕ) → new.up ≡ old.up → new.turns ≡ old.turns → new.written ≡ old.written → Shows old up turns written → Shows new up turns written
 same-shows old new up turns written a b d s = record { up-is = a ∙ s.up-is; turns-is = b ∙ s.turns-is; written-is = d ∙ s.written-is }
 
-pub waited : (stands : List LinkEvent → Type 0) (p : Prescribed) (k : Rounds) (w w' : Outside) (out : Written) (c : Course) → Follows stands p k w out c
-    → Accepts {E = Fault} (Ok false) w.door w'.door w.client w'.client → w'.host ≡ w.host → (come c.clients c ≡ Goes AtClient c) × Follows stands p k w' out c
+pub waited : (stands : List LinkEvent → Type 0) (p : Prescribed) (k : Rounds) (w w' : Outside) (out : Written) (c : Course) → IsServing stands p k w out c
+    → Accepts {E = Fault} (Ok false) w.door w'.door w.client w'.client → w'.host ≡ w.host → (come c.clients c ≡ Goes AtClient c) × IsServing stands p k w' out c
 waited stands p k w w' out c f a host = (
   ap (λ (cs : List (List Turn)). come cs c) (none-come w.door.to_come c.clients f.tells.clients a.0),
   retold stands p k w w' out out c c.client c.host c.recorded c.waiting f (record {
@@ -161,18 +161,18 @@ call-pass s Client c up = ap (λ (b : Bool). cond b (poll Client c.client AtHost
 call-pass s Host c up = ap (λ (b : Bool). cond b (poll Host c.host AtEnd c) (Goes AtEnd c)) up
 
 -- a poll that gave what the turns have
-poll-is : (side : Side) (turns : List Turn) (next : Next) (c : Course) (polled : Polled) (buf : List ℕ) → length buf ≡ POLL_LIMIT → Gives polled buf turns
+poll-is : (side : Side) (turns : List Turn) (next : Next) (c : Course) (polled : Polled) (buf : List ℕ) → length buf ≡ POLL_LIMIT → GivesTurns polled buf turns
     → poll side turns next c ≡ heard side next polled (take (taken polled) buf) (passed side c)
 poll-is side turns next c polled buf len gives =
     ap (λ (a : Polled). heard side next a (given POLL_LIMIT (pending turns)) (passed side c)) (ap (λ (n : ℕ). answer n (pending turns)) (sym len) ∙ sym gives.answers)
     ∙ ap (λ (bytes : List ℕ). heard side next polled bytes (passed side c)) (ap (λ (n : ℕ). given n (pending turns)) (sym len) ∙ sym gives.bytes)
 
-gives-at : (polled : Polled) (buf : List ℕ) (known : Option (List Turn)) (turns : List Turn) → known ≡ Some turns → IfSome known (Gives polled buf) → Gives polled buf turns
+gives-at : (polled : Polled) (buf : List ℕ) (known : Option (List Turn)) (turns : List Turn) → known ≡ Some turns → IfSome known (GivesTurns polled buf) → GivesTurns polled buf turns
 gives-at polled buf None turns e g = absurd (none-some e)
   where
     none-some : None ≡ Some turns → ⊥
     none-some e = cc
-gives-at polled buf (Some ts) turns e g = subst (λ (t : List Turn). Gives polled buf t) (some-is ts turns e) g
+gives-at polled buf (Some ts) turns e g = subst (λ (t : List Turn). GivesTurns polled buf t) (some-is ts turns e) g
 
 shows-of : (side : Side) (links : Side → Link) (door : Door) (out : Written) (c : Course) → Tells (outside links door) out c → (links side).turns ≡ Some (turns_of side c)
 shows-of Client links door out c t = t.client.turns-is
@@ -180,7 +180,7 @@ shows-of Host links door out c t = t.host.turns-is
 
 -- what the poll of an up side comes to
 pub poll-call : (s : Setting) (side : Side) (links : Side → Link) (door : Door) (out : Written) (c : Course) (polled : Polled) (buf : List ℕ) → Tells (outside links door) out c → is_up side c ≡ true → length buf ≡ POLL_LIMIT
-    → IfSome (links side).turns (Gives polled buf) → call s (polls side) c ≡ heard side (behind side) polled (take (taken polled) buf) (passed side c)
+    → IfSome (links side).turns (GivesTurns polled buf) → call s (polls side) c ≡ heard side (behind side) polled (take (taken polled) buf) (passed side c)
 poll-call s side links door out c polled buf t up len gives =
     call-poll s side c up ∙ poll-is side (turns_of side c) (behind side) c polled buf len (gives-at polled buf (links side).turns (turns_of side c) (shows-of side links door out c t) gives)
 
@@ -229,9 +229,9 @@ passed-tells Host up links links' door door' out c len t is moved u turns writte
 }
 
 -- the poll gave nothing that is an event
-pub passed-follows : (side : Side) (stands : List LinkEvent → Type 0) (p : Prescribed) (k : Rounds) (links links' : Side → Link) (door door' : Door) (out : Written) (c : Course) (len : ℕ) → Follows stands p k (outside links door) out c → len ≡ POLL_LIMIT
+pub passed-follows : (side : Side) (stands : List LinkEvent → Type 0) (p : Prescribed) (k : Rounds) (links links' : Side → Link) (door door' : Door) (out : Written) (c : Course) (len : ℕ) → IsServing stands p k (outside links door) out c → len ≡ POLL_LIMIT
     → OneMoved side links links' door door' → (links' side).up ≡ (links side).up → (links' side).turns ≡ option_map (λ ts. after len (pending ts)) (links side).turns → (links' side).written ≡ (links side).written
-    → Follows stands p k (outside links' door') out (passed side c)
+    → IsServing stands p k (outside links' door') out (passed side c)
 passed-follows Client stands p k links links' door door' out c len f is moved u turns written =
     retold stands p k (outside links door) (outside links' door') out out c (after POLL_LIMIT (pending c.client)) c.host c.recorded c.waiting f
     (passed-tells Client c.client_up links links' door door' out c len f.tells is moved (u ∙ f.tells.client.up-is) turns written)
@@ -240,10 +240,10 @@ passed-follows Host stands p k links links' door door' out c len f is moved u tu
     (passed-tells Host c.host_up links links' door door' out c len f.tells is moved (u ∙ f.tells.host.up-is) turns written)
 
 -- bytes have come
-pub took-follows : (stands : List LinkEvent → Type 0) (p : Prescribed) (k k' : Rounds) (w : Outside) (out : Written) (c : Course) (n : ℕ) → Follows stands p k w out c → k' ≡ record k { busy = true; left = k.left - n }
-    → Follows stands p k' w out (record c { busy = true; left = c.left - n })
+pub took-follows : (stands : List LinkEvent → Type 0) (p : Prescribed) (k k' : Rounds) (w : Outside) (out : Written) (c : Course) (n : ℕ) → IsServing stands p k w out c → k' ≡ record k { busy = true; left = k.left - n }
+    → IsServing stands p k' w out (record c { busy = true; left = c.left - n })
 took-follows stands p k k' w out c n f kept =
-    subst (λ (q : Rounds). Follows stands p q w out (record c { busy = true; left = c.left - n })) (sym kept) (record {
+    subst (λ (q : Rounds). IsServing stands p q w out (record c { busy = true; left = c.left - n })) (sym kept) (record {
       stands_for = f.stands_for;
       tells = record { client = f.tells.client; host = f.tells.host; clients = f.tells.clients; told = f.tells.told; tape = f.tells.tape };
       client_up = f.client_up;
@@ -255,9 +255,9 @@ took-follows stands p k k' w out c n f kept =
     })
 
 -- the link has ended
-ended-as : (side : Side) (stands : List LinkEvent → Type 0) (p : Prescribed) (k : Rounds) (links links' : Side → Link) (door door' : Door) (out : Written) (c : Course) (len : ℕ) → Follows stands p k (outside links door) out c → len ≡ POLL_LIMIT
+ended-as : (side : Side) (stands : List LinkEvent → Type 0) (p : Prescribed) (k : Rounds) (links links' : Side → Link) (door door' : Door) (out : Written) (c : Course) (len : ℕ) → IsServing stands p k (outside links door) out c → len ≡ POLL_LIMIT
     → OneMoved side links links' door door' → (links' side).up ≡ false → (links' side).turns ≡ option_map (λ ts. after len (pending ts)) (links side).turns → (links' side).written ≡ (links side).written
-    → Follows stands p (record (with_up side k) { busy = true }) (outside links' door') out (record (down side (passed side c)) { busy = true })
+    → IsServing stands p (record (with_up side k) { busy = true }) (outside links' door') out (record (down side (passed side c)) { busy = true })
 ended-as Client stands p k links links' door door' out c len f is moved u turns written =
     let t = passed-tells Client false links links' door door' out c len f.tells is moved u turns written in
     record { stands_for = f.stands_for; tells = record { client = t.client; host = t.host; clients = t.clients; told = t.told; tape = t.tape }; client_up = refl; host_up = f.host_up; busy = refl; waits = f.waits; left = f.left; refused = f.refused }
@@ -265,11 +265,11 @@ ended-as Host stands p k links links' door door' out c len f is moved u turns wr
     let t = passed-tells Host false links links' door door' out c len f.tells is moved u turns written in
     record { stands_for = f.stands_for; tells = record { client = t.client; host = t.host; clients = t.clients; told = t.told; tape = t.tape }; client_up = f.client_up; host_up = refl; busy = refl; waits = f.waits; left = f.left; refused = f.refused }
 
-pub ended-follows : (side : Side) (stands : List LinkEvent → Type 0) (p : Prescribed) (k k' : Rounds) (links links' : Side → Link) (door door' : Door) (out : Written) (c : Course) (len : ℕ) → Follows stands p k (outside links door) out c → len ≡ POLL_LIMIT
+pub ended-follows : (side : Side) (stands : List LinkEvent → Type 0) (p : Prescribed) (k k' : Rounds) (links links' : Side → Link) (door door' : Door) (out : Written) (c : Course) (len : ℕ) → IsServing stands p k (outside links door) out c → len ≡ POLL_LIMIT
     → OneMoved side links links' door door' → (links' side).up ≡ false → (links' side).turns ≡ option_map (λ ts. after len (pending ts)) (links side).turns → (links' side).written ≡ (links side).written
-    → k' ≡ record (with_up side k) { busy = true } → Follows stands p k' (outside links' door') out (record (down side (passed side c)) { busy = true })
+    → k' ≡ record (with_up side k) { busy = true } → IsServing stands p k' (outside links' door') out (record (down side (passed side c)) { busy = true })
 ended-follows side stands p k k' links links' door door' out c len f is moved u turns written kept =
-    subst (λ (q : Rounds). Follows stands p q (outside links' door') out (record (down side (passed side c)) { busy = true })) (sym kept) (ended-as side stands p k links links' door door' out c len f is moved u turns written)
+    subst (λ (q : Rounds). IsServing stands p q (outside links' door') out (record (down side (passed side c)) { busy = true })) (sym kept) (ended-as side stands p k links links' door door' out c len f is moved u turns written)
 
 -- ---- a poll that failed
 
@@ -319,7 +319,7 @@ failed-cut {ran_out = ran_out} Host s links links' door door' out c t up moved f
       tape = same-recorded ran_out _ _ out c _ out.tape t.tape m.writes.recorded;
     })
 
-pub up-is : (side : Side) (stands : List LinkEvent → Type 0) (p : Prescribed) (k : Rounds) (w : Outside) (out : Written) (c : Course) (b : Bool) → Follows stands p k w out c → up_of side k ≡ b → is_up side c ≡ b
+pub up-is : (side : Side) (stands : List LinkEvent → Type 0) (p : Prescribed) (k : Rounds) (w : Outside) (out : Written) (c : Course) (b : Bool) → IsServing stands p k w out c → up_of side k ≡ b → is_up side c ≡ b
 up-is Client stands p k w out c b f e = sym f.client_up ∙ e
 up-is Host stands p k w out c b f e = sym f.host_up ∙ e
 

@@ -4,7 +4,7 @@ use Rattle.usb_base.specs.declared.side.Side.{Side}
 use Rattle.gate_outside.specs.declared.turn.Polled.{Polled}
 use Rattle.gate_outside.specs.Link.{Link, Door}
 use Rattle.gate_outside.specs.Turns.{taken}
-use Rattle.gate_outside.specs.Doors.{Gives}
+use Rattle.gate_outside.specs.Doors.{GivesTurns}
 use Rattle.bridge_run.specs.events.Events.{LinkEvent}
 use Rattle.bridge_run.specs.declared.course.rounds.Rounds.{Rounds}
 use Rattle.bridge_run.specs.declared.course.serve_end.ServeEnd.{ServeEnd}
@@ -15,21 +15,21 @@ use Rattle.bridge_run.specs.course.Calls.{Goes, heard}
 use Rattle.bridge_run.specs.course.Calls.{turned as passed}
 use Rattle.bridge_run.specs.course.Outside.{Outside, outside, Written, Faults}
 use Rattle.bridge_run.specs.inner.Keeping.{up_of}
-use Rattle.bridge_run.specs.inner.Follows.{Follows, Runs, HasFaults, setting, polls, behind}
+use Rattle.bridge_run.specs.inner.Follows.{IsServing, RunsOn, HasFaults, setting, polls, behind}
 use Rattle.bridge_run.proofs.lemmas.course.Course.{reaches-none, reaches-call, runs-then}
 use Rattle.bridge_run.proofs.lemmas.course.Answers.{OneMoved, poll-call, up-is, moved-no_fault}
 use Rattle.bridge_run.proofs.lemmas.course.Rest.{faults-then}
 
 -- a side whose link is up is polled, and serving goes on from what that gave
 pub polled-runs : {T : Type 0} → (result : Result T ServeEnd) (stands stands' : List LinkEvent → Type 0) (runs_out : List LinkEvent → LinkEvent → List ℕ → List ℕ → Type 0) (p : Prescribed) (side : Side) (k k1 k' : Rounds) (links : Side → Link) (door : Door) (w' : Outside) (out out' : Written) (c d : Course) (polled : Polled) (buf : List ℕ) (next : Next)
-    → Follows stands p k (outside links door) out c → up_of side k ≡ true → length buf ≡ POLL_LIMIT → IfSome (links side).turns (Gives polled buf) → heard side (behind side) polled (take (taken polled) buf) (passed side c) ≡ Goes next d → k1.idle ≡ k.idle
-    → Runs result stands' runs_out (setting p k1) k' w' out' (Goes next d) (behind side) → Runs result stands' runs_out (setting p k) k' w' out' (Goes (polls side) c) (behind side)
+    → IsServing stands p k (outside links door) out c → up_of side k ≡ true → length buf ≡ POLL_LIMIT → IfSome (links side).turns (GivesTurns polled buf) → heard side (behind side) polled (take (taken polled) buf) (passed side c) ≡ Goes next d → k1.idle ≡ k.idle
+    → RunsOn result stands' runs_out (setting p k1) k' w' out' (Goes next d) (behind side) → RunsOn result stands' runs_out (setting p k) k' w' out' (Goes (polls side) c) (behind side)
 polled-runs result stands stands' runs_out p side k k1 k' links door w' out out' c d polled buf next f up len gives is idle run =
     let s = setting p k in
     let from = Goes (polls side) c in
     runs-then result stands' runs_out s k' w' out' from next d (behind side)
     (reaches-call s from (polls side) c (Goes next d) (reaches-none s from) (poll-call s side links door out c polled buf f.tells (up-is side stands p k (outside links door) out c true f up) len gives ∙ is))
-    (subst (λ (n : ℕ). Runs result stands' runs_out (record { served = p; idle = n }) k' w' out' (Goes next d) (behind side)) idle run)
+    (subst (λ (n : ℕ). RunsOn result stands' runs_out (record { served = p; idle = n }) k' w' out' (Goes next d) (behind side)) idle run)
 
 -- the poll was no fault
 pub polled-faults : {T : Type 0} → (result : Result T ServeEnd) (side : Side) (links links' : Side → Link) (door door' : Door) (w : Outside) (sink sink' : Faults) → OneMoved side links links' door door' → (links' side).faults ≡ (links side).faults

@@ -9,7 +9,7 @@ use Rattle.bridge_run.specs.course.Course.{Setting, Course, Next}
 use Rattle.bridge_run.specs.course.Calls.{Outcome, Goes, Stops, call, calls, and_then, course_of}
 use Rattle.bridge_run.specs.course.Outside.{Outside, Cut, Written, Faults, HasCause}
 use Rattle.bridge_run.specs.course.Serves.{Reaches, EndsSo, MayRunOut, CutShort, Leaves}
-use Rattle.bridge_run.specs.inner.Follows.{IsCutEnd, HasFaults, Runs}
+use Rattle.bridge_run.specs.inner.Follows.{IsCutEnd, HasFaults, RunsOn}
 
 calls-more : (s : Setting) (m n : ℕ) (o : Outcome) → calls s (m + n) o ≡ calls s n (calls s m o)
 calls-more s m zero o = ap (λ (k : ℕ). calls s k o) (add-zero m)
@@ -41,7 +41,7 @@ leaves-then WriteFault runs_out s from next c w out r x = cut-then s from next c
 leaves-then Memory runs_out s from next c w out r x = cut-then s from next c w out r x
 
 pub runs-then : {T : Type 0} → (result : Result T ServeEnd) (stands : List LinkEvent → Type 0) (runs_out : List LinkEvent → LinkEvent → List ℕ → List ℕ → Type 0) (s : Setting) (k : Rounds) (w : Outside) (out : Written) (from : Outcome) (next : Next) (c : Course) (to : Next)
-    → Reaches s from (Goes next c) → Runs result stands runs_out s k w out (Goes next c) to → Runs result stands runs_out s k w out from to
+    → Reaches s from (Goes next c) → RunsOn result stands runs_out s k w out (Goes next c) to → RunsOn result stands runs_out s k w out from to
 runs-then (Ok x) stands runs_out s k w out from next c to r runs = record { course = runs.course; reaches = reaches-then s from next c (Goes to runs.course) r runs.reaches; follows = runs.follows }
 runs-then (Err e) stands runs_out s k w out from next c to r runs = leaves-then e runs_out s from next c w out r runs
 
@@ -64,8 +64,8 @@ is-err (Ok x) e is = absurd is
 is-err (Err x) e is = ap Err is
 
 pub err-runs : {T : Type 0} → (result : Result T ServeEnd) (e : ServeEnd) → IsErrAnd result (λ x. x ≡ e) → (stands : List LinkEvent → Type 0) (runs_out : List LinkEvent → LinkEvent → List ℕ → List ℕ → Type 0) (s : Setting) (k : Rounds) (w : Outside) (out : Written) (from : Outcome) (to : Next)
-    → Leaves e runs_out s from w out → Runs result stands runs_out s k w out from to
-err-runs {T = T} result e is stands runs_out s k w out from to leaves = subst (λ (r : Result T ServeEnd). Runs r stands runs_out s k w out from to) (sym (is-err result e is)) leaves
+    → Leaves e runs_out s from w out → RunsOn result stands runs_out s k w out from to
+err-runs {T = T} result e is stands runs_out s k w out from to leaves = subst (λ (r : Result T ServeEnd). RunsOn r stands runs_out s k w out from to) (sym (is-err result e is)) leaves
 
 pub err-faults : {T : Type 0} → (result : Result T ServeEnd) (e : ServeEnd) → IsErrAnd result (λ x. x ≡ e) → (old new : Outside) (sink_old sink_new : Faults) → HasCause e old new sink_old sink_new → HasFaults result old new sink_old sink_new
 err-faults {T = T} result e is old new sink_old sink_new cause = subst (λ (r : Result T ServeEnd). HasFaults r old new sink_old sink_new) (sym (is-err result e is)) cause

@@ -13,7 +13,7 @@ use Rattle.bridge_run.specs.course.Serves.{CutShort, NothingYet}
 use Rattle.bridge_run.specs.inner.Links.{WritesFront}
 use Rattle.bridge_run.specs.inner.Keeping.{begun}
 use Rattle.bridge_run.specs.events.RanOut.{Never}
-use Rattle.bridge_run.specs.inner.Follows.{Follows, Opens}
+use Rattle.bridge_run.specs.inner.Follows.{IsServing, Opens}
 use Rattle.bridge_run.proofs.lemmas.course.Course.{reaches-none, cut-next}
 use Rattle.bridge_run.proofs.lemmas.written.Put.{between-none, between-front, if-told}
 use Rattle.bridge_run.proofs.lemmas.course.Answers.{same-recorded, door-cut, not_accepted, call-door}
@@ -85,7 +85,7 @@ never-cut {ran_out = ran_out} w out c d x = record {
 
 -- the rounds begin
 pub begun-follows : (stands : List LinkEvent → Type 0) (p : Prescribed) (idle budget : ℕ) (w : Outside) (out : Written) (c : Course) → NothingYet idle budget c → stands [] → p.refusals [] ≡ [] → Tells w out (make p c)
-    → Follows stands p (record (begun idle budget) { host_up = true }) w out (make p c)
+    → IsServing stands p (record (begun idle budget) { host_up = true }) w out (make p c)
 begun-follows stands p idle budget w out c b s none t = record {
   stands_for = subst stands (sym b.events) s;
   tells = t;
@@ -113,7 +113,7 @@ door-unmade s c w w' out down t client host door =
 -- the rounds begin
 pub door-follows : (stands : List LinkEvent → Type 0) (p : Prescribed) (idle budget : ℕ) (w w' : Outside) (out : Written) (c : Course) → NothingYet idle budget c → stands [] → p.refusals [] ≡ [] → Tells w out c
     → w'.client ≡ w.client → w'.host ≡ w.host → w'.door ≡ record w.door { made = true }
-    → Follows stands p (begun idle budget) w' out c
+    → IsServing stands p (begun idle budget) w' out c
 door-follows stands p idle budget w w' out c b s none t client host door = record {
   stands_for = subst stands (sym b.events) s;
   tells = record {

@@ -19,7 +19,7 @@ use Rattle.bridge_run.specs.course.Calls.{Outcome, Goes, Stops, gathered, rest, 
 use Rattle.bridge_run.specs.course.Outside.{Outside, OneRose, NoFault, Tells, IsTold, Cut, Written, Faults}
 use Rattle.bridge_run.specs.course.Serves.{Reaches}
 use Rattle.bridge_run.specs.inner.Keeping.{up_of, with_up, one_if, chances_of, Wears, rounds_of, IsLive, RestsBusy, Rests}
-use Rattle.bridge_run.specs.inner.Follows.{Follows, HasFaults, setting, Comes, Runs}
+use Rattle.bridge_run.specs.inner.Follows.{IsServing, HasFaults, setting, Comes, RunsOn}
 use Rattle.bridge_run.proofs.lemmas.course.Course.{reaches-call, reaches-then, runs-then}
 use Rattle.bridge_run.proofs.lemmas.course.Settle.{positive-not_zero, choice}
 use Rattle.bridge_run.proofs.lemmas.written.Put.{moved, written-front, if-told, retold}
@@ -60,10 +60,10 @@ rests-faults (Err Memory) k k' a b f g r n = absurd r
 -- ---- the course
 
 -- what is kept has become another, and so has the course
-rested : (stands : List LinkEvent → Type 0) (p : Prescribed) (k k' : Rounds) (w : Outside) (out : Written) (c : Course) (busy : Bool) (waits : ℕ) → Follows stands p k w out c → k' ≡ record k { busy = busy; waits = waits }
-    → (n : ℕ) → waits ≡ n → Follows stands p k' w out (record c { busy = busy; waits = n })
+rested : (stands : List LinkEvent → Type 0) (p : Prescribed) (k k' : Rounds) (w : Outside) (out : Written) (c : Course) (busy : Bool) (waits : ℕ) → IsServing stands p k w out c → k' ≡ record k { busy = busy; waits = waits }
+    → (n : ℕ) → waits ≡ n → IsServing stands p k' w out (record c { busy = busy; waits = n })
 rested stands p k k' w out c busy waits f kept n is =
-    subst (λ (q : Rounds). Follows stands p q w out (record c { busy = busy; waits = n })) (sym kept) (record {
+    subst (λ (q : Rounds). IsServing stands p q w out (record c { busy = busy; waits = n })) (sym kept) (record {
       stands_for = f.stands_for;
       tells = record { client = f.tells.client; host = f.tells.host; clients = f.tells.clients; told = f.tells.told; tape = f.tells.tape };
       client_up = f.client_up;
@@ -84,7 +84,7 @@ pub record Flushes (busy : Bool) (out out' : Written) : Type 0 where
   pub tape : out'.tape ≡ append_known out.tape (written_if (not busy) out.waiting)
   pub waits : IfSome out'.tape (λ held. out'.waiting ≡ waiting_if (not busy) out.waiting)
 
-flushed : (busy : Bool) (stands : List LinkEvent → Type 0) (p : Prescribed) (k : Rounds) (w : Outside) (out out' : Written) (c : Course) → Follows stands p k w out c → Flushes busy out out' → Follows stands p k w out' (cond busy c (gathered c))
+flushed : (busy : Bool) (stands : List LinkEvent → Type 0) (p : Prescribed) (k : Rounds) (w : Outside) (out out' : Written) (c : Course) → IsServing stands p k w out c → Flushes busy out out' → IsServing stands p k w out' (cond busy c (gathered c))
 flushed true stands p k w out out' c f is =
     retold stands p k w w out out' c c.client c.host c.recorded c.waiting f (record {
       client = f.tells.client;
@@ -104,7 +104,7 @@ flushed false stands p k w out out' c f is =
     })
 
 rest-ok : (b : Bool) (stands : List LinkEvent → Type 0) (runs_out : List LinkEvent → LinkEvent → List ℕ → List ℕ → Type 0) (p : Prescribed) (idle : ℕ) (k k' : Rounds) (w : Outside) (out : Written) (from : Outcome) (c : Course) → k.busy ≡ b → RestsBusy b k k' → k.idle ≡ idle
-    → Follows stands p k w out (cond b c (gathered c)) → Reaches (record { served = p; idle = idle }) from (Goes AtEnd c) → Runs {T = Unit {0}} (Ok tt) stands runs_out (record { served = p; idle = idle }) k' w out from AtDoor
+    → IsServing stands p k w out (cond b c (gathered c)) → Reaches (record { served = p; idle = idle }) from (Goes AtEnd c) → RunsOn {T = Unit {0}} (Ok tt) stands runs_out (record { served = p; idle = idle }) k' w out from AtDoor
 rest-ok true stands runs_out p idle k k' w out from c is r same f reach =
     let s : Setting = record { served = p; idle = idle } in
     let d = record c { busy = false; waits = idle } in
@@ -126,7 +126,7 @@ rest-ok false stands runs_out p idle k k' w out from c is r same f reach =
     }
 
 rest-idle : (stands : List LinkEvent → Type 0) (runs_out : List LinkEvent → LinkEvent → List ℕ → List ℕ → Type 0) (p : Prescribed) (idle : ℕ) (k k' : Rounds) (w : Outside) (out : Written) (from : Outcome) (c : Course) → Rests (Err Idle) k k'
-    → Follows stands p k w out (gathered c) → Reaches (record { served = p; idle = idle }) from (Goes AtEnd c) → Runs {T = Unit {0}} (Err Idle) stands runs_out (record { served = p; idle = idle }) k' w out from AtDoor
+    → IsServing stands p k w out (gathered c) → Reaches (record { served = p; idle = idle }) from (Goes AtEnd c) → RunsOn {T = Unit {0}} (Err Idle) stands runs_out (record { served = p; idle = idle }) k' w out from AtDoor
 rest-idle stands runs_out p idle k k' w out from c r f reach =
     let s : Setting = record { served = p; idle = idle } in
     record {
@@ -137,10 +137,10 @@ rest-idle stands runs_out p idle k k' w out from c r f reach =
     }
 
 pub rests : (result : Result (Unit {0}) ServeEnd) (stands : List LinkEvent → Type 0) (runs_out : List LinkEvent → LinkEvent → List ℕ → List ℕ → Type 0) (p : Prescribed) (idle : ℕ) (k k' : Rounds) (w : Outside) (out out' : Written) (from : Outcome) (c : Course) → Rests result k k' → k.idle ≡ idle
-    → Follows stands p k w out c → Flushes k.busy out out' → Reaches (record { served = p; idle = idle }) from (Goes AtEnd c) → Runs result stands runs_out (record { served = p; idle = idle }) k' w out' from AtDoor
+    → IsServing stands p k w out c → Flushes k.busy out out' → Reaches (record { served = p; idle = idle }) from (Goes AtEnd c) → RunsOn result stands runs_out (record { served = p; idle = idle }) k' w out' from AtDoor
 rests (Ok x) stands runs_out p idle k k' w out out' from c r same f is reach = rest-ok k.busy stands runs_out p idle k k' w out' from c refl r same (flushed k.busy stands p k w out out' c f is) reach
 rests (Err Idle) stands runs_out p idle k k' w out out' from c r same f is reach =
-    rest-idle stands runs_out p idle k k' w out' from c r (subst (λ (b : Bool). Follows stands p k w out' (cond b c (gathered c))) r.0 (flushed k.busy stands p k w out out' c f is)) reach
+    rest-idle stands runs_out p idle k k' w out' from c r (subst (λ (b : Bool). IsServing stands p k w out' (cond b c (gathered c))) r.0 (flushed k.busy stands p k w out out' c f is)) reach
 rests (Err (Ended refused)) stands runs_out p idle k k' w out out' from c r same f is reach = absurd r
 rests (Err Spent) stands runs_out p idle k k' w out out' from c r same f is reach = absurd r
 rests (Err (LinkFault side)) stands runs_out p idle k k' w out out' from c r same f is reach = absurd r
@@ -229,10 +229,10 @@ live-if_ok (Err e) k m n w live left r = tt
 -- ---- one part of a round behind another
 
 pub goes-on : {T : Type 0} → (result : Result T ServeEnd) (stands stands2 : List LinkEvent → Type 0) (runs_out : List LinkEvent → LinkEvent → List ℕ → List ℕ → Type 0) (p : Prescribed) (k0 k1 k2 : Rounds) (w w2 : Outside) (out out2 : Written) (from : Outcome) (next1 next2 : Next)
-    → (a : Comes stands (setting p k0) k1 w out from next1) → k1.idle ≡ k0.idle → Runs result stands2 runs_out (setting p k1) k2 w2 out2 (Goes next1 a.course) next2 → Runs result stands2 runs_out (setting p k0) k2 w2 out2 from next2
+    → (a : Comes stands (setting p k0) k1 w out from next1) → k1.idle ≡ k0.idle → RunsOn result stands2 runs_out (setting p k1) k2 w2 out2 (Goes next1 a.course) next2 → RunsOn result stands2 runs_out (setting p k0) k2 w2 out2 from next2
 goes-on result stands stands2 runs_out p k0 k1 k2 w w2 out out2 from next1 next2 a idle b =
     runs-then result stands2 runs_out (setting p k0) k2 w2 out2 from next1 a.course next2 a.reaches
-    (subst (λ (i : ℕ). Runs result stands2 runs_out (record { served = p; idle = i }) k2 w2 out2 (Goes next1 a.course) next2) idle b)
+    (subst (λ (i : ℕ). RunsOn result stands2 runs_out (record { served = p; idle = i }) k2 w2 out2 (Goes next1 a.course) next2) idle b)
 
 -- behind a step that went well
 pub goes-ok : {stands stands2 : List LinkEvent → Type 0} {k1 k2 : Rounds} {w w2 : Outside} {out out2 : Written} {from : Outcome} {next1 next2 : Next} → (p : Prescribed) (k0 : Rounds)

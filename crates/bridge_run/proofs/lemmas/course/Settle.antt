@@ -14,7 +14,7 @@ use Rattle.bridge_run.specs.course.Calls.{Outcome, Goes, Stops, put, settle, end
 use Rattle.bridge_run.specs.course.Outside.{Outside, Written}
 use Rattle.bridge_run.specs.course.Serves.{Reaches}
 use Rattle.bridge_run.specs.inner.Keeping.{is_over, Settles}
-use Rattle.bridge_run.specs.inner.Follows.{Follows, Runs}
+use Rattle.bridge_run.specs.inner.Follows.{IsServing, RunsOn}
 use Rattle.bridge_run.proofs.lemmas.course.Course.{reaches-call}
 
 course-choice : (b : Bool) (x y : Outcome) (c : Course) → course_of x ≡ c → course_of y ≡ c → course_of (cond b x y) ≡ c
@@ -43,8 +43,8 @@ over-is : (k : Rounds) (c : Course) (b : Bool) → k.client_up ≡ c.client_up �
 over-is k c b p q is = ap (λ (u : Bool). not u && not c.host_up) (sym p) ∙ ap (λ (u : Bool). not k.client_up && not u) (sym q) ∙ is
 
 pub settled : (result : Result (Unit {0}) ServeEnd) (stands : List LinkEvent → Type 0) (runs_out : List LinkEvent → LinkEvent → List ℕ → List ℕ → Type 0) (p : Prescribed) (idle : ℕ) (k : Rounds) (w : Outside) (out : Written) (from : Outcome) (now : Next) (b : Course) (next : Next) (c : Course)
-    → Settles result k → Follows stands p k w out c → Reaches (record { served = p; idle = idle }) from (Goes now b) → call (record { served = p; idle = idle }) now b ≡ settle (record { served = p; idle = idle }) next c
-    → Runs result stands runs_out (record { served = p; idle = idle }) k w out from next
+    → Settles result k → IsServing stands p k w out c → Reaches (record { served = p; idle = idle }) from (Goes now b) → call (record { served = p; idle = idle }) now b ≡ settle (record { served = p; idle = idle }) next c
+    → RunsOn result stands runs_out (record { served = p; idle = idle }) k w out from next
 settled (Ok x) stands runs_out p idle k w out from now b next c is f r e =
     let s : Setting = record { served = p; idle = idle } in
     record {

@@ -20,7 +20,7 @@ use Rattle.bridge_run.specs.declared.events.sent.Sent.{Sent}
 use Rattle.bridge_run.specs.events.Events.{LinkEvent, SidePiece}
 use Rattle.bridge_run.specs.written.Recorded.{has_any}
 use Rattle.bridge_run.specs.served.Lent.{each, used, refusal_in, acts_behind, acts_of, is_coming, has_come, refused_by, lent_refusals, lent_sends}
-use Rattle.bridge_run.specs.inner.Sends.{Sends}
+use Rattle.bridge_run.specs.inner.Sends.{SendsAll}
 use Rattle.bridge_run.specs.inner.Lending.{Acts, IsLent}
 
 -- ---- acts
@@ -129,7 +129,7 @@ lent-stands m s old mid new past e lent acts came is =
 pub lent-sends : {S : Type 0} (m : Meaning S) (s : S) (old mid : Lent S) (past : List LinkEvent) (e : LinkEvent) (sent sent' : Sent) → IsLent m s old past
     → Acts m s mid.core (acts_of m s past) (acts_behind m s (acts_of m s past) e) old.waiting mid.waiting → mid.has_come ≡ (is_coming e || old.has_come)
     → sent'.to_client ≡ sent.to_client ++ cond mid.has_come mid.waiting [] → sent'.to_host ≡ sent.to_host → sent'.refusals ≡ sent.refusals ++ refused_by m s (acts_of m s past) e → sent'.lets_go ≡ sent.lets_go
-    → Sends (lent_sends m s) past e sent sent'
+    → SendsAll (lent_sends m s) past e sent sent'
 lent-sends m s old mid past e sent sent' lent acts came client host refusals stays =
     let come = came ∙ ap (λ (b : Bool). is_coming e || b) lent.came in
     let refused = gained-is (lent_refusals m s past) (refused_by m s (acts_of m s past) e) (lent_refusals m s (e ∷ past)) refl in

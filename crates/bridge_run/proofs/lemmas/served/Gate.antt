@@ -7,7 +7,7 @@ use Rattle.gate_history.specs.declared.note.Note.{Note}
 use Rattle.gate_history.specs.step.Events.{Event as GateEvent}
 use Rattle.gate_history.specs.Headline.{client_output, host_output, notes as told_notes, Gains}
 use Rattle.gate_core.specs.state.Kept.{GateKept}
-use Rattle.gate_core.specs.step.Stands.{Takes}
+use Rattle.gate_core.specs.step.Stands.{TakesEvent}
 use Rattle.bridge_run.specs.declared.served.after_loss.AfterLoss.{AfterLoss}
 use Rattle.bridge_run.specs.declared.served.after_loss.AfterLoss.TheVariants.{Keep, Close}
 use Rattle.bridge_run.specs.declared.events.sent.Sent.{Sent}
@@ -15,7 +15,7 @@ use Rattle.bridge_run.specs.events.Events.{LinkEvent}
 use Rattle.gate_history.specs.write.Refusals.{refusal_in}
 use Rattle.bridge_run.specs.served.Gate.{gate_event, gate_events, gate_notes, gate_sends, is_loss, lets_go}
 use Rattle.bridge_run.specs.events.Prescribed.{gained}
-use Rattle.bridge_run.specs.inner.Sends.{Sends}
+use Rattle.bridge_run.specs.inner.Sends.{SendsAll}
 use Rattle.bridge_run.proofs.lemmas.served.Acts.{gained-is}
 
 -- of an output that has gained as much
@@ -28,8 +28,8 @@ let-go Keep was first past e notes gone told keep close same = keep same
 let-go Close was first past e notes gone told keep close same = close same ∙ ap (list_any is_loss) (sym told)
 
 pub gate-sends : (setting was : AfterLoss) (first : ℕ) (past : List LinkEvent) (e : LinkEvent) (ge : GateEvent) (kept : GateKept) (old : Sent) (client host : List ℕ) (refusals : List Refusal) (gone : Bool) (notes : List Note)
-    → gate_event e ≡ Some ge → Takes first kept (gate_events past) ge old.to_client client old.to_host host notes → refusals ≡ old.refusals ++ flat_map refusal_in notes → (was ≡ Keep → gone ≡ false) → (was ≡ Close → gone ≡ list_any is_loss notes) → was ≡ setting
-    → Sends (gate_sends setting first) past e old (record { to_client = client; to_host = host; refusals = refusals; lets_go = old.lets_go || gone })
+    → gate_event e ≡ Some ge → TakesEvent first kept (gate_events past) ge old.to_client client old.to_host host notes → refusals ≡ old.refusals ++ flat_map refusal_in notes → (was ≡ Keep → gone ≡ false) → (was ≡ Close → gone ≡ list_any is_loss notes) → was ≡ setting
+    → SendsAll (gate_sends setting first) past e old (record { to_client = client; to_host = host; refusals = refusals; lets_go = old.lets_go || gone })
 gate-sends setting was first past e ge kept old client host refusals gone notes is t pushed keep close same =
     let p = gate_sends setting first in
     let came : gate_events (e ∷ past) ≡ ge ∷ gate_events past = ap (λ (o : Option GateEvent). cons_option o (gate_events past)) is in

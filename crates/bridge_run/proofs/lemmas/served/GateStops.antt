@@ -19,7 +19,7 @@ use Rattle.gate_history.specs.Headline.{client_output, host_output, notes as tol
 use Rattle.gate_history.specs.declared.note.Note.{Note}
 use Rattle.packet_stream.proofs.Pieces.{onto-append}
 use Rattle.gate_core.specs.state.Kept.{GateKept}
-use Rattle.gate_core.specs.step.Stands.{Stops, Takes}
+use Rattle.gate_core.specs.step.Stands.{Stops, TakesEvent}
 use Rattle.bridge_run.specs.declared.served.after_loss.AfterLoss.{AfterLoss}
 use Rattle.bridge_run.specs.declared.events.sent.Sent.{Sent}
 use Rattle.bridge_run.specs.events.Events.{LinkEvent}
@@ -114,7 +114,7 @@ gate-stops setting first events e ge kept old new is x =
 
 -- all was sent, and its refusals couldn't be told
 pub gate-untold : (setting : AfterLoss) (first : ℕ) (past : List LinkEvent) (e : LinkEvent) (ge : GateEvent) (kept : GateKept) (old new : Sent) (notes : List Note) → gate_event e ≡ Some ge
-    → Takes first kept (gate_events past) ge old.to_client new.to_client old.to_host new.to_host notes → has_any (flat_map refusal_in notes) ≡ true → SendsPart (gate_runs_out first) (gate_sends setting first) past e old new
+    → TakesEvent first kept (gate_events past) ge old.to_client new.to_client old.to_host new.to_host notes → has_any (flat_map refusal_in notes) ≡ true → SendsPart (gate_runs_out first) (gate_sends setting first) past e old new
 gate-untold setting first past e ge kept old new notes is t some =
     let p = gate_sends setting first in
     let came : gate_events (e ∷ past) ≡ ge ∷ gate_events past = ap (λ (o : Option GateEvent). cons_option o (gate_events past)) is in

@@ -28,7 +28,7 @@ use Rattle.bridge_run.specs.course.Outside.{Outside, Shows, Tells, IsTold, IsBet
 use Rattle.bridge_run.specs.course.Serves.{MayRunOut}
 use Rattle.bridge_run.specs.inner.Links.{wrote_if, WritesFront, closed_if}
 use Rattle.bridge_run.specs.inner.Keeping.{refusing, is_last as last_kept}
-use Rattle.bridge_run.specs.inner.Follows.{Prepared, Follows, Puts}
+use Rattle.bridge_run.specs.inner.Follows.{Prepared, IsServing, Puts}
 use Rattle.bridge_run.proofs.lemmas.written.Links.{append_known-nil}
 
 -- ---- a link
@@ -172,7 +172,7 @@ recorded-by p c e sent due out out' waiting same due-is tape waits = record {
 }
 
 -- and so where what is kept follows the course
-pub due-now : {stands : List LinkEvent → Type 0} {p : Prescribed} {k : Rounds} {w : Outside} {out : Written} {c : Course} → (e : LinkEvent) (sent : Sent) (lines : List ℕ) (k1 : Rounds) (due : Bool) → Follows stands p k w out c → k1 ≡ k → Prepared p c.events e sent lines
+pub due-now : {stands : List LinkEvent → Type 0} {p : Prescribed} {k : Rounds} {w : Outside} {out : Written} {c : Course} → (e : LinkEvent) (sent : Sent) (lines : List ℕ) (k1 : Rounds) (due : Bool) → IsServing stands p k w out c → k1 ≡ k → Prepared p c.events e sent lines
     → due ≡ (sends_any sent.to_client sent.to_host sent.refusals sent.lets_go || last_kept k1) → due ≡ sends_now p e c
 due-now {p = p} {c = c} e sent lines k1 due f same prepared is =
     due-of p c e sent lines k1 due prepared (ap (λ (q : Rounds). q.client_up) same ∙ f.client_up) (ap (λ (q : Rounds). q.host_up) same ∙ f.host_up) (ap (λ (q : Rounds). q.left) same ∙ f.left) is
@@ -218,15 +218,15 @@ written-front ran_out writes w out c d (Some held) known' waiting grows has all 
     subst (λ (k : Option (List ℕ)). IfSome k (λ (l : List ℕ). HasLines ran_out w out c d l)) (sym grows.grows) (recorded-front ran_out _ w out c d grows.front grows.back whole client host told (Some held) has)
 
 -- a course of which only the turns, the lines on the tape and those that wait have become others
-pub retold : (stands : List LinkEvent → Type 0) (p : Prescribed) (k : Rounds) (w w' : Outside) (out out' : Written) (c : Course) (client host : List Turn) (recorded waiting : List ℕ) → Follows stands p k w out c
-    → Tells w' out' (record c { client = client; host = host; recorded = recorded; waiting = waiting }) → Follows stands p k w' out' (record c { client = client; host = host; recorded = recorded; waiting = waiting })
+pub retold : (stands : List LinkEvent → Type 0) (p : Prescribed) (k : Rounds) (w w' : Outside) (out out' : Written) (c : Course) (client host : List Turn) (recorded waiting : List ℕ) → IsServing stands p k w out c
+    → Tells w' out' (record c { client = client; host = host; recorded = recorded; waiting = waiting }) → IsServing stands p k w' out' (record c { client = client; host = host; recorded = recorded; waiting = waiting })
 retold stands p k w w' out out' c client host recorded waiting f t =
     record { stands_for = f.stands_for; tells = t; client_up = f.client_up; host_up = f.host_up; busy = f.busy; waits = f.waits; left = f.left; refused = f.refused }
 
 pub put-follows : (stands : List LinkEvent → Type 0) (p : Prescribed) (k k' : Rounds) (w w' : Outside) (out out' : Written) (c : Course) (e : LinkEvent) (sent : Sent) (lines : List ℕ) (due : Bool)
-    (old-stands : List LinkEvent → Type 0) → Follows old-stands p k w out c → Prepared p c.events e sent lines → stands (e ∷ c.events) → k' ≡ refusing sent.refusals sent.lets_go k
+    (old-stands : List LinkEvent → Type 0) → IsServing old-stands p k w out c → Prepared p c.events e sent lines → stands (e ∷ c.events) → k' ≡ refusing sent.refusals sent.lets_go k
     → Shows w'.client (put p e c).client_up (put p e c).client (put p e c).to_client → Shows w'.host (put p e c).host_up (put p e c).host (put p e c).to_host
-    → w'.door ≡ w.door → IsTold out' (c.told ++ lines) → IsRecorded p c e sent due out out' → Follows stands p k' w' out' (put p e c)
+    → w'.door ≡ w.door → IsTold out' (c.told ++ lines) → IsRecorded p c e sent due out out' → IsServing stands p k' w' out' (put p e c)
 put-follows stands p k k' w w' out out' c e sent lines due old-stands f prepared now kept client host door written recorded =
     let refusals = prepared.refusals in
     record {

@@ -22,7 +22,7 @@ use Rattle.gate_parts.specs.declared.write.outputs.Outputs.{Outputs}
 use Rattle.gate_core.specs.declared.state.kept.Kept.{Kept as Translator}
 use Rattle.gate_core.specs.step.Stands.{Translates, StreamStands, HasAll}
 use Rattle.gate_core.specs.inner.Holds.{DoesNothing}
-use Rattle.gate_core.specs.inner.Steps.{Sends}
+use Rattle.gate_core.specs.inner.Steps.{SendsItems}
 
 -- ---- what a side is
 
@@ -102,7 +102,7 @@ FitsNext {S = S} {P = P} half r takes raw_packet =
 pub record Finished {S P : Type 0} (first : ℕ) (h : Half S P) (kept : StreamView S) (t : Translator) (bytes piece : List ℕ) (before : List Item) (out_old out_new : Outputs) : Type 0 where
   pub all : HasAll h.stream.reader h.stream.start kept (bytes ++ piece) (h.came (onto (added (items h.stream) bytes piece) before)) (h.over (onto (added (items h.stream) bytes piece) before))
   pub translates : Translates first t (onto (added (items h.stream) bytes piece) before)
-  pub sends : Sends first out_old out_new before (onto (added (items h.stream) bytes piece) before)
+  pub sends : SendsItems first out_old out_new before (onto (added (items h.stream) bytes piece) before)
   pub others_are : h.others (onto (added (items h.stream) bytes piece) before) ≡ h.others before
   pub other_over : h.other_over (onto (added (items h.stream) bytes piece) before) ≡ h.other_over before
 
@@ -115,7 +115,7 @@ pub record Halted {S P : Type 0} (first : ℕ) (h : Half S P) (kept : StreamView
   pub wants : Wants first (onto taken before) next
   pub stands : StreamStands h.stream.reader h.stream.start kept (bytes ++ piece) (h.came (onto taken before)) (h.over (onto taken before))
   pub translates : Translates first t (onto taken before)
-  pub sends : Sends first out_old out_new before (onto taken before)
+  pub sends : SendsItems first out_old out_new before (onto taken before)
   pub others_are : h.others (onto taken before) ≡ h.others before
   pub other_over : h.other_over (onto taken before) ≡ h.other_over before
 

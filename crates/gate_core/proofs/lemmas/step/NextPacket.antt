@@ -5,7 +5,7 @@ use Rattle.usb_base.specs.declared.reason.Reason.{Reason}
 use Rattle.packet_stream.specs.Format.{Format, IsSound}
 use Rattle.packet_stream.specs.Split.{Position, Spells, reads, split}
 use Rattle.packet_stream.specs.declared.read.ReadError.{ReadError}
-use Rattle.packet_stream.specs.Streams.{StreamView, Left, FollowsBy, Follows, Gives, Answered, Nexts, Changes, capped}
+use Rattle.packet_stream.specs.Streams.{StreamView, Left, FollowsBy, Follows, GivesNext, Answered, Nexts, Changes, capped}
 use Rattle.packet_stream.proofs.Following.{changed_to, follows-front}
 use Rattle.packet_stream.proofs.Splits.{is_splitting}
 
@@ -29,7 +29,7 @@ fits-next {S = S} {P = P} format next sound takes old new result i readable chan
     let can = readable going in
     let left : Left r old x [] = record { at = start; parts = refl; place = can.1; state = refl; fits = can.0 } in
     let first : Follows r start old old.rest [] = record { fits = can.0; follows = subst (FollowsBy r old x []) (sym going) left } in
-    let gives : Gives r start new old.rest [] i.0 i.1 = subst (λ (y : Result (Option (ℕ × P)) ReadError). Answered r takes start y new old.rest []) is (nexts start old.rest [] first) in
+    let gives : GivesNext r start new old.rest [] i.0 i.1 = subst (λ (y : Result (Option (ℕ × P)) ReadError). Answered r takes start y new old.rest []) is (nexts start old.rest [] first) in
     let front = follows-front r start new old.rest ((gives.at, i.1) ∷ []) gives.follows in
     let found = is_splitting format next sound start old.rest can.0 in
     first-fits format next start x.position old.rest found.left x.packets front.0 (gives.at, i.1) front.1 found.spelled

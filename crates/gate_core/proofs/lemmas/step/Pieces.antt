@@ -26,7 +26,7 @@ use Rattle.gate_core.specs.step.Stands.{Translates, HasAll, IsLeftBy}
 use Rattle.gate_core.specs.inner.Holds.{DoesNothing}
 use Rattle.gate_history.specs.step.Fits.{IsItem, ItemFits}
 use Rattle.gate_core.specs.declared.step.taker.ItemTaker.{ItemTaker}
-use Rattle.gate_core.specs.inner.Steps.{Sends}
+use Rattle.gate_core.specs.inner.Steps.{SendsItems}
 use Rattle.gate_core.specs.inner.Takers.{Borrows, TakesItem, TakerTakes}
 use Rattle.gate_history.proofs.lemmas.Lists.{Each, Each-append}
 use Rattle.gate_history.proofs.lemmas.state.Sound.{state-sound}
@@ -95,7 +95,7 @@ pub record Taking {S P : Type 0} (first : ℕ) (h : Half S P) (kept : StreamView
   pub stream : Taken h.stream kept bytes piece (h.came before) taken
   pub over_is : kept.over ≡ h.over (onto taken before)
   pub translates : Translates first t (onto taken before)
-  pub sends : Sends first out_old out_new before (onto taken before)
+  pub sends : SendsItems first out_old out_new before (onto taken before)
   pub others_are : h.others (onto taken before) ≡ h.others before
   pub other_over : h.other_over (onto taken before) ≡ h.other_over before
 
@@ -147,7 +147,7 @@ taking-one first d old new t u bytes piece before out_old out out_new item x k r
       stream = taken-ended d.half.stream new bytes piece (d.half.came before) (k.taken ++ x ∷ []) stream (d.flag u);
       over_is = ended-over new (d.flag u) (d.half.over (x ∷ xs)) (d.laws.over_is u (x ∷ xs) translates) (going xs) ∙ ap d.half.over (sym behind);
       translates = subst (Translates first u) (sym behind) translates;
-      sends = subst (Sends first out_old out_new before) (sym behind)
+      sends = subst (SendsItems first out_old out_new before) (sym behind)
           (sends-item first t u before xs x out_old out out_new k.sends taken does);
       others_are = ap d.half.others behind ∙ others xs ∙ k.others_are;
       other_over = ap d.half.other_over behind ∙ other xs ∙ k.other_over;
@@ -191,7 +191,7 @@ finished-going {S = S} {P = P} first d takes old new t bytes piece before out_ol
     record {
       all = subst (λ (l : List Item). HasAll d.half.stream.reader d.half.stream.start new (bytes ++ piece) (d.half.came l) (d.half.over l)) (sym same) all;
       translates = subst (Translates first t) (sym same) k.translates;
-      sends = subst (Sends first out_old out_new before) (sym same) k.sends;
+      sends = subst (SendsItems first out_old out_new before) (sym same) k.sends;
       others_are = ap d.half.others same ∙ k.others_are;
       other_over = ap d.half.other_over same ∙ k.other_over;
     }
@@ -297,7 +297,7 @@ halted {S = S} {P = P} first d old new memory a b bytes piece before out_old ans
         none = stuck.none;
       };
       translates = subst (λ (t : Translator). Translates first t xs) (sym nothing.same) k.translates;
-      sends = subst (λ (o : Outputs). Sends first out_old o before xs) (sym nothing.outputs) k.sends;
+      sends = subst (λ (o : Outputs). SendsItems first out_old o before xs) (sym nothing.outputs) k.sends;
       others_are = k.others_are;
       other_over = k.other_over;
     }

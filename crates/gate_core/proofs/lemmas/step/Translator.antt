@@ -22,7 +22,7 @@ use Rattle.gate_history.specs.step.Machine.{after, step}
 use Rattle.gate_core.specs.step.Stands.{Translates}
 use Rattle.gate_history.specs.Headline.{Gains}
 use Rattle.gate_core.specs.inner.Holds.{Holds, Does}
-use Rattle.gate_core.specs.inner.Steps.{Sends}
+use Rattle.gate_core.specs.inner.Steps.{SendsItems}
 use Rattle.gate_history.proofs.lemmas.step.Runs.{state-run}
 
 -- ---- gains
@@ -37,7 +37,7 @@ gains-then {A = A} a b c x y z p q = record {
   after-is = q.after-is ∙ ap (λ (l : List A). l ++ q.more) p.after-is ∙ append_assoc x p.more q.more;
 }
 
-pub sends-none : (first : ℕ) (out : Outputs) (h : List Item) → Sends first out out h h
+pub sends-none : (first : ℕ) (out : Outputs) (h : List Item) → SendsItems first out out h h
 sends-none first out h = record { client = gains-none out.to_client _; host = gains-none out.to_host _; told = gains-none out.notes _ }
 
 -- what depends on the past alone
@@ -50,7 +50,7 @@ translates-past first t xs ys same h = record {
 }
 
 pub sends-past : (first : ℕ) (out_old out_new : Outputs) (h k l : List Item) → past first l ≡ past first k →
-    Sends first out_old out_new h k → Sends first out_old out_new h l
+    SendsItems first out_old out_new h k → SendsItems first out_old out_new h l
 sends-past first out_old out_new h k l same s = record {
   client = subst (λ (ms : List Mark). Gains out_old.to_client out_new.to_client (out_client first (past first h)) (out_client first ms)) (sym same) s.client;
   host = subst (λ (ms : List Mark). Gains out_old.to_host out_new.to_host (out_host first (past first h)) (out_host first ms)) (sym same) s.host;
@@ -102,8 +102,8 @@ translates-item first old new xs x out_old out_new t taken does =
     }
 
 pub sends-item : (first : ℕ) (old new : Translator) (h xs : List Item) (x : Item) (out_old out out_new : Outputs) →
-    Sends first out_old out h xs → is_left_out (state_of first (past first xs)) x ≡ false →
-    Does (state_of first (past first xs)) (mark_of (state_of first (past first xs)) x) old new out out_new → Sends first out_old out_new h (x ∷ xs)
+    SendsItems first out_old out h xs → is_left_out (state_of first (past first xs)) x ≡ false →
+    Does (state_of first (past first xs)) (mark_of (state_of first (past first xs)) x) old new out out_new → SendsItems first out_old out_new h (x ∷ xs)
 sends-item first old new h xs x out_old out out_new s taken does =
     let ms = past first xs in
     let st = state_of first ms in

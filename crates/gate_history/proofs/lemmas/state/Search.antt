@@ -1,7 +1,7 @@
 -- The search for a free id: the relation, and why the loop ends.
 use Rattle.std.proofs.Common.{◌≡◌, ℕ, zero, suc, ◌<◌, true, false, cond, List, [], ◌∷◌, length, refl, sym, ap, ◌∙◌, arith, inl, inr}
 use Rattle.std.proofs.lemmas.Bool.{cases_Bool, false≢true}
-use Rattle.gate_history.specs.state.Ids.{after, holds, free_from, draw, draws, Reaches, IsNext, Fits}
+use Rattle.gate_history.specs.state.Ids.{after, holds, free_from, draw, draws, ReachesId, IsNext, Fits}
 use Rattle.gate_history.proofs.lemmas.state.Cycle.{after-fits}
 use Rattle.gate_history.proofs.lemmas.state.Draws.{free_from-free}
 
@@ -9,7 +9,7 @@ use Rattle.gate_history.proofs.lemmas.state.Draws.{free_from-free}
 
 record Reached (m : ℕ) (flying : List ℕ) (id found : ℕ) : Type 0 where
   turns : ℕ
-  reaches : Reaches m flying turns id found
+  reaches : ReachesId m flying turns id found
 
 reached : (m : ℕ) (flying : List ℕ) (n id : ℕ) → holds flying (free_from m flying n id) ≡ false → Reached m flying id (free_from m flying n id)
 reached m flying zero id h = record { turns = zero; reaches = (refl, h) }
@@ -26,7 +26,7 @@ draw-next m flying last room =
     let r = reached m flying (length flying) (after m last) (free_from-free m flying (after m last) (after-fits m last (omega arith)) room) in
     (r.turns, r.reaches)
 
-one_end : (m : ℕ) (flying : List ℕ) (j k id a b : ℕ) → Reaches m flying j id a → Reaches m flying k id b → a ≡ b
+one_end : (m : ℕ) (flying : List ℕ) (j k id a b : ℕ) → ReachesId m flying j id a → ReachesId m flying k id b → a ≡ b
 one_end m flying zero zero id a b r s = r.0 ∙ sym s.0
 one_end m flying zero (suc k) id a b r s = absurd (false≢true (sym r.1 ∙ ap (holds flying) r.0 ∙ s.0))
 one_end m flying (suc j) zero id a b r s = absurd (false≢true (sym s.1 ∙ ap (holds flying) s.0 ∙ r.0))
@@ -37,7 +37,7 @@ next-one m flying last a b r s = one_end m flying r.0 s.0 (after m last) a b r.1
 
 -- ---- a list that holds the same ids, in another order, gives the same draw
 
-moved : (m : ℕ) (xs ys : List ℕ) → ((q : ℕ) → holds xs q ≡ holds ys q) → (k id found : ℕ) → Reaches m xs k id found → Reaches m ys k id found
+moved : (m : ℕ) (xs ys : List ℕ) → ((q : ℕ) → holds xs q ≡ holds ys q) → (k id found : ℕ) → ReachesId m xs k id found → ReachesId m ys k id found
 moved m xs ys same zero id found r = (r.0, sym (same found) ∙ r.1)
 moved m xs ys same (suc k) id found r = (sym (same id) ∙ r.0, moved m xs ys same k (after m id) found r.1)
 

@@ -30,7 +30,7 @@ use Rattle.redir_host.specs.step.History.{history}
 use Rattle.redir_host.specs.step.Items.{Item, Asked, Wrong}
 use Rattle.redir_host.specs.step.Machine.{all_given, bytes_of, notes_of, steps}
 use Rattle.redir_host.specs.step.Stands.{told_state, IsReadBy, HostStands, TakesAct, Stops, TakesPiece, StopsIn}
-use Rattle.redir_host.specs.step.Wants.{Wants, takes_memory}
+use Rattle.redir_host.specs.step.Wants.{HostWants, takes_memory}
 use Rattle.redir_host.proofs.lemmas.guest.Pieces.{Found, HasTaken, IsBefore, IsGoing, IsWithin, IsWithinBy, guest_stream, asked, guest_taking, going-at, within, host-all, given-all, read-given, sent_of}
 
 pub before : {S : Type 0} (m : Meaning S) (s : S) (old : HostKept S) (acts : List Act) → HostStands m s old acts → IsBefore old.stream old.host (guest_bytes acts)
@@ -114,7 +114,7 @@ asks-memory header (Plain p) takes = takes
 asks-memory header (Carrying p) takes = takes
 
 stops-next : {S : Type 0} (m : Meaning S) (s : S) (failed : Bool) (old last : TakenStream RedirState (GuestTaker S)) (acts : List Act) (piece out : List ℕ) (next : Item) (behind : List Item) → HostStands m s (core_of failed old) acts →
-    (g : IsGoing m (guest_bytes acts) piece old.taker last) → added guest_items (guest_bytes acts) piece ≡ map asked g.more ++ next ∷ behind → out ≡ last.taker.out.now → Wants m last.taker.host.now next → Stops m s acts (Piece piece) old.taker.out.now out
+    (g : IsGoing m (guest_bytes acts) piece old.taker last) → added guest_items (guest_bytes acts) piece ≡ map asked g.more ++ next ∷ behind → out ≡ last.taker.out.now → HostWants m last.taker.host.now next → Stops m s acts (Piece piece) old.taker.out.now out
 stops-next {S = S} m s failed old last acts piece out next behind stands g parts cut wants =
     let xs = map asked g.more in
     record {
@@ -122,7 +122,7 @@ stops-next {S = S} m s failed old last acts piece out next behind stands g parts
       later = next ∷ behind;
       parts = parts;
       sent = given-all bytes_of m s (core_of failed old) acts xs xs old.taker.out.now out stands (cut ∙ g.taken.sent) refl;
-      wanted = inr (subst (λ (h : Host S). Wants m h next) (g.taken.host ∙ ap (λ (h : Host S). steps m h xs) stands.host) wants);
+      wanted = inr (subst (λ (h : Host S). HostWants m h next) (g.taken.host ∙ ap (λ (h : Host S). steps m h xs) stands.host) wants);
     }
 
 stops-by : {S : Type 0} (m : Meaning S) (s : S) (failed : Bool) (old last : TakenStream RedirState (GuestTaker S)) (new : Stream RedirState) (t : GuestTaker S) (acts : List Act) (piece : List ℕ) (memory : NoMemory) (answer : Result (Option Found) ReadError) →

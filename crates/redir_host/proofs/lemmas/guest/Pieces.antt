@@ -33,7 +33,7 @@ use Rattle.redir_host.specs.guest.Guest.{guest_reader, guest_split, guest_items}
 use Rattle.redir_host.specs.step.History.{brought, history}
 use Rattle.redir_host.specs.step.Items.{Item, Asked, Wrong}
 use Rattle.redir_host.specs.step.Machine.{move, all_given, bytes_of, notes_of, steps, given_by}
-use Rattle.redir_host.specs.step.Makes.{IsTaken, Takes}
+use Rattle.redir_host.specs.step.Makes.{IsTaken, TakesMove}
 use Rattle.redir_host.specs.step.Moves.{Move}
 use Rattle.redir_host.specs.write.Output.{host_of}
 use Rattle.redir_host.specs.guest.Packets.{packet_move}
@@ -107,7 +107,7 @@ given-one {S = S} gives m old mid xs x l0 l1 l2 host first then =
     ∙ ap (λ l. l0 ++ (given_by gives m old xs ++ l)) (sym (append-nil one))
     ∙ ap (λ l. l0 ++ l) (sym (given-append gives m old xs (x ∷ [])))
 
-taken-one : {S : Type 0} (m : Meaning S) (old mid new : Host S) (x : Item) (o0 o1 o2 : List ℕ) (n0 n1 n2 : List HostNote) (xs : List Item) → Takes (move m mid x) new o1 o2 n1 n2 → IsSound new →
+taken-one : {S : Type 0} (m : Meaning S) (old mid new : Host S) (x : Item) (o0 o1 o2 : List ℕ) (n0 n1 n2 : List HostNote) (xs : List Item) → TakesMove (move m mid x) new o1 o2 n1 n2 → IsSound new →
     ((sent : List (ℕ × RedirPacket)) → AreRead mid.guest sent → AreRead new.guest (sent ++ (move m mid x).sent)) → HasTaken m old mid o0 o1 n0 n1 xs → HasTaken m old new o0 o2 n0 n2 (xs ++ x ∷ [])
 taken-one {S = S} m old mid new x o0 o1 o2 n0 n1 n2 xs takes sound reads t = record {
   host = takes.makes.host ∙ ap (λ (h : Host S). (move m h x).host) t.host ∙ sym (steps-append m old xs (x ∷ []));

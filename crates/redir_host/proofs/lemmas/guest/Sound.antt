@@ -39,7 +39,7 @@ use Rattle.redir_host.specs.step.Makes.{IsTaken}
 use Rattle.redir_host.specs.step.Moves.{Move, quiet}
 use Rattle.redir_host.specs.guest.Packets.{can_start, cancel_move, data_move, packet_move, packet_move_by, queued, request, runs_at, start_move, stop_move, stopped}
 use Rattle.redir_host.specs.state.Queues.{is_first_queue, is_cancelled_by, marked, with_first_marked, after_cancel}
-use Rattle.redir_host.specs.state.Sound.{FormFits, IsRequest, IsRunning, IsSound, WantedFits}
+use Rattle.redir_host.specs.state.Sound.{FormFits, IsGuestRequest, IsRunning, IsSound, WantedFits}
 use Rattle.redir_host.proofs.lemmas.state.Sound.{Keeps}
 use Rattle.redir_host.proofs.lemmas.state.Each.{each_appended, each_filtered, each_weaker}
 
@@ -114,7 +114,7 @@ joins-keeps : {S : Type 0} (h : Host S) (id : ℕ) (f : Form) (t : Transfer) →
 joins-keeps h id f t sound greeted fits can = record {
   guest = refl;
   sound = record {
-    requests = each_appended (IsRequest h.guest) h.queue (request (is_control t.ep && h.resets_next) id f t) sound.requests (record {
+    requests = each_appended (IsGuestRequest h.guest) h.queue (request (is_control t.ep && h.resets_next) id f t) sound.requests (record {
       greeted = greeted;
       id_fits = fits;
       transfer = can.transfer;
@@ -159,19 +159,19 @@ data-keeps h id (moving.Interrupt ep status told body) sound greeted fits is =
 
 -- ---- cancels
 
-each-marked : (guest : RedirState) (qs : List Request) → Each (IsRequest guest) qs → Each (IsRequest guest) (with_first_marked qs)
+each-marked : (guest : RedirState) (qs : List Request) → Each (IsGuestRequest guest) qs → Each (IsGuestRequest guest) (with_first_marked qs)
 each-marked guest [] each = tt
 each-marked guest (q ∷ qs) each = by (is_first_queue q) refl (each-marked guest qs each.1)
   where
-    by : (b : Bool) → is_first_queue q ≡ b → Each (IsRequest guest) (with_first_marked qs) → Each (IsRequest guest) (cond b (marked q ∷ qs) (q ∷ with_first_marked qs))
+    by : (b : Bool) → is_first_queue q ≡ b → Each (IsGuestRequest guest) (with_first_marked qs) → Each (IsGuestRequest guest) (cond b (marked q ∷ qs) (q ∷ with_first_marked qs))
     by true first rest = (record { greeted = each.0.greeted; id_fits = each.0.id_fits; transfer = each.0.transfer; wanted_fits = each.0.wanted_fits; form_fits = each.0.form_fits; marked = λ _. first }, each.1)
     by false other rest = (each.0, rest)
 
-each-cancelled : (guest : RedirState) (id : ℕ) (qs : List Request) → Each (IsRequest guest) qs → Each (IsRequest guest) (after_cancel id qs)
+each-cancelled : (guest : RedirState) (id : ℕ) (qs : List Request) → Each (IsGuestRequest guest) qs → Each (IsGuestRequest guest) (after_cancel id qs)
 each-cancelled guest id [] each = tt
 each-cancelled guest id (q ∷ qs) each =
-    elim (is_cancelled_by id q) as (λ (b : Bool). Each (IsRequest guest) (cond b (cond q.reset (with_first_marked qs) qs) (q ∷ after_cancel id qs))) [
-      | true ↦ elim q.reset as (λ (b : Bool). Each (IsRequest guest) (cond b (with_first_marked qs) qs)) [ true ↦ each-marked guest qs each.1 | false ↦ each.1 ]
+    elim (is_cancelled_by id q) as (λ (b : Bool). Each (IsGuestRequest guest) (cond b (cond q.reset (with_first_marked qs) qs) (q ∷ after_cancel id qs))) [
+      | true ↦ elim q.reset as (λ (b : Bool). Each (IsGuestRequest guest) (cond b (with_first_marked qs) qs)) [ true ↦ each-marked guest qs each.1 | false ↦ each.1 ]
       | false ↦ (each.0, each-cancelled guest id qs each.1)
     ]
 
@@ -238,7 +238,7 @@ earlier false kind turn is = absurd (true≢false (sym turn ∙ ap (λ (n : ℕ)
 -- before the hello there is no request, and no stream
 hello-sound : {S : Type 0} (h : Host S) (guest : RedirState) → IsSound h → h.guest.first ≡ true → IsSound (record h { guest = guest })
 hello-sound h guest sound first = record {
-  requests = each_weaker (IsRequest h.guest) (IsRequest guest) (λ q is. absurd (true≢false (sym first ∙ is.greeted))) h.queue sound.requests;
+  requests = each_weaker (IsGuestRequest h.guest) (IsGuestRequest guest) (λ q is. absurd (true≢false (sym first ∙ is.greeted))) h.queue sound.requests;
   streams = each_weaker (IsRunning h.guest) (IsRunning guest) (λ s is. absurd (true≢false (sym first ∙ is.greeted))) h.running sound.streams;
 }
 

@@ -24,7 +24,7 @@ use Rattle.redir_host.specs.guest.Packets.{runs_at}
 use Rattle.redir_host.specs.device.Performing.{done_by, does, performs, resets, performs_marked, performs_any, with_id, first_performed, performed, perform_move, perform_move_by}
 use Rattle.usb_base.specs.Firsts.{without_first}
 use Rattle.redir_host.specs.state.Queues.{is_at}
-use Rattle.redir_host.specs.state.Sound.{IsRequest, IsSound}
+use Rattle.redir_host.specs.state.Sound.{IsGuestRequest, IsSound}
 use Rattle.redir_host.proofs.lemmas.step.Makes.{changed_guest, cleared_sound}
 
 -- the host after it reads as before, and is sound
@@ -95,12 +95,12 @@ each-without P test (x ∷ xs) each =
 
 -- without an endpoint's first request
 -- what is known of a queue's first request
-pub sound-first : {S : Type 0} (h : Host S) (ep : ℕ) (q : Request) → IsSound h → find (is_at ep) h.queue ≡ Some q → IsRequest h.guest q
-sound-first h ep q sound found = (each_found (IsRequest h.guest) (is_at ep) h.queue q sound.requests found).0
+pub sound-first : {S : Type 0} (h : Host S) (ep : ℕ) (q : Request) → IsSound h → find (is_at ep) h.queue ≡ Some q → IsGuestRequest h.guest q
+sound-first h ep q sound found = (each_found (IsGuestRequest h.guest) (is_at ep) h.queue q sound.requests found).0
 
 pub sound-without : {S : Type 0} (h : Host S) (ep : ℕ) (rest : List Request) (s : S) → IsSound h → rest ≡ without_first (is_at ep) h.queue → IsSound (record h { queue = rest; gadget = s })
 sound-without h ep rest s sound is = record {
-  requests = subst (Each (IsRequest h.guest)) (sym is) (each-without (IsRequest h.guest) (is_at ep) h.queue sound.requests);
+  requests = subst (Each (IsGuestRequest h.guest)) (sym is) (each-without (IsGuestRequest h.guest) (is_at ep) h.queue sound.requests);
   streams = sound.streams;
 }
 

@@ -5,11 +5,11 @@ use Rattle.std.proofs.lemmas.Bool.{true≢false}
 use Rattle.model_device.specs.Meaning.{Meaning}
 use Rattle.redir_host.specs.state.Kept.{HostKept}
 use Rattle.redir_host.specs.step.Acts.{Act}
-use Rattle.redir_host.specs.step.Stands.{Does, HasFailed, HasPast, HostStands, IsReady}
+use Rattle.redir_host.specs.step.Stands.{Does, HostHasFailed, HasPast, HostStands, IsReady}
 use Rattle.redir_host.proofs.lemmas.step.Wanted.{on_ok_given}
 
 -- it stands for one act more, or works no more
-ready-after : {S T E : Type 0} (m : Meaning S) (a : Act) (old mid new : HostKept S) (given : Result T E) (o0 o1 : List ℕ) → HasPast m old → OnOk given (Does m a old mid o0 o1) → OnOk given (new ≡ mid) → OnErr given (HasFailed new) → IsReady m new
+ready-after : {S T E : Type 0} (m : Meaning S) (a : Act) (old mid new : HostKept S) (given : Result T E) (o0 o1 : List ℕ) → HasPast m old → OnOk given (Does m a old mid o0 o1) → OnOk given (new ≡ mid) → OnErr given (HostHasFailed new) → IsReady m new
 ready-after {S = S} m a old mid new (Ok v) o0 o1 past does same failed works =
     let acts = past.1.0 in
     let Says : HostKept S → Type 0 = λ k. HostStands m past.0 k (a ∷ acts) in
@@ -17,7 +17,7 @@ ready-after {S = S} m a old mid new (Ok v) o0 o1 past does same failed works =
 ready-after m a old mid new (Err e) o0 o1 past does same failed works = absurd (true≢false (sym failed ∙ works))
 
 -- and it did for its caller what its host did
-pub after-call : {S T E : Type 0} (m : Meaning S) (a : Act) (seen old mid new : HostKept S) (result given : Result T E) (o0 o1 : List ℕ) → old ≡ seen → result ≡ given → HasPast m old → OnOk given (Does m a old mid o0 o1) → OnOk given (new ≡ mid) → OnErr given (HasFailed new)
+pub after-call : {S T E : Type 0} (m : Meaning S) (a : Act) (seen old mid new : HostKept S) (result given : Result T E) (o0 o1 : List ℕ) → old ≡ seen → result ≡ given → HasPast m old → OnOk given (Does m a old mid o0 o1) → OnOk given (new ≡ mid) → OnErr given (HostHasFailed new)
     → IsReady m new × OnOk result (Does m a seen new o0 o1)
 after-call {S = S} m a seen old mid new result given o0 o1 is handed past does same failed =
     let Says : HostKept S → Type 0 = λ k. Does m a k new o0 o1 in

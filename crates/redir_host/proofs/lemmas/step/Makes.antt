@@ -36,7 +36,7 @@ use Rattle.redir_host.specs.state.Queues.{is_at}
 use Rattle.redir_host.specs.guest.Asking.{routed}
 use Rattle.redir_host.specs.device.Resets.{PerformsNow, ResetsTo}
 use Rattle.redir_host.specs.write.Readable.{InRange}
-use Rattle.redir_host.specs.state.Sound.{IsRequest, IsRunning, IsSound}
+use Rattle.redir_host.specs.state.Sound.{IsGuestRequest, IsRunning, IsSound}
 use Rattle.redir_host.proofs.lemmas.write.Flushes.{flat_map-append}
 use Rattle.redir_host.proofs.lemmas.state.Each.{each_appended, each_filtered, each_joined, given_if}
 
@@ -205,16 +205,16 @@ done_guest m t h q (Some r) o = changed_guest m r t (is_success o.status) h
 
 -- the guest's requests stand as before, or some of them do
 pub cleared_sound : {S : Type 0} (m : Meaning S) (r : Route) (t : EpTable) (b : Bool) (h : Host S) → IsSound h → IsSound (changed m r t b h).host
-cleared_sound m r t true h s = record { requests = each_filtered (IsRequest h.guest) (stays r t) h.queue s.requests; streams = each_filtered (IsRunning h.guest) (runs_on r t) h.running s.streams }
+cleared_sound m r t true h s = record { requests = each_filtered (IsGuestRequest h.guest) (stays r t) h.queue s.requests; streams = each_filtered (IsRunning h.guest) (runs_on r t) h.running s.streams }
 cleared_sound m r t false h s = s
 
 pub changed_sound : {S : Type 0} (m : Meaning S) (r : Route) (t : EpTable) (b : Bool) (h new : Host S) (o0 o1 : List ℕ) → IsSound h → Makes (changed m r t b h) new o0 o1 → IsSound new
 changed_sound {S = S} m r t b h new o0 o1 s made = let Says : Host S → Type 0 = λ x. IsSound x in subst Says (sym made.host) (cleared_sound m r t b h s)
 
-pub changed_request : {S : Type 0} (m : Meaning S) (r : Route) (t : EpTable) (b : Bool) (h new : Host S) (o0 o1 : List ℕ) (q : Request) → IsRequest h.guest q → Makes (changed m r t b h) new o0 o1 → IsRequest new.guest q
+pub changed_request : {S : Type 0} (m : Meaning S) (r : Route) (t : EpTable) (b : Bool) (h new : Host S) (o0 o1 : List ℕ) (q : Request) → IsGuestRequest h.guest q → Makes (changed m r t b h) new o0 o1 → IsGuestRequest new.guest q
 changed_request {S = S} m r t b h new o0 o1 q is made =
     let same : h.guest ≡ new.guest = sym (changed_guest m r t b h) ∙ sym (ap (λ (x : Host S). x.guest) made.host) in
-    subst (λ (g : RedirState). IsRequest g q) same is
+    subst (λ (g : RedirState). IsGuestRequest g q) same is
 
 made_behind : {S : Type 0} (v w : Move S) (before new : Host S) (o0 o1 o2 : List ℕ) → w.host.guest ≡ v.host.guest → Tells v before o0 o1 → Tells w new o1 o2 → Tells (behind v w) new o0 o2
 made_behind v w before new o0 o1 o2 keeps a b =
@@ -284,5 +284,5 @@ performed_now (Some v) h new q o0 o1 now = record { told = refl; tells = now }
 pub reset_sound : {S : Type 0} (m : Meaning S) (h after : Host S) (o : Outcome) → IsSound h → ResetsTo m h after o → IsSound after
 reset_sound {S = S} m h after o s reset = let Says : Host S → Type 0 = λ x. IsSound x in subst Says (sym reset.rest) (record { requests = s.requests; streams = s.streams })
 
-pub reset_request : {S : Type 0} (m : Meaning S) (h after : Host S) (o : Outcome) (q : Request) → IsRequest h.guest q → ResetsTo m h after o → IsRequest after.guest q
-reset_request {S = S} m h after o q is reset = let Says : Host S → Type 0 = λ x. IsRequest x.guest q in subst Says (sym reset.rest) is
+pub reset_request : {S : Type 0} (m : Meaning S) (h after : Host S) (o : Outcome) (q : Request) → IsGuestRequest h.guest q → ResetsTo m h after o → IsGuestRequest after.guest q
+reset_request {S = S} m h after o q is reset = let Says : Host S → Type 0 = λ x. IsGuestRequest x.guest q in subst Says (sym reset.rest) is

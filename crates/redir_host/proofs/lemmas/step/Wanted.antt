@@ -27,7 +27,7 @@ use Rattle.redir_host.specs.guest.Asking.{routed}
 use Rattle.redir_host.specs.guest.Packets.{runs_at}
 use Rattle.usb_base.specs.Firsts.{without_first}
 use Rattle.redir_host.specs.state.Queues.{is_at}
-use Rattle.redir_host.specs.state.Sound.{IsRequest}
+use Rattle.redir_host.specs.state.Sound.{IsGuestRequest}
 use Rattle.redir_host.specs.step.Acts.{Act}
 use Rattle.redir_host.specs.step.History.{brought}
 use Rattle.redir_host.specs.step.Items.{Item}
@@ -123,13 +123,13 @@ some-performs : {S : Type 0} (m : Meaning S) (h : Host S) (q : Request) → IsSo
 some-performs m h q some = some-does m h q (change_of q.form) (m.perform h.gadget q.transfer) some
 
 -- a marked request is one of endpoint 0, for which the device is always ready
-some-resets : {S : Type 0} (m : Meaning S) → IsGadget m → (h : Host S) (q : Request) (guest : RedirState) → IsRequest guest q → is_control q.transfer.ep ≡ true → (o : Option (S × Outcome)) → IsSome o → IsSome (resets m h q o)
+some-resets : {S : Type 0} (m : Meaning S) → IsGadget m → (h : Host S) (q : Request) (guest : RedirState) → IsGuestRequest guest q → is_control q.transfer.ep ≡ true → (o : Option (S × Outcome)) → IsSome o → IsSome (resets m h q o)
 some-resets m lawful h q guest is control None some = absurd cc
 some-resets m lawful h q guest is control (Some done) some =
     let after = (reset_move m h done).host in
     some-behind (reset_move m h done) (performs m after q) (some-performs m after q (lawful.ready after.gadget q.transfer is.transfer control))
 
-some-marked : {S : Type 0} (m : Meaning S) → IsGadget m → (h : Host S) (q : Request) (guest : RedirState) → IsRequest guest q → is_control q.transfer.ep ≡ true → (f : Form) → IsSome (performs_marked m h q f)
+some-marked : {S : Type 0} (m : Meaning S) → IsGadget m → (h : Host S) (q : Request) (guest : RedirState) → IsGuestRequest guest q → is_control q.transfer.ep ≡ true → (f : Form) → IsSome (performs_marked m h q f)
 some-marked {S = S} m lawful h q guest is control f = by f
   where
     reset : IsSome (m.perform h.gadget (routed route.Reset))
@@ -162,7 +162,7 @@ found-some {S = S} m h ep q b plugged found mark some =
     subst Says (found-is m h ep q plugged found)
     (some-named q (performs_any m rest q) (subst (λ (x : Bool). IsSome (cond x (performs_marked m rest q q.form) (performs m rest q))) (sym mark) some))
 
-pub marked-some : {S : Type 0} (m : Meaning S) → IsGadget m → (h : Host S) (ep : ℕ) (q : Request) → h.unplugged ≡ false → find (is_at ep) h.queue ≡ Some q → q.reset ≡ true → IsRequest h.guest q → IsSome (performed m h ep)
+pub marked-some : {S : Type 0} (m : Meaning S) → IsGadget m → (h : Host S) (ep : ℕ) (q : Request) → h.unplugged ≡ false → find (is_at ep) h.queue ≡ Some q → q.reset ≡ true → IsGuestRequest h.guest q → IsSome (performed m h ep)
 marked-some {S = S} m lawful h ep q plugged found mark is =
     let rest : Host S = record h { queue = without_first (is_at ep) h.queue } in
     found-some m h ep q true plugged found mark (some-marked m lawful rest q h.guest is (is.marked mark) q.form)

@@ -19,7 +19,7 @@ use Rattle.redir_host.specs.declared.state.request.Request.{Request}
 use Rattle.chapter9.specs.Standard.{ended}
 use Rattle.redir_host.specs.write.Answers.{answer_by}
 use Rattle.redir_host.specs.step.Makes.{AnswerFits, LengthFits}
-use Rattle.redir_host.specs.state.Sound.{CanTell, DoneFits, WantedFits, IsRequest}
+use Rattle.redir_host.specs.state.Sound.{CanTell, DoneFits, WantedFits, IsGuestRequest}
 
 more_bytes : (wide : Bool) → cond wide 2 0 ≤ 2
 more_bytes true = omega arith
@@ -105,7 +105,7 @@ moved q o is = elim (cases_Bool (is_in_endpoint q.transfer.ep)) [
   | inr out ↦ let e : length o.body ≡ 0 = ap length (is.to_device out) in (e ∙ sym (ap (λ (b : Bool). cond b o.done 0) out), omega arith)
 ]
 
-pub outcome_fits : (guest : RedirState) (q : Request) (o : Outcome) → IsRequest guest q → IsOutcome q.transfer o → AnswerFits guest.caps q.form q.transfer.ep o
+pub outcome_fits : (guest : RedirState) (q : Request) (o : Outcome) → IsGuestRequest guest q → IsOutcome q.transfer o → AnswerFits guest.caps q.form q.transfer.ep o
 outcome_fits guest q o is came = record {
   done = outcome_done guest.caps q.form q.transfer.wanted o.done is.wanted_fits came.done;
   length_fits = outcome_length guest.caps q.form q.transfer.wanted o.done is.wanted_fits came.done;

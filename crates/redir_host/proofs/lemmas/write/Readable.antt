@@ -47,7 +47,7 @@ use Rattle.redir_host.specs.device.Performing.{done_by, does, performs, resets, 
 use Rattle.usb_base.specs.Firsts.{without_first}
 use Rattle.redir_host.specs.state.Queues.{is_at}
 use Rattle.redir_host.specs.write.Readable.{AreRead, InRange}
-use Rattle.redir_host.specs.state.Sound.{FormFits, IsRequest, IsRunning, IsSound}
+use Rattle.redir_host.specs.state.Sound.{FormFits, IsGuestRequest, IsRunning, IsSound}
 use Rattle.redir_host.proofs.lemmas.write.Answers.{can_answer, ended_fits, few_wanted, outcome_fits}
 use Rattle.redir_host.proofs.lemmas.state.Sound.{each-without, unplugged-by, with-gadget}
 use Rattle.redir_host.proofs.lemmas.step.Makes.{changed_guest, cleared_sound, nothing_moved, reset_transfer}
@@ -72,10 +72,10 @@ answer-read caps configuration id (form.SetAlt interface alt) ep o fits a own fe
 answer-read caps configuration id (form.GetAlt interface) ep o fits a own few =
     control_sent ToGuest caps id (plain.AltStatus (status_byte o.status) interface (alt_in o)) refl tt (can_answer caps configuration id (form.GetAlt interface) ep o fits a) refl
 
-pub cancelled-read : (guest : RedirState) (q : Request) → IsRequest guest q → CanBeRead ToGuest guest.caps (cancelled q)
+pub cancelled-read : (guest : RedirState) (q : Request) → IsGuestRequest guest q → CanBeRead ToGuest guest.caps (cancelled q)
 cancelled-read guest q is = answer-read guest.caps 0 q.id q.form q.transfer.ep (ended Cancelled) is.id_fits (ended_fits guest.caps q.form q.transfer.ep Cancelled) is.form_fits (lit< tt)
 
-outcome-read : (guest : RedirState) (configuration : ℕ) (q : Request) (o : Outcome) → IsRequest guest q → IsOutcome q.transfer o → CanBeRead ToGuest guest.caps (answer configuration q o)
+outcome-read : (guest : RedirState) (configuration : ℕ) (q : Request) (o : Outcome) → IsGuestRequest guest q → IsOutcome q.transfer o → CanBeRead ToGuest guest.caps (answer configuration q o)
 outcome-read guest configuration q o is came =
     let few = few_wanted guest.caps q.form q.transfer.wanted is.wanted_fits in
     let done = came.done in
@@ -89,12 +89,12 @@ facts-read m lawful caps s fit = (
   (control_sent ToGuest caps 0 (plain.InterfaceInfo (m.interfaces s)) refl fit.1.0 (interface_info caps (m.interfaces s) (lawful.few_interfaces s)) refl, tt),
 )
 
-flushed-read : (guest : RedirState) (qs : List Request) → Each (IsRequest guest) qs → Each (CanBeRead ToGuest guest.caps) (map cancelled qs)
+flushed-read : (guest : RedirState) (qs : List Request) → Each (IsGuestRequest guest) qs → Each (CanBeRead ToGuest guest.caps) (map cancelled qs)
 flushed-read guest [] each = tt
 flushed-read guest (q ∷ qs) each = (cancelled-read guest q each.0, flushed-read guest qs each.1)
 
 cleared-read : {S : Type 0} (success : Bool) (r : Route) (t : EpTable) (h : Host S) → IsSound h → Each (CanBeRead ToGuest h.guest.caps) (cleared success r t h).sent
-cleared-read true r t h sound = flushed-read h.guest (filter (touched r t) h.queue) (each_filtered (IsRequest h.guest) (touched r t) h.queue sound.requests)
+cleared-read true r t h sound = flushed-read h.guest (filter (touched r t) h.queue) (each_filtered (IsGuestRequest h.guest) (touched r t) h.queue sound.requests)
 cleared-read false r t h sound = tt
 
 changed-read : {S : Type 0} (m : Meaning S) → IsGadget m → (r : Route) (t : EpTable) (success : Bool) (h : Host S) → IsSound h → Each InRange (changed m r t success h).sent → Each (CanBeRead ToGuest h.guest.caps) (changed m r t success h).sent
@@ -105,7 +105,7 @@ changed-read {S = S} m lawful r t success h sound fit =
 
 -- ---- performs
 
-done-read : {S : Type 0} (m : Meaning S) → IsGadget m → (t : EpTable) (h : Host S) (q : Request) (r : Option Route) (o : Outcome) → IsSound h → IsRequest h.guest q → IsOutcome q.transfer o → Each InRange (done_by m t h q r o).sent →
+done-read : {S : Type 0} (m : Meaning S) → IsGadget m → (t : EpTable) (h : Host S) (q : Request) (r : Option Route) (o : Outcome) → IsSound h → IsGuestRequest h.guest q → IsOutcome q.transfer o → Each InRange (done_by m t h q r o).sent →
     Each (CanBeRead ToGuest h.guest.caps) (done_by m t h q r o).sent
 done-read m lawful t h q None o sound is came fit = (outcome-read h.guest (m.configuration h.gadget) q o is came, tt)
 done-read {S = S} m lawful t h q (Some r) o sound is came fit =
@@ -117,20 +117,20 @@ abbrev ReadIf : {S : Type 0} → Caps → Option (Move S) → Type 0
 ReadIf caps None = Unit {0}
 ReadIf caps (Some v) = Each InRange v.sent → Each (CanBeRead ToGuest caps) v.sent
 
-does-read : {S : Type 0} (m : Meaning S) → IsGadget m → (h : Host S) (q : Request) (r : Option Route) (o : Option (S × Outcome)) → IsSound h → IsRequest h.guest q → IfSome o (λ done. IsOutcome q.transfer done.1) → ReadIf h.guest.caps (does m h q r o)
+does-read : {S : Type 0} (m : Meaning S) → IsGadget m → (h : Host S) (q : Request) (r : Option Route) (o : Option (S × Outcome)) → IsSound h → IsGuestRequest h.guest q → IfSome o (λ done. IsOutcome q.transfer done.1) → ReadIf h.guest.caps (does m h q r o)
 does-read m lawful h q r None sound is came = tt
 does-read {S = S} m lawful h q r (Some done) sound is came =
     let g : Host S = record h { gadget = done.0 } in
     λ fit. done-read m lawful (m.table h.gadget) g q r done.1 (with-gadget h done.0 sound) is came fit
 
-performs-read : {S : Type 0} (m : Meaning S) → IsGadget m → (h : Host S) (q : Request) → IsSound h → IsRequest h.guest q → ReadIf h.guest.caps (performs m h q)
+performs-read : {S : Type 0} (m : Meaning S) → IsGadget m → (h : Host S) (q : Request) → IsSound h → IsGuestRequest h.guest q → ReadIf h.guest.caps (performs m h q)
 performs-read m lawful h q sound is = does-read m lawful h q (change_of q.form) (m.perform h.gadget q.transfer) sound is (lawful.outcomes h.gadget q.transfer is.transfer)
 
 follows-read : {S : Type 0} (caps : Caps) (v : Move S) (o : Option (Move S)) → (Each InRange v.sent → Each (CanBeRead ToGuest caps) v.sent) → ReadIf caps o → ReadIf caps (option_map (behind v) o)
 follows-read caps v None f g = tt
 follows-read caps v (Some w) f g = λ fit. each_joined (CanBeRead ToGuest caps) v.sent w.sent (f (each_front InRange v.sent w.sent fit)) (g (each_behind InRange v.sent w.sent fit))
 
-resets-read : {S : Type 0} (m : Meaning S) → IsGadget m → (h : Host S) (q : Request) (o : Option (S × Outcome)) → IsSound h → IsRequest h.guest q → ReadIf h.guest.caps (resets m h q o)
+resets-read : {S : Type 0} (m : Meaning S) → IsGadget m → (h : Host S) (q : Request) (o : Option (S × Outcome)) → IsSound h → IsGuestRequest h.guest q → ReadIf h.guest.caps (resets m h q o)
 resets-read m lawful h q None sound is = tt
 resets-read {S = S} m lawful h q (Some done) sound is =
     let g : Host S = record h { gadget = done.0 } in
@@ -139,7 +139,7 @@ resets-read {S = S} m lawful h q (Some done) sound is =
     let v : Move S = changed m route.Reset (m.table h.gadget) success g in
     let same : v.host.guest ≡ h.guest = changed_guest m route.Reset (m.table h.gadget) success g in
     let then : ReadIf v.host.guest.caps (performs m v.host q) =
-    performs-read m lawful v.host q (cleared_sound m route.Reset (m.table h.gadget) success g still) (subst (λ (x : RedirState). IsRequest x q) (sym same) is) in
+    performs-read m lawful v.host q (cleared_sound m route.Reset (m.table h.gadget) success g still) (subst (λ (x : RedirState). IsGuestRequest x q) (sym same) is) in
     follows-read h.guest.caps v (performs m v.host q) (λ fit. changed-read m lawful route.Reset (m.table h.gadget) success g still fit)
     (subst (λ (x : RedirState). ReadIf x.caps (performs m v.host q)) same then)
 
@@ -147,7 +147,7 @@ moved-nothing : {S : Type 0} (q : Request) (o : Option (S × Outcome)) → IfSom
 moved-nothing q None is = tt
 moved-nothing q (Some done) is = nothing_moved q.transfer done.1 is
 
-marked-read : {S : Type 0} (m : Meaning S) → IsGadget m → (h : Host S) (q : Request) (f : Form) → IsSound h → IsRequest h.guest q → ReadIf h.guest.caps (performs_marked m h q f)
+marked-read : {S : Type 0} (m : Meaning S) → IsGadget m → (h : Host S) (q : Request) (f : Form) → IsSound h → IsGuestRequest h.guest q → ReadIf h.guest.caps (performs_marked m h q f)
 marked-read m lawful h q (form.Control setup) sound is = resets-read m lawful h q (m.perform h.gadget (routed route.Reset)) sound is
 marked-read m lawful h q (form.Bulk stream) sound is = resets-read m lawful h q (m.perform h.gadget (routed route.Reset)) sound is
 marked-read m lawful h q form.Interrupt sound is = resets-read m lawful h q (m.perform h.gadget (routed route.Reset)) sound is
@@ -157,7 +157,7 @@ marked-read m lawful h q form.GetConfiguration sound is =
 marked-read m lawful h q (form.SetAlt interface alt) sound is = resets-read m lawful h q (m.perform h.gadget (routed route.Reset)) sound is
 marked-read m lawful h q (form.GetAlt interface) sound is = resets-read m lawful h q (m.perform h.gadget (routed route.Reset)) sound is
 
-any-read : {S : Type 0} (m : Meaning S) → IsGadget m → (h : Host S) (q : Request) (b : Bool) → IsSound h → IsRequest h.guest q → ReadIf h.guest.caps (cond b (performs_marked m h q q.form) (performs m h q))
+any-read : {S : Type 0} (m : Meaning S) → IsGadget m → (h : Host S) (q : Request) (b : Bool) → IsSound h → IsGuestRequest h.guest q → ReadIf h.guest.caps (cond b (performs_marked m h q q.form) (performs m h q))
 any-read m lawful h q true sound is = marked-read m lawful h q q.form sound is
 any-read m lawful h q false sound is = performs-read m lawful h q sound is
 
@@ -172,12 +172,12 @@ read-by : {S : Type 0} (guest : RedirState) (h : Host S) (q : Request) (o : Opti
 read-by guest h q None greeted read fit = nothing-sent guest
 read-by guest h q (Some v) greeted read fit = are-read guest v.sent greeted (read fit)
 
-first-read : {S : Type 0} (m : Meaning S) → IsGadget m → (h : Host S) (ep : ℕ) (o : Option Request) → IsSound h → IfSome o (λ q. IsRequest h.guest q × (is_at ep q ≡ true)) → Each InRange (perform_move_by h (first_performed m h ep o)).sent →
+first-read : {S : Type 0} (m : Meaning S) → IsGadget m → (h : Host S) (ep : ℕ) (o : Option Request) → IsSound h → IfSome o (λ q. IsGuestRequest h.guest q × (is_at ep q ≡ true)) → Each InRange (perform_move_by h (first_performed m h ep o)).sent →
     AreRead h.guest (perform_move_by h (first_performed m h ep o)).sent
 first-read m lawful h ep None sound is fit = nothing-sent h.guest
 first-read {S = S} m lawful h ep (Some q) sound is fit =
     let g : Host S = record h { queue = without_first (is_at ep) h.queue } in
-    let rest : IsSound g = record { requests = each-without (IsRequest h.guest) (is_at ep) h.queue sound.requests; streams = sound.streams } in
+    let rest : IsSound g = record { requests = each-without (IsGuestRequest h.guest) (is_at ep) h.queue sound.requests; streams = sound.streams } in
     let own = is.0 in
     read-by h.guest h q (performs_any m g q) own.greeted (any-read m lawful g q q.reset rest own) fit
 
@@ -189,7 +189,7 @@ perform-read {S = S} m lawful h ep sound = by h.unplugged
 
     by : (b : Bool) → Each InRange (perform_move_by h (one b)).sent → AreRead h.guest (perform_move_by h (one b)).sent
     by true fit = nothing-sent h.guest
-    by false fit = first-read m lawful h ep (find (is_at ep) h.queue) sound (if_found (IsRequest h.guest) (is_at ep) h.queue sound.requests) fit
+    by false fit = first-read m lawful h ep (find (is_at ep) h.queue) sound (if_found (IsGuestRequest h.guest) (is_at ep) h.queue sound.requests) fit
 
 -- ---- offers, and the end
 

@@ -44,7 +44,7 @@ use Rattle.redir_host.specs.step.Moves.{Move, quiet}
 use Rattle.redir_host.specs.guest.Packets.{can_start, cancel_move, data_move, greets, packet_move, packet_move_by, start_move, status_of}
 use Rattle.redir_host.specs.state.Queues.{is_cancelled_by}
 use Rattle.redir_host.specs.write.Readable.{AreRead, InRange, TakesInRange, Unless}
-use Rattle.redir_host.specs.state.Sound.{FormFits, IsRequest, IsSound}
+use Rattle.redir_host.specs.state.Sound.{FormFits, IsGuestRequest, IsSound}
 use Rattle.redir_host.proofs.lemmas.write.Answers.{ended_fits}
 use Rattle.redir_host.proofs.lemmas.guest.Sound.{carried, earlier, later}
 use Rattle.redir_host.proofs.lemmas.write.Readable.{answer-read, are-read, cancelled-read, facts-read, nothing-sent}
@@ -64,7 +64,7 @@ start-read : {S : Type 0} (h : Host S) (id : ℕ) (k : StreamKind) (ep : ℕ) (b
 start-read h id k ep true fits = (status-read h.guest.caps id k Success ep fits, tt)
 start-read h id k ep false fits = (status-read h.guest.caps id k Inval ep fits, tt)
 
-cancel-read : {S : Type 0} (h : Host S) (id : ℕ) (o : Option Request) → IfSome o (λ q. IsRequest h.guest q × (is_cancelled_by id q ≡ true)) → Reads h (cancel_move h id o)
+cancel-read : {S : Type 0} (h : Host S) (id : ℕ) (o : Option Request) → IfSome o (λ q. IsGuestRequest h.guest q × (is_cancelled_by id q ≡ true)) → Reads h (cancel_move h id o)
 cancel-read h id None is = tt
 cancel-read h id (Some q) is = (cancelled-read h.guest q is.0, tt)
 
@@ -92,7 +92,7 @@ plain-read m h id (plain.StartIso ep pkts_per_urb no_urbs) other sound fits = st
 plain-read m h id (plain.StopIso ep) other sound fits = (status-read h.guest.caps id Iso Success ep fits, tt)
 plain-read m h id (plain.StartInterrupt ep) other sound fits = start-read h id Interrupt ep (can_start (m.table h.gadget) Interrupt ep) fits
 plain-read m h id (plain.StopInterrupt ep) other sound fits = (status-read h.guest.caps id Interrupt Success ep fits, tt)
-plain-read m h id plain.Cancel other sound fits = cancel-read h id (find (is_cancelled_by id) h.queue) (if_found (IsRequest h.guest) (is_cancelled_by id) h.queue sound.requests)
+plain-read m h id plain.Cancel other sound fits = cancel-read h id (find (is_cancelled_by id) h.queue) (if_found (IsGuestRequest h.guest) (is_cancelled_by id) h.queue sound.requests)
 plain-read m h id _ other sound fits = tt
 
 greeting-read : {S : Type 0} (m : Meaning S) → IsGadget m → (h : Host S) → Each InRange (greets m h).sent → Reads h (greets m h)

@@ -6,7 +6,7 @@ use Rattle.gate_history.specs.step.History.{history}
 use Rattle.model_device.specs.Meaning.{Meaning}
 use Rattle.direct_run.specs.declared.told.Told.{Told}
 use Rattle.direct_run.specs.Kept.{SystemKept}
-use Rattle.direct_run.specs.Stands.{SystemStands, Takes}
+use Rattle.direct_run.specs.Stands.{SystemStands, TakesStep}
 use Rattle.direct_run.specs.Steps.{Step}
 use Rattle.direct_run.specs.World.{first_id, course}
 use Rattle.usbgate_tapes.specs.declared.model.ModelRun.{ModelRun}
@@ -27,7 +27,7 @@ abbrev pub TakesSaid : {S : Type 0} → Meaning S → S → SystemKept S → Lis
 TakesSaid m s new steps None None = SystemStands m s new steps
 TakesSaid m s new steps None (Some told) = ⊥
 TakesSaid m s new steps (Some x) None = ⊥
-TakesSaid m s new steps (Some x) (Some told) = Takes m s new steps x told
+TakesSaid m s new steps (Some x) (Some told) = TakesStep m s new steps x told
 
 abbrev pub has_some : List Refusal → Bool
 has_some [] = false

@@ -135,7 +135,7 @@ pub record ReadsTo {C S T : Type 0} (read_gives : T → List ℕ → Result ℕ 
   pub where_told : ComesToEnd status ((tape : List ℕ) → remaining old ≡ Some tape → SomeKeeps Keeps (read_tape command tape).after.kept)
 
 -- what a run leaves, and to what it has read
-pub record Runs {C T S K : Type 0} (command : TapeCommand T) (Keeps : C → T → Type 0) (read_gives : S → List ℕ → Result ℕ Failed → S → Type 0) (write_gives : K → List ℕ → Result ℕ Failed → K → Type 0) (remaining : S → Option (List ℕ)) (contents : K → Option (List ℕ))
+pub record ReaderRuns {C T S K : Type 0} (command : TapeCommand T) (Keeps : C → T → Type 0) (read_gives : S → List ℕ → Result ℕ Failed → S → Type 0) (write_gives : K → List ℕ → Result ℕ Failed → K → Type 0) (remaining : S → Option (List ℕ)) (contents : K → Option (List ℕ))
     (status : Status) (tape_old tape_new : S) (out_old out_new : K) : Type 0 where
   pub leaves : RunLeaves read_gives write_gives remaining contents status (tape_printout command) tape_old tape_new out_old out_new
   pub kept : ReadsTo read_gives remaining status Keeps command tape_old tape_new

@@ -11,7 +11,7 @@ use Rattle.bridge_run.specs.course.Serves.{Leaves}
 use Rattle.bridge_run.specs.declared.course.rounds.Rounds.{Rounds}
 use Rattle.bridge_run.specs.inner.Lending.{IsLent}
 use Rattle.bridge_run.specs.inner.Keeping.{begun}
-use Rattle.bridge_run.specs.inner.Follows.{Follows, setting}
+use Rattle.bridge_run.specs.inner.Follows.{IsServing, setting}
 use Rattle.bridge_run.proofs.lemmas.course.Rest.{faults-then}
 use Rattle.bridge_run.proofs.lemmas.course.Idle.{reason-from}
 use Rattle.bridge_run.proofs.lemmas.course.Open.{door-short, door-unmade, door-follows}
@@ -43,8 +43,8 @@ returns-clause-leaves g c = λ k b t.
     let out = written (g.K.Sink.contents c.args.out.now) (g.K.Sink.contents c.args.out.now) None in
     let core = c.new-session.result.core in
     let stands : List LinkEvent → Type 0 = λ events. IsLent m first core events in
-    subst (λ (q : Rounds). Follows stands p q w (gathering (g.K.Sink.contents c.args.out.now) (g.K.Sink.contents c.args.out.now) None c.new-session.result.waiting) k → Leaves c.run.result (LentStops m first) (setting p q) (Goes AtDoor k) ends (written (g.K.Sink.contents c.args.out.now) (g.K.Sink.contents c.run.new.out) None)) (c.new-session.ensures.rounds ∙ c.new.ensures) (c.run.ensures.course first (g.K.Sink.contents c.args.out.now) k)
-    (subst (λ (l : List ℕ). Follows stands p (begun c.args.idle c.args.budget) w (gathering (g.K.Sink.contents c.args.out.now) (g.K.Sink.contents c.args.out.now) None l) k) (sym c.new-session.ensures.waiting)
+    subst (λ (q : Rounds). IsServing stands p q w (gathering (g.K.Sink.contents c.args.out.now) (g.K.Sink.contents c.args.out.now) None c.new-session.result.waiting) k → Leaves c.run.result (LentStops m first) (setting p q) (Goes AtDoor k) ends (written (g.K.Sink.contents c.args.out.now) (g.K.Sink.contents c.run.new.out) None)) (c.new-session.ensures.rounds ∙ c.new.ensures) (c.run.ensures.course first (g.K.Sink.contents c.args.out.now) k)
+    (subst (λ (l : List ℕ). IsServing stands p (begun c.args.idle c.args.budget) w (gathering (g.K.Sink.contents c.args.out.now) (g.K.Sink.contents c.args.out.now) None l) k) (sym c.new-session.ensures.waiting)
     (door-follows stands p c.args.idle c.args.budget
     (outside (g.D.Doors.link c.args.doors.now) (g.D.Doors.door c.args.doors.now)) w out k b (subst (λ x. IsLent m first x []) (sym c.new-session.ensures.core) c.in-Ok.ensures) refl t
     c.in_default.ensures.listens.1 c.in_default.ensures.other c.in_default.ensures.listens.0))

@@ -9,7 +9,7 @@ use Rattle.bridge_run.specs.course.Serves.{Leaves}
 use Rattle.bridge_run.specs.declared.course.rounds.Rounds.{Rounds}
 use Rattle.bridge_run.specs.declared.served.gate.Gateway.{Gateway}
 use Rattle.bridge_run.specs.inner.Keeping.{begun}
-use Rattle.bridge_run.specs.inner.Follows.{Follows, setting}
+use Rattle.bridge_run.specs.inner.Follows.{IsServing, setting}
 use Rattle.bridge_run.specs.served.Gate.{gate_events, gate_sends}
 use Rattle.bridge_run.specs.served.GateStops.{gate_runs_out}
 use Rattle.bridge_run.proofs.lemmas.course.Course.{reaches-none, reaches-call, leaves-then, cut-leaves, cut-next}
@@ -49,8 +49,8 @@ returns-clause-leaves g c = λ k b t.
     let tells = c.in_default.ensures.course p k out (c.as_slice.ensures ∙ c.in-Ok.ensures.sent ∙ ap (λ (l : List ℕ). l ++ out_host first []) c.new-hello.ensures) b.client_down t in
     leaves-then c.run.result (gate_runs_out first) s (Goes Making k) AtDoor (make p k) ends (written (g.K.Sink.contents c.args.out.now) (g.K.Sink.contents c.run.new.out) (g.T.Tape.contents c.run.new.tape))
     (reaches-call s (Goes Making k) Making k (Goes AtDoor (make p k)) (reaches-none s (Goes Making k)) refl)
-    (subst (λ (q : Rounds). Follows stands p q w (gathering (g.K.Sink.contents c.args.out.now) (g.K.Sink.contents c.args.out.now) (g.T.Tape.contents c.args.tape.now) c.new-session.result.waiting) (make p k) → Leaves c.run.result (gate_runs_out first) (setting p q) (Goes AtDoor (make p k)) ends (written (g.K.Sink.contents c.args.out.now) (g.K.Sink.contents c.run.new.out) (g.T.Tape.contents c.run.new.tape))) (c.new-session.ensures.rounds ∙ ap (λ (q : Rounds). record q { host_up = true }) c.new.ensures) (c.run.ensures.course (c.args.after_loss, first) (g.K.Sink.contents c.args.out.now) (make p k))
-    (subst (λ (l : List ℕ). Follows stands p (record (begun c.args.idle c.args.budget) { host_up = true }) w (gathering (g.K.Sink.contents c.args.out.now) (g.K.Sink.contents c.args.out.now) (g.T.Tape.contents c.args.tape.now) l) (make p k)) (sym c.new-session.ensures.waiting)
+    (subst (λ (q : Rounds). IsServing stands p q w (gathering (g.K.Sink.contents c.args.out.now) (g.K.Sink.contents c.args.out.now) (g.T.Tape.contents c.args.tape.now) c.new-session.result.waiting) (make p k) → Leaves c.run.result (gate_runs_out first) (setting p q) (Goes AtDoor (make p k)) ends (written (g.K.Sink.contents c.args.out.now) (g.K.Sink.contents c.run.new.out) (g.T.Tape.contents c.run.new.tape))) (c.new-session.ensures.rounds ∙ ap (λ (q : Rounds). record q { host_up = true }) c.new.ensures) (c.run.ensures.course (c.args.after_loss, first) (g.K.Sink.contents c.args.out.now) (make p k))
+    (subst (λ (l : List ℕ). IsServing stands p (record (begun c.args.idle c.args.budget) { host_up = true }) w (gathering (g.K.Sink.contents c.args.out.now) (g.K.Sink.contents c.args.out.now) (g.T.Tape.contents c.args.tape.now) l) (make p k)) (sym c.new-session.ensures.waiting)
     (begun-follows stands p c.args.idle c.args.budget w out k b (subst (λ (x : Gateway). (x.after_loss ≡ c.args.after_loss) × Stands first x.gate (gate_events [])) (sym c.new-session.ensures.core) (refl, c.in-Ok.ensures.made)) refl tells)))
 
 pub returns-clause-cause : goal.returns-clause-cause

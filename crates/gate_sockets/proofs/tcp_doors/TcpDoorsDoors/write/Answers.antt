@@ -2,7 +2,7 @@ use Rattle.std.proofs.Common.{◌≡◌, ◌+◌, IsTrue, ap, sym, subst, ◌∙
 use Rattle.gate_outside.specs.Doors.{faulted}
 use Rattle.gate_outside.specs.Link.{Link, other}
 use Rattle.gate_sockets.specs.State.{State, States, state_of, link_of, untold}
-use Rattle.gate_sockets.specs.Writing.{Waited, Sends}
+use Rattle.gate_sockets.specs.Writing.{Waited, WritesFront}
 use Rattle.gate_sockets.proofs.Calling.{sends-join, tried-again, given-up, called-untold, waited-untold}
 use Rattle.gate_sockets.proofs.Sides.{read-both, read-further, read-same}
 use Rattle.gate_sockets.proofs.tcp_doors.TcpDoorsDoors.write.Goals as goal
@@ -17,7 +17,7 @@ pub returns-in-Some-clause-side : goal.returns-in-Some-clause-side
 returns-in-Some-clause-side g c =
     let side = c.args.side in
     let sends = sends-join c.loop-tried.invariant.0 c.in-Some.ensures.side in
-    subst (λ (x : States _ _). Sends g.N.Stream.Connection.read_gives g.N.Stream.Connection.write_gives c.in-Some.count c.args.piece.now (state_of c.args.self.now side) (state_of x side)) (sym c.self.view_is) sends
+    subst (λ (x : States _ _). WritesFront g.N.Stream.Connection.read_gives g.N.Stream.Connection.write_gives c.in-Some.count c.args.piece.now (state_of c.args.self.now side) (state_of x side)) (sym c.self.view_is) sends
 
 pub returns-in-Some-clause-link : goal.returns-in-Some-clause-link
 returns-in-Some-clause-link g c =
@@ -71,7 +71,7 @@ returns-in-Some-clause-gives g c =
     let w = g.N.Stream.Connection.write_gives in
     let side = c.args.side in
     let a = c.args.self.now in
-    subst (λ (x : States _ _). Sends r w c.in-Some.count c.args.piece.now (state_of a side) (state_of x side) × Waited r w 0 (state_of a (other side)) (state_of x (other side)) × (x.door ≡ a.door))
+    subst (λ (x : States _ _). WritesFront r w c.in-Some.count c.args.piece.now (state_of a side) (state_of x side) × Waited r w 0 (state_of a (other side)) (state_of x (other side)) × (x.door ≡ a.door))
     (sym c.self.view_is) (sends-join c.loop-tried.invariant.0 c.in-Some.ensures.side, read-same c.loop-tried.invariant.1 c.in-Some.ensures.other, c.in-Some.ensures.door ∙ c.loop-tried.invariant.2)
 
 pub returns-in-Some-write_once-clause-gives : goal.returns-in-Some-write_once-clause-gives

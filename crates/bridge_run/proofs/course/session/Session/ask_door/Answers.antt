@@ -6,7 +6,7 @@ use Rattle.bridge_run.specs.declared.course.rounds.Rounds.{Rounds}
 use Rattle.bridge_run.specs.course.Course.{Setting, AtDoor, AtClient, Takes}
 use Rattle.bridge_run.specs.course.Calls.{Goes, come, course_of}
 use Rattle.bridge_run.specs.course.Outside.{outside, gathering}
-use Rattle.bridge_run.specs.inner.Follows.{Runs, setting}
+use Rattle.bridge_run.specs.inner.Follows.{RunsOn, setting}
 use Rattle.bridge_run.proofs.lemmas.course.Course.{reaches-none, reaches-call, runs-then, cut-next}
 use Rattle.bridge_run.proofs.lemmas.course.Answers.{accepted, waited, not_accepted, call-door}
 use Rattle.gate_outside.specs.Calls.{Accept}
@@ -33,7 +33,7 @@ returns-in-Ok-true-clause-course g c = λ first begun k f.
     let next = Takes ClientComes AtClient in
     runs-then c.happen.result stands2 (g.C.Served.runs_out first) s c.happen.new.self.rounds w2 out2 from next a.course AtClient
     (reaches-call s from AtDoor k (Goes next a.course) (reaches-none s from) (call-door s k down ∙ a.is))
-    (subst (λ (t : Setting). Runs c.happen.result stands2 (g.C.Served.runs_out first) t c.happen.new.self.rounds w2 out2 (Goes next a.course) AtClient) (ap (setting p) c.come.ensures) (c.happen.ensures.course first begun AtClient a.course a.follows))
+    (subst (λ (t : Setting). RunsOn c.happen.result stands2 (g.C.Served.runs_out first) t c.happen.new.self.rounds w2 out2 (Goes next a.course) AtClient) (ap (setting p) c.come.ensures) (c.happen.ensures.course first begun AtClient a.course a.follows))
 
 pub returns-in-Ok-false-clause-course : goal.returns-in-Ok-false-clause-course
 returns-in-Ok-false-clause-course g c = λ first begun k f.
