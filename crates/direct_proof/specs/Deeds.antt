@@ -1,5 +1,5 @@
--- How the moves of a gateway and a modelled host on two wires are told as deeds, items that carry what their submits
--- ask.
+-- How the moves of a gateway and a modelled host on two wires are told as deeds, which are items that carry what their
+-- submits ask.
 use Rattle.std.specs.Prelude.{◌&&◌, not, Bool, if◌then◌else◌, List, [], ◌∷◌, ◌++◌, map, filter}
 use Rattle.std.specs.List.{flat_map}
 use Rattle.gate_history.specs.step.Marks.{Arrives, Effect, Imports, Mark, Unlinks}

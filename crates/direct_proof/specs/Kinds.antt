@@ -3,9 +3,9 @@ use Rattle.std.specs.Prelude.{◌≡◌, ℕ, ◌≤◌, ◌<◌, true, List, le
 use Rattle.usb_base.specs.Endpoint.{endpoint_index}
 use Rattle.usb_base.specs.declared.endpoint.EpKind.TheVariants as kind
 use Rattle.usb_base.specs.declared.endpoint.TheConstants.{ENDPOINTS}
-use Rattle.model_device.specs.Gadget.{IsNamed}
 use Rattle.redir_data.specs.declared.stream_kind.StreamKind.{StreamKind}
 use Rattle.redir_data.specs.StreamKinds.{is_kind_of}
+use Rattle.model_device.specs.Gadget.{IsNamed}
 use Rattle.gate_history.specs.state.Ups.{Up, stream_of}
 use Rattle.direct_proof.specs.Loads.{IsComing}
 use Rattle.direct_proof.specs.Tagged.{Answered, Packed, Stated, Tagged}

@@ -5,9 +5,9 @@ use Rattle.usb_base.specs.declared.endpoint.EpTable.{EpTable}
 use Rattle.redir_wire.specs.declared.packet.RedirControl.TheVariants as plain
 use Rattle.redir_data.specs.declared.packet.RedirPacket.{RedirPacket}
 use Rattle.redir_data.specs.declared.packet.RedirPacket.TheVariants.{Plain}
-use Rattle.redir_host.specs.guest.Packets.{can_start}
 use Rattle.redir_data.specs.declared.stream_kind.StreamKind.{StreamKind}
 use Rattle.redir_data.specs.declared.stream_kind.StreamKind.TheVariants.{Interrupt, Iso}
+use Rattle.redir_host.specs.guest.Packets.{can_start}
 use Rattle.direct_proof.specs.Stale.{asks}
 
 -- what a packet makes of whether an endpoint's stream runs

@@ -9,13 +9,13 @@ use Rattle.redir_wire.specs.declared.packet.RedirControl.{RedirControl}
 use Rattle.redir_wire.specs.declared.packet.RedirControl.TheVariants as plain
 use Rattle.redir_data.specs.declared.packet.RedirPacket.{RedirPacket}
 use Rattle.redir_data.specs.declared.packet.RedirPacket.TheVariants.{Plain}
+use Rattle.redir_data.specs.declared.stream_kind.StreamKind.{StreamKind}
+use Rattle.redir_data.specs.declared.stream_kind.StreamKind.TheVariants.{Interrupt, Iso}
+use Rattle.redir_data.specs.StreamKinds.{is_kind_of}
 use Rattle.redir_host.specs.write.Answers.{answer_by}
 use Rattle.redir_host.specs.device.Facts.{connect_of, ep_info_of}
 use Rattle.redir_host.specs.device.Offering.{stream_packet}
 use Rattle.redir_host.specs.write.Output.{host_hello}
-use Rattle.redir_data.specs.declared.stream_kind.StreamKind.{StreamKind}
-use Rattle.redir_data.specs.declared.stream_kind.StreamKind.TheVariants.{Interrupt, Iso}
-use Rattle.redir_data.specs.StreamKinds.{is_kind_of}
 use Rattle.gate_history.specs.state.Facts.{tell}
 use Rattle.gate_history.specs.step.Meaning.{fact_of}
 use Rattle.gate_history.specs.declared.facts.Facts.{Facts}

@@ -15,8 +15,6 @@ use Rattle.redir_host.specs.declared.state.host.Host.{Host}
 use Rattle.redir_host.specs.declared.state.request.Asking.{Asking}
 use Rattle.redir_host.specs.declared.state.request.Asking.TheVariants.{Nothing, Refuses, Asks}
 use Rattle.redir_host.specs.declared.state.request.Request.{Request}
-use Rattle.redir_data.specs.declared.stream_kind.StreamKind.{StreamKind}
-use Rattle.redir_data.specs.declared.stream_kind.StreamKind.TheVariants.{Iso, Interrupt}
 use Rattle.redir_host.specs.guest.Asking.{asking_of}
 use Rattle.redir_host.specs.step.Items.{Item, Asked, Wrong, Performs, Offers, Unplugs}
 use Rattle.redir_host.specs.step.Machine.{move, run, bytes_of, is_refusal, notes_of, all_given, given_by}
@@ -33,6 +31,8 @@ use Rattle.redir_host.proofs.lemmas.guest.Sound.{keeps-packet}
 use Rattle.redir_host.proofs.lemmas.device.Silent.{perform-silent, offer-silent, unplug-silent}
 use Rattle.gate_history.specs.write.Bytes.{gateway_hello}
 use Rattle.redir_data.specs.Sent.{sent_header, CanBeRead, sent_packet_bytes}
+use Rattle.redir_data.specs.declared.stream_kind.StreamKind.{StreamKind}
+use Rattle.redir_data.specs.declared.stream_kind.StreamKind.TheVariants.{Iso, Interrupt}
 use Rattle.direct_run.specs.Packets.{both_caps}
 use Rattle.direct_run.proofs.Headed.{met, no-hello, unmoved}
 

@@ -40,10 +40,13 @@ module _ {S T U V : Type 0} (f : List T → List V) (g : List U → List V) (t :
   quiet-alike : (w : World S) → Alike f g (quiet w) (quiet w)
   quiet-alike w = record { world = refl; outs = refl; told = a.none }
 
+  mark-alike : (w : World S) (k : Mark) → Alike f g (gate_made t w k) (gate_made u w k)
+  mark-alike w k = record { world = refl; outs = refl; told = a.marks w.gate k }
+
   gate-alike : (w : World S) (x : Item) → Alike f g (gate_move t w x) (gate_move u w x)
   gate-alike w x =
       elim (is_left_out w.gate x) as (λ (b : Bool). Alike f g (cond b (quiet w) (gate_made t w (mark_of w.gate x))) (cond b (quiet w) (gate_made u w (mark_of w.gate x))))
-      [ true ↦ quiet-alike w | false ↦ record { world = refl; outs = refl; told = a.marks w.gate (mark_of w.gate x) } ]
+      [ true ↦ quiet-alike w | false ↦ mark-alike w (mark_of w.gate x) ]
 
   then-alike : (x y : Made S T) (v z : Made S U) → Alike f g x v → Alike f g y z → Alike f g (then_made x y) (then_made v z)
   then-alike x y v z h k = record {

@@ -171,8 +171,8 @@ impl Ready {
     }
 
     /// Waits for something to read, for so long at most. A peer on this machine answers sooner than a sleeper wakes, so
-    /// behind a lone packet one looks for its answer first. Where that is in vain it is seldom tried. Where more came or
-    /// went than one packet's bytes, more is under way, and what comes meanwhile goes on together.
+    /// behind a lone packet one looks for its answer first. Where that is in vain it is seldom tried. Where more came
+    /// or went than one packet's bytes, more is under way, and what comes meanwhile goes on together.
     fn wait(&mut self, most: Duration) -> io::Result<()> {
         if self.moves > 0 && self.pace.is_none() {
             let is_lone = self.moves <= LONE_MOVES;

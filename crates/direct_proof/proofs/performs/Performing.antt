@@ -87,7 +87,7 @@ no-change (Routed x) h = go (is_route_change x) h
     go false z = refl
 
 -- nothing is performed
-still-made : {S : Type 0} (w : World S) (ep : ℕ) (unplugged : Bool) → host_made as_deeds w (host_quiet w.host) (performed_item w.submits ep (told_performed_by {S} unplugged None)) ≡ quiet (record w { to_gate = w.to_gate ++ [] })
+still-made : {S : Type 0} (w : World S) (ep : ℕ) (unplugged : Bool) → host_made as_deeds w (host_quiet w.host) (performed_item w.submits ep (told_performed_by {S = S} unplugged None)) ≡ quiet (record w { to_gate = w.to_gate ++ [] })
 still-made w ep true = refl
 still-made w ep false = refl
 

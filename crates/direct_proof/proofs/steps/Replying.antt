@@ -22,6 +22,7 @@ use Rattle.redir_data.specs.declared.packet.RedirData.TheVariants as moving
 use Rattle.redir_data.specs.declared.packet.RedirPacket.{RedirPacket}
 use Rattle.redir_data.specs.declared.packet.RedirPacket.TheVariants.{Plain, Carrying}
 use Rattle.redir_data.specs.declared.stream_kind.StreamKind.{StreamKind}
+use Rattle.redir_data.specs.declared.stream_kind.StreamKind.TheVariants.{Iso, Interrupt}
 use Rattle.gate_history.specs.write.Answers.{ret_unlink}
 use Rattle.gate_history.specs.declared.item.Item.{Item}
 use Rattle.gate_history.specs.declared.item.Item.TheVariants.{Asked, ClientWrong, ClientLeft, Told, HostWrong, HostLeft}
@@ -79,9 +80,9 @@ arrival-says st ep kind packet (Some up) = silent st (arrives st ep kind packet 
 
 data-says : (st : State) (place : ℕ) (h : Header) (d : RedirData) → Replying st (told_meaning st place h (Carrying d))
 data-says st place h (moving.Interrupt endpoint status length body) =
-    by-test st (is_in_endpoint endpoint) _ _ (λ k. arrival-says st endpoint false _ (stream_of st.streams endpoint)) (λ k. response-says st place h _)
+    by-test st (is_in_endpoint endpoint) _ _ (λ k. arrival-says st endpoint Interrupt _ (stream_of st.streams endpoint)) (λ k. response-says st place h _)
 data-says st place h (moving.Iso endpoint status length body) =
-    by-test st (is_in_endpoint endpoint) _ _ (λ k. arrival-says st endpoint true _ (stream_of st.streams endpoint)) (λ k. silent st _ refl refl refl refl)
+    by-test st (is_in_endpoint endpoint) _ _ (λ k. arrival-says st endpoint Iso _ (stream_of st.streams endpoint)) (λ k. silent st _ refl refl refl refl)
 data-says st place h d = response-says st place h (response_of (Carrying d))
 
 told-says : (st : State) (place : ℕ) (h : Header) (p : RedirPacket) → Replying st (told_meaning st place h p)

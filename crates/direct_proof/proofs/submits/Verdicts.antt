@@ -9,9 +9,9 @@ use Rattle.usb_base.specs.declared.setup.Setup.{Setup}
 use Rattle.usb_base.specs.declared.endpoint.EpTable.{EpTable}
 use Rattle.usb_base.specs.Endpoint.{row_of, endpoint_index}
 use Rattle.redir_wire.specs.EpTable.{table_of}
+use Rattle.redir_data.specs.declared.stream_kind.StreamKind.TheVariants.{Iso, Interrupt}
 use Rattle.model_device.specs.Meaning.{Meaning}
 use Rattle.redir_host.specs.device.Facts.{ep_info_of}
-use Rattle.redir_data.specs.declared.stream_kind.StreamKind.TheVariants.{Iso, Interrupt}
 use Rattle.usb_base.specs.declared.endpoint.EpRow.{EpRow}
 use Rattle.gate_history.specs.declared.verdict.Situation.{Situation}
 use Rattle.gate_history.specs.declared.request.Request.{Request}

@@ -1,13 +1,13 @@
 -- What the packets that a stream holds give to the rows of the requests that wait for it.
 use Rattle.std.specs.Prelude.{◌≡◌, ◌+◌, ◌∷◌, ℕ, Bool, true, false, if◌then◌else◌, List, [], ◌++◌, length}
 use Rattle.usb_base.specs.declared.transfer.StreamPacket.{StreamPacket}
+use Rattle.redir_data.specs.declared.stream_kind.StreamKind.{StreamKind}
 use Rattle.unlink_race.specs.declared.live.Live.{Live}
 use Rattle.unlink_race.specs.declared.live.LiveKind.TheVariants as live_kind
 use Rattle.unlink_race.specs.Searches.{waits_for}
 use Rattle.gate_history.specs.declared.note.Note.{Note}
 use Rattle.gate_core.specs.declared.state.kept.Kept.{Kept}
 use Rattle.usb_base.specs.Number.{capped}
-use Rattle.redir_data.specs.declared.stream_kind.StreamKind.{StreamKind}
 use Rattle.gate_history.specs.state.Ups.{Up}
 use Rattle.gate_history.specs.step.Meaning.{is_held}
 use Rattle.gate_history.specs.declared.request.Request.{Request}

@@ -11,6 +11,9 @@ use Rattle.redir_wire.specs.declared.packet.RedirControl.TheVariants as plain
 use Rattle.redir_data.specs.declared.packet.RedirPacket.{RedirPacket}
 use Rattle.redir_data.specs.declared.packet.RedirPacket.TheVariants.{Plain, Carrying}
 use Rattle.redir_data.specs.Streams.{advanced}
+use Rattle.redir_data.specs.declared.stream_kind.StreamKind.{StreamKind}
+use Rattle.redir_data.specs.declared.stream_kind.StreamKind.TheVariants.{Iso, Interrupt}
+use Rattle.redir_data.specs.StreamKinds.{is_kind_of}
 use Rattle.control_route.specs.declared.route.Route.TheVariants as route
 use Rattle.chapter9.specs.Standard.{ended}
 use Rattle.model_device.specs.Meaning.{Meaning}
@@ -23,9 +26,6 @@ use Rattle.redir_host.specs.declared.state.request.Form.{Form}
 use Rattle.redir_host.specs.declared.state.request.Form.TheVariants as form
 use Rattle.redir_host.specs.declared.state.request.Request.{Request}
 use Rattle.redir_host.specs.declared.state.running.Running.{Running}
-use Rattle.redir_data.specs.declared.stream_kind.StreamKind.{StreamKind}
-use Rattle.redir_data.specs.declared.stream_kind.StreamKind.TheVariants.{Iso, Interrupt}
-use Rattle.redir_data.specs.StreamKinds.{is_kind_of}
 use Rattle.redir_host.specs.state.Queues.{is_cancelled_by, after_cancel, leaves_mark}
 use Rattle.redir_host.specs.device.Facts.{connect_of, facts_of}
 use Rattle.redir_host.specs.guest.Asking.{asking_of, routed}

@@ -1,10 +1,10 @@
 -- The gateway reads a packet of a stream, and what is shared is kept.
 use Rattle.std.proofs.Common.{◌≡◌, ℕ, suc, ◌⊎◌, inl, inr, Bool, true, false, cond, List, [], ◌∷◌, ◌++◌, map, Option, Some, None, refl, sym, ap, ◌∙◌, subst}
 use Rattle.usb_base.specs.declared.transfer.StreamPacket.{StreamPacket}
-use Rattle.stream_buffers.specs.Held.{is_full}
-use Rattle.usbip_urb.specs.declared.client.ClientPacket.TheVariants.{Urb}
 use Rattle.redir_data.specs.declared.stream_kind.StreamKind.{StreamKind}
 use Rattle.redir_data.specs.StreamKinds.{is_kind_of}
+use Rattle.stream_buffers.specs.Held.{is_full}
+use Rattle.usbip_urb.specs.declared.client.ClientPacket.TheVariants.{Urb}
 use Rattle.model_device.specs.Meaning.{Meaning}
 use Rattle.gate_history.specs.host.Fillings.{Fill}
 use Rattle.gate_history.specs.state.Sound.{IsSound}

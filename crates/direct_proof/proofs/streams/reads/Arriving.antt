@@ -9,8 +9,6 @@ use Rattle.stream_buffers.specs.Held.{is_full}
 use Rattle.usbip_urb.specs.declared.client.ClientPacket.TheVariants.{Urb}
 use Rattle.usbip_urb.specs.declared.packet.UrbPacket.{UrbPacket}
 use Rattle.redir_data.specs.declared.packet.RedirPacket.{RedirPacket}
-use Rattle.redir_data.specs.declared.stream_kind.StreamKind.{StreamKind}
-use Rattle.redir_data.specs.declared.stream_kind.StreamKind.TheVariants.{Iso, Interrupt}
 use Rattle.gate_history.specs.declared.request.Request.{Request}
 use Rattle.gate_history.specs.declared.item.Item.TheVariants.{Told}
 use Rattle.gate_history.specs.host.Fillings.{Fill, Filling, fill, none_filled, given_to}
@@ -35,6 +33,8 @@ use Rattle.direct_device.specs.Acting.{Deed, Answer, Arrive}
 use Rattle.direct_run.specs.Moves.{World, gate_made}
 use Rattle.direct_proof.specs.Deeds.{as_deeds}
 use Rattle.redir_data.specs.Sent.{sent_header}
+use Rattle.redir_data.specs.declared.stream_kind.StreamKind.{StreamKind}
+use Rattle.redir_data.specs.declared.stream_kind.StreamKind.TheVariants.{Iso, Interrupt}
 use Rattle.redir_data.specs.StreamKinds.{is_kind_of}
 use Rattle.direct_proof.specs.Requests.{Debt, load_of, debts_of}
 use Rattle.direct_proof.specs.Tagged.{Packed, on_wire}

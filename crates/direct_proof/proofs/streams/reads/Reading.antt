@@ -3,9 +3,9 @@
 use Rattle.std.proofs.Common.{◌≡◌, ℕ, ◌||◌, Bool, true, false, List, [], ◌∷◌, ◌++◌, map, Option, None, is_some, refl, sym, ap, ◌∙◌, subst, arith, true≢false}
 use Rattle.std.specs.List.{list_any, AllByRecursion as Each}
 use Rattle.std.proofs.lemmas.Bool.{both_ways}
+use Rattle.redir_data.specs.declared.stream_kind.StreamKind.{StreamKind}
 use Rattle.model_device.specs.Meaning.{Meaning}
 use Rattle.usb_base.specs.declared.transfer.StreamPacket.{StreamPacket}
-use Rattle.redir_data.specs.declared.stream_kind.StreamKind.{StreamKind}
 use Rattle.gate_history.specs.state.Facts.{tell}
 use Rattle.gate_history.specs.step.Marks.{Fact}
 use Rattle.gate_history.specs.step.Meaning.{fact_of}

@@ -3,8 +3,6 @@ use Rattle.std.proofs.Common.{◌≡◌, ℕ, suc, ◌+◌, ◌≤◌, ◌==◌,
 use Rattle.std.specs.List.{AllByRecursion as Each}
 use Rattle.usb_base.specs.declared.status.UsbStatus.TheVariants.{Success}
 use Rattle.redir_data.specs.declared.packet.RedirPacket.{RedirPacket}
-use Rattle.redir_data.specs.declared.stream_kind.StreamKind.{StreamKind}
-use Rattle.redir_data.specs.declared.stream_kind.StreamKind.TheVariants.{Iso, Interrupt}
 use Rattle.model_device.specs.Meaning.{Meaning}
 use Rattle.gate_history.specs.state.Ids.{times}
 use Rattle.gate_history.specs.declared.item.Item.TheVariants.{Told}
@@ -16,6 +14,8 @@ use Rattle.gate_history.specs.state.Ups.{Up, stream_of}
 use Rattle.direct_run.specs.Moves.{World, GateReads, move, quiet, gate_reads, gate_made}
 use Rattle.direct_proof.specs.Deeds.{as_deeds}
 use Rattle.redir_data.specs.Sent.{sent_header}
+use Rattle.redir_data.specs.declared.stream_kind.StreamKind.{StreamKind}
+use Rattle.redir_data.specs.declared.stream_kind.StreamKind.TheVariants.{Iso, Interrupt}
 use Rattle.direct_proof.specs.Tagged.{Tagged, Stated, on_wire}
 use Rattle.direct_proof.specs.Shared.{Shared, way_of, view}
 use Rattle.direct_proof.specs.Related.{Related}

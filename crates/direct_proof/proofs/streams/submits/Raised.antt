@@ -92,7 +92,7 @@ module _ {S : Type 0} (m : Meaning S) (w : World S) (j : Shared) (ep id : ℕ) (
   no-change = λ i. ((or_parts (any_change j.held) (any_change j.coming) (sym (list_any-append is_change j.held j.coming) ∙ s.entries)).0 i || s.half-is i) || (ap (λ (f : Option ℕ). list_any (asks f) w.to_host) (sym s.no_fence) ∙ s.none_asks) i
 
   can : CanStart (m.table w.host.gadget) ((any_change j.held || j.half) || list_any (asks None) w.to_host) (started_kind (start_packet ep row))
-  can = subst (CanStart (m.table w.host.gadget) ((any_change j.held || j.half) || list_any (asks None) w.to_host)) (sym (start m w j ep id row rel s h kinds same-row down long free).started-is) (no-change, can-start (m.table w.host.gadget) (start m w j ep id row rel s h kinds same-row down long free).kind ep row h same-row (start m w j ep id row rel s h kinds same-row down long free).fits)
+  can = subst (CanStart (m.table w.host.gadget) ((any_change j.held || j.half) || list_any (asks None) w.to_host)) (sym (start m w j ep id row rel s h kinds same-row down long free).started-is) (no-change, can-start (m.table w.host.gadget) (start m w j ep id row rel s h kinds same-row down long free).kind ep row h same-row (start m w j ep id row rel s h kinds same-row down long free).right)
 
   new-session : Session m (streams_world w (ps m w j ep id row rel s h kinds same-row down long free) (ups m w j ep id row rel s h kinds same-row down long free)) j
   new-session = record {

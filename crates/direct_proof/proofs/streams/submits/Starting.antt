@@ -37,25 +37,20 @@ pub record IsStart (ep : ℕ) (row : EpRow) (p : RedirPacket) : Type 0 where
   pub started-is : started_kind p ≡ Some (kind, ep)
   pub right : is_kind_of kind row.kind ≡ true
 
-start-iso : (ep : ℕ) (row : EpRow) → row.kind ≡ kind.Iso → IsStart ep row (start_packet ep row)
-start-iso ep row h = record {
-  kind = Iso;
-  stream = ap (λ (k : EpKind). stream_endpoint (Plain (cond (is_iso k) (plain.StartIso ep 8 4) (plain.StartInterrupt ep)))) h;
-  started-is = ap (λ (k : EpKind). started_kind (Plain (cond (is_iso k) (plain.StartIso ep 8 4) (plain.StartInterrupt ep)))) h;
-  right = ap (is_kind_of Iso) h;
-}
+abbrev start_of : ℕ → EpKind → RedirPacket
+start_of ep k = Plain (cond (is_iso k) (plain.StartIso ep 8 4) (plain.StartInterrupt ep))
 
-start-interrupt : (ep : ℕ) (row : EpRow) → row.kind ≡ kind.Interrupt → IsStart ep row (start_packet ep row)
-start-interrupt ep row h = record {
-  kind = Interrupt;
-  stream = ap (λ (k : EpKind). stream_endpoint (Plain (cond (is_iso k) (plain.StartIso ep 8 4) (plain.StartInterrupt ep)))) h;
-  started-is = ap (λ (k : EpKind). started_kind (Plain (cond (is_iso k) (plain.StartIso ep 8 4) (plain.StartInterrupt ep)))) h;
-  right = ap (is_kind_of Interrupt) h;
+start-by : (ep : ℕ) (row : EpRow) (k : EpKind) (s : StreamKind) → row.kind ≡ k → stream_endpoint (start_of ep k) ≡ Some ep → started_kind (start_of ep k) ≡ Some (s, ep) → is_kind_of s k ≡ true → IsStart ep row (start_packet ep row)
+start-by ep row k s h stream started right = record {
+  kind = s;
+  stream = ap (λ (x : EpKind). stream_endpoint (start_of ep x)) h ∙ stream;
+  started-is = ap (λ (x : EpKind). started_kind (start_of ep x)) h ∙ started;
+  right = ap (is_kind_of s) h ∙ right;
 }
 
 pub is-start : (ep : ℕ) (row : EpRow) → (row.kind ≡ kind.Iso) ⊎ (row.kind ≡ kind.Interrupt) → IsStart ep row (start_packet ep row)
-is-start ep row (inl h) = start-iso ep row h
-is-start ep row (inr h) = start-interrupt ep row h
+is-start ep row (inl h) = start-by ep row kind.Iso Iso h refl refl refl
+is-start ep row (inr h) = start-by ep row kind.Interrupt Interrupt h refl refl refl
 
 pub can-start : (table : EpTable) (k : StreamKind) (ep : ℕ) (row : EpRow) → IsIn ep → row ≡ row_of table ep → is_kind_of k row.kind ≡ true → can_start table k ep ≡ true
 can-start table k ep row h same right = λ i. small ep h i && (in-byte ep h i && (ap (λ (r : EpRow). is_kind_of k r.kind) (sym same) ∙ right) i)

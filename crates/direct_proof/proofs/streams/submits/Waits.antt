@@ -125,7 +125,7 @@ waits-made {S = S} w r row = λ i. record {
 
     deeds : (Submit r ∷ map (λ (p : Pending). Answer p.submit.request.number) (filter (λ p. is_by_answer (ends_by r.transfer.ep (fill_for w.gate r row).fillings p)) (with_waiter w.gate r row)) ++ []) ++ [] ≡
         Submit r ∷ map Answer (told_by_fills r.transfer.ep (fill_for w.gate r row).fillings (with_waiter w.gate r row))
-    told = append-nil _ ∙ append-nil _
+    deeds = append-nil _ ∙ append-nil _
         ∙ ap (λ (l : List Deed). Submit r ∷ l) (sym (map-map Answer (λ (p : Pending). p.submit.request.number) (filter (λ p. is_by_answer (ends_by r.transfer.ep (fill_for w.gate r row).fillings p)) (with_waiter w.gate r row))))
 
 -- ---- and the device

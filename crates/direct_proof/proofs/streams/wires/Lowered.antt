@@ -6,8 +6,8 @@ use Rattle.std.proofs.Math.ListN.{get_or-map}
 use Rattle.std.proofs.lemmas.List.{length-map}
 use Rattle.usb_base.specs.Endpoint.{endpoint_index}
 use Rattle.redir_data.specs.declared.packet.RedirPacket.{RedirPacket}
-use Rattle.redir_host.specs.declared.state.running.Running.{Running}
 use Rattle.redir_data.specs.declared.stream_kind.StreamKind.{StreamKind}
+use Rattle.redir_host.specs.declared.state.running.Running.{Running}
 use Rattle.gate_history.specs.state.Ups.{Up, stream_at, stream_of, unless, lower}
 use Rattle.direct_device.specs.Direct.{way_if}
 use Rattle.direct_proof.specs.Tagged.{Tagged, Answered, Packed, Stated}

@@ -8,9 +8,9 @@ use Rattle.usb_base.specs.Endpoint.{endpoint_index}
 use Rattle.usb_base.specs.declared.endpoint.EpRow.{EpRow}
 use Rattle.usb_base.specs.declared.transfer.StreamPacket.{StreamPacket}
 use Rattle.redir_data.specs.declared.packet.RedirPacket.{RedirPacket}
-use Rattle.redir_host.specs.declared.state.running.Running.{Running}
 use Rattle.redir_data.specs.declared.stream_kind.StreamKind.{StreamKind}
 use Rattle.redir_data.specs.StreamKinds.{is_kind_of}
+use Rattle.redir_host.specs.declared.state.running.Running.{Running}
 use Rattle.gate_history.specs.state.Ups.{Up, stream_at, stream_of, hold}
 use Rattle.direct_proof.specs.Tagged.{Tagged, Answered, Packed, Stated}
 use Rattle.direct_proof.specs.Kinds.{IsIn, OfKind, TaggedOfKind, StartOfKind, UpsFit, UpFits}

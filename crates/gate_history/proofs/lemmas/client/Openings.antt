@@ -22,6 +22,7 @@ use Rattle.redir_data.specs.declared.packet.RedirData.{RedirData}
 use Rattle.redir_data.specs.declared.packet.RedirData.TheVariants as data_packet
 use Rattle.redir_data.specs.declared.packet.RedirPacket.TheVariants.{Plain, Carrying}
 use Rattle.redir_data.specs.declared.stream_kind.StreamKind.{StreamKind}
+use Rattle.redir_data.specs.declared.stream_kind.StreamKind.TheVariants.{Iso, Interrupt}
 use Rattle.usb_base.specs.declared.transfer.StreamPacket.{StreamPacket}
 use Rattle.usbip_urb.specs.Buffers.{laid}
 use Rattle.control_route.specs.declared.route.Route.{Route}
@@ -253,9 +254,9 @@ opening-arrival st ep kind packet (Some up) = none st (arrives st ep kind packet
 
 opening-data : (st : State) (place : ℕ) (h : Header) (d : RedirData) → IsOpening st (told_meaning st place h (Carrying d))
 opening-data st place h (data_packet.Interrupt endpoint status length body) =
-    when st (is_in_endpoint endpoint) _ _ (λ k. opening-arrival st endpoint false _ (stream_of st.streams endpoint)) (λ k. opening-response st place h _)
+    when st (is_in_endpoint endpoint) _ _ (λ k. opening-arrival st endpoint Interrupt _ (stream_of st.streams endpoint)) (λ k. opening-response st place h _)
 opening-data st place h (data_packet.Iso endpoint status length body) =
-    when st (is_in_endpoint endpoint) _ _ (λ k. opening-arrival st endpoint true _ (stream_of st.streams endpoint)) (λ k. none st _ refl refl tt)
+    when st (is_in_endpoint endpoint) _ _ (λ k. opening-arrival st endpoint Iso _ (stream_of st.streams endpoint)) (λ k. none st _ refl refl tt)
 opening-data st place h d = opening-response st place h (response_of (Carrying d))
 
 opening-told : (st : State) (place : ℕ) (h : Header) (p : RedirPacket) → IsOpening st (told_meaning st place h p)

@@ -40,6 +40,7 @@ use Rattle.usb_base.specs.Endpoint.{endpoint_index, is_in_endpoint}
 use Rattle.usb_base.specs.Status.{is_success}
 use Rattle.redir_data.specs.declared.packet.RedirPacket.{RedirPacket}
 use Rattle.redir_data.specs.declared.stream_kind.StreamKind.{StreamKind}
+use Rattle.redir_data.specs.declared.stream_kind.StreamKind.TheVariants.{Iso, Interrupt}
 use Rattle.gate_history.specs.state.Ups.{Up, no_streams, stream_at, stream_of, unless, lower_at, hold, is_ended, opened_streams, moved_streams, streams_after, streams}
 use Rattle.gate_history.specs.state.StreamIds.{StreamIds, stream_ids_after, asking, stream_ids, ids_of_streams}
 use Rattle.gate_history.specs.declared.request.Request.{Request}
@@ -556,8 +557,8 @@ few-arrival st ep kind packet (Some up) = tt
 
 few-data : (st : State) (place : ℕ) (h : Header) (d : RedirData) → OpensFew (told_meaning st place h (Carrying d))
 few-data st place h (data_packet.Interrupt endpoint status length body) =
-    by-test OpensFew (is_in_endpoint endpoint) _ _ (few-arrival st endpoint false _ (stream_of st.streams endpoint)) (of-response OpensFew few-aside st place h _)
-few-data st place h (data_packet.Iso endpoint status length body) = by-test OpensFew (is_in_endpoint endpoint) _ _ (few-arrival st endpoint true _ (stream_of st.streams endpoint)) tt
+    by-test OpensFew (is_in_endpoint endpoint) _ _ (few-arrival st endpoint Interrupt _ (stream_of st.streams endpoint)) (of-response OpensFew few-aside st place h _)
+few-data st place h (data_packet.Iso endpoint status length body) = by-test OpensFew (is_in_endpoint endpoint) _ _ (few-arrival st endpoint Iso _ (stream_of st.streams endpoint)) tt
 few-data st place h d = of-response OpensFew few-aside st place h (response_of (Carrying d))
 
 few-told : (st : State) (place : ℕ) (h : Header) (p : RedirPacket) → OpensFew (told_meaning st place h p)

@@ -15,6 +15,7 @@ use Rattle.redir_data.specs.declared.packet.RedirData.TheVariants as data_packet
 use Rattle.redir_data.specs.declared.packet.RedirPacket.{RedirPacket}
 use Rattle.redir_data.specs.declared.packet.RedirPacket.TheVariants.{Plain, Carrying}
 use Rattle.redir_data.specs.declared.stream_kind.StreamKind.{StreamKind}
+use Rattle.redir_data.specs.declared.stream_kind.StreamKind.TheVariants.{Iso, Interrupt}
 use Rattle.redir_data.specs.StreamKinds.{is_kind_of}
 use Rattle.stream_buffers.specs.Cuts.{Cut}
 use Rattle.stream_buffers.specs.Interrupt.{last_of, interrupt_cut_at, interrupt_cut}
@@ -185,9 +186,9 @@ module _ (st : State) (held : Each HoldsFew st.streams) where
 
   few-data : (place : ℕ) (h : Header) (d : RedirData) → LeavesFew (told_meaning st place h (Carrying d))
   few-data place h (data_packet.Interrupt endpoint status length body) =
-      by-test LeavesFew (is_in_endpoint endpoint) _ _ (few-arrival st endpoint false _ (stream_of st.streams endpoint) (few-of endpoint)) (of-response LeavesFew few-aside st place h _)
+      by-test LeavesFew (is_in_endpoint endpoint) _ _ (few-arrival st endpoint Interrupt _ (stream_of st.streams endpoint) (few-of endpoint)) (of-response LeavesFew few-aside st place h _)
   few-data place h (data_packet.Iso endpoint status length body) =
-      by-test LeavesFew (is_in_endpoint endpoint) _ _ (few-arrival st endpoint true _ (stream_of st.streams endpoint) (few-of endpoint)) tt
+      by-test LeavesFew (is_in_endpoint endpoint) _ _ (few-arrival st endpoint Iso _ (stream_of st.streams endpoint) (few-of endpoint)) tt
   few-data place h d = of-response LeavesFew few-aside st place h (response_of (Carrying d))
 
   few-told : (place : ℕ) (h : Header) (p : RedirPacket) → LeavesFew (told_meaning st place h p)

@@ -17,6 +17,7 @@ use Rattle.redir_data.specs.declared.packet.RedirData.{RedirData}
 use Rattle.redir_data.specs.declared.packet.RedirData.TheVariants as data_packet
 use Rattle.redir_data.specs.declared.packet.RedirPacket.TheVariants.{Plain, Carrying}
 use Rattle.redir_data.specs.declared.stream_kind.StreamKind.{StreamKind}
+use Rattle.redir_data.specs.declared.stream_kind.StreamKind.TheVariants.{Iso, Interrupt}
 use Rattle.usb_base.specs.declared.transfer.StreamPacket.{StreamPacket}
 use Rattle.usb_base.specs.Endpoint.{is_in_endpoint}
 use Rattle.usbip_urb.specs.declared.client.ClientPacket.{ClientPacket}
@@ -112,9 +113,9 @@ host-arrival st ep kind packet (Some up) = record { refuses = refl; ends = refl 
 
 host-data : (st : State) (place : ℕ) (h : Header) (d : RedirData) → SparesClient (told_meaning st place h (Carrying d))
 host-data st place h (data_packet.Interrupt endpoint status length body) =
-    by-test SparesClient (is_in_endpoint endpoint) _ _ (host-arrival st endpoint false _ (stream_of st.streams endpoint)) (host-response st place h _)
+    by-test SparesClient (is_in_endpoint endpoint) _ _ (host-arrival st endpoint Interrupt _ (stream_of st.streams endpoint)) (host-response st place h _)
 host-data st place h (data_packet.Iso endpoint status length body) =
-    by-test SparesClient (is_in_endpoint endpoint) _ _ (host-arrival st endpoint true _ (stream_of st.streams endpoint)) (record { refuses = refl; ends = refl })
+    by-test SparesClient (is_in_endpoint endpoint) _ _ (host-arrival st endpoint Iso _ (stream_of st.streams endpoint)) (record { refuses = refl; ends = refl })
 host-data st place h d = host-response st place h (response_of (Carrying d))
 
 host-told : (st : State) (place : ℕ) (h : Header) (p : RedirPacket) → SparesClient (told_meaning st place h p)
@@ -147,9 +148,9 @@ none-agreed b e f h k = by-test (λ x. agrees x ≡ None) b e f h k
 
 pub data-agrees : (st : State) (place : ℕ) (h : Header) (d : RedirData) → agrees (told_meaning st place h (Carrying d)) ≡ None
 data-agrees st place h (data_packet.Interrupt endpoint status length body) =
-    none-agreed (is_in_endpoint endpoint) _ _ (arrival-agrees st endpoint false _ (stream_of st.streams endpoint)) (response-agrees st place h _)
+    none-agreed (is_in_endpoint endpoint) _ _ (arrival-agrees st endpoint Interrupt _ (stream_of st.streams endpoint)) (response-agrees st place h _)
 data-agrees st place h (data_packet.Iso endpoint status length body) =
-    none-agreed (is_in_endpoint endpoint) _ _ (arrival-agrees st endpoint true _ (stream_of st.streams endpoint)) refl
+    none-agreed (is_in_endpoint endpoint) _ _ (arrival-agrees st endpoint Iso _ (stream_of st.streams endpoint)) refl
 data-agrees st place h d = response-agrees st place h (response_of (Carrying d))
 
 -- ---- items

@@ -15,6 +15,7 @@ use Rattle.redir_data.specs.declared.packet.RedirData.{RedirData}
 use Rattle.redir_data.specs.declared.packet.RedirData.TheVariants as data_packet
 use Rattle.redir_data.specs.declared.packet.RedirPacket.TheVariants.{Plain, Carrying}
 use Rattle.redir_data.specs.declared.stream_kind.StreamKind.{StreamKind}
+use Rattle.redir_data.specs.declared.stream_kind.StreamKind.TheVariants.{Iso, Interrupt}
 use Rattle.usb_base.specs.declared.transfer.StreamPacket.{StreamPacket}
 use Rattle.usb_base.specs.Endpoint.{is_in_endpoint}
 use Rattle.usbip_urb.specs.declared.client.ClientPacket.{ClientPacket}
@@ -88,8 +89,8 @@ placed-arrival n st ep kind packet (Some up) = tt
 
 placed-data : (st : State) (place : ℕ) (h : Header) (d : RedirData) → IsPlaced st.items (told_meaning st place h (Carrying d))
 placed-data st place h (data_packet.Interrupt endpoint status length body) =
-    either st.items (is_in_endpoint endpoint) _ _ (placed-arrival st.items st endpoint false _ (stream_of st.streams endpoint)) (placed-response st.items st place h _)
-placed-data st place h (data_packet.Iso endpoint status length body) = either st.items (is_in_endpoint endpoint) _ _ (placed-arrival st.items st endpoint true _ (stream_of st.streams endpoint)) tt
+    either st.items (is_in_endpoint endpoint) _ _ (placed-arrival st.items st endpoint Interrupt _ (stream_of st.streams endpoint)) (placed-response st.items st place h _)
+placed-data st place h (data_packet.Iso endpoint status length body) = either st.items (is_in_endpoint endpoint) _ _ (placed-arrival st.items st endpoint Iso _ (stream_of st.streams endpoint)) tt
 placed-data st place h d = placed-response st.items st place h (response_of (Carrying d))
 
 placed-told : (st : State) (place : ℕ) (h : Header) (p : RedirPacket) → IsPlaced st.items (told_meaning st place h p)

@@ -28,6 +28,7 @@ use Rattle.redir_data.specs.declared.packet.RedirPacket.TheVariants.{Plain, Carr
 use Rattle.redir_data.specs.Sent.{CanBeRead}
 use Rattle.redir_data.proofs.Sent.{control_sent}
 use Rattle.redir_data.specs.declared.stream_kind.StreamKind.{StreamKind}
+use Rattle.redir_data.specs.declared.stream_kind.StreamKind.TheVariants.{Iso, Interrupt}
 use Rattle.gate_history.specs.state.StreamIds.{asking}
 use Rattle.gate_history.specs.state.Flight.{wide_ids, wide_bulk}
 use Rattle.gate_history.specs.state.Ids.{greatest, last_of, Fits}
@@ -176,8 +177,8 @@ arrival st ep kind packet (Some up) = record { opens = tt; sends = tt; acks = tt
 
 tells-data : (st : State) (place : ℕ) (h : Header) (d : RedirData) → IsReadable st (told_meaning st place h (Carrying d))
 tells-data st place h (data_packet.Interrupt endpoint status length body) =
-    either st (is_in_endpoint endpoint) _ _ (arrival st endpoint false _ (stream_of st.streams endpoint)) (responds st place h _)
-tells-data st place h (data_packet.Iso endpoint status length body) = either st (is_in_endpoint endpoint) _ _ (arrival st endpoint true _ (stream_of st.streams endpoint)) (idle st)
+    either st (is_in_endpoint endpoint) _ _ (arrival st endpoint Interrupt _ (stream_of st.streams endpoint)) (responds st place h _)
+tells-data st place h (data_packet.Iso endpoint status length body) = either st (is_in_endpoint endpoint) _ _ (arrival st endpoint Iso _ (stream_of st.streams endpoint)) (idle st)
 tells-data st place h d = responds st place h (response_of (Carrying d))
 
 -- a hello agrees to capabilities

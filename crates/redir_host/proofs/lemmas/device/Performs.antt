@@ -7,6 +7,7 @@ use Rattle.usb_base.specs.Status.{is_success}
 use Rattle.usb_base.specs.declared.endpoint.EpTable.{EpTable}
 use Rattle.usb_base.specs.declared.transfer.Outcome.{Outcome}
 use Rattle.usb_base.specs.declared.transfer.StreamPacket.{StreamPacket}
+use Rattle.redir_data.specs.declared.stream_kind.StreamKind.{StreamKind}
 use Rattle.control_route.specs.declared.route.Route.{Route}
 use Rattle.control_route.specs.declared.route.Route.TheVariants as route
 use Rattle.model_device.specs.Meaning.{Meaning}
@@ -15,7 +16,6 @@ use Rattle.redir_host.specs.declared.state.request.Form.{Form}
 use Rattle.redir_host.specs.declared.state.request.Form.TheVariants as form
 use Rattle.redir_host.specs.declared.state.request.Request.{Request}
 use Rattle.redir_host.specs.declared.state.running.Running.{Running}
-use Rattle.redir_data.specs.declared.stream_kind.StreamKind.{StreamKind}
 use Rattle.redir_host.specs.guest.Asking.{routed}
 use Rattle.redir_host.specs.guest.Packets.{runs_at}
 use Rattle.redir_host.specs.device.Changes.{change_of, changed}

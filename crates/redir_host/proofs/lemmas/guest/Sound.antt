@@ -22,6 +22,9 @@ use Rattle.redir_data.specs.declared.state.RedirState.{RedirState}
 use Rattle.redir_data.specs.Ranges.{IsData}
 use Rattle.redir_data.specs.Spelling.{data_count, number_of as data_number}
 use Rattle.redir_data.specs.Streams.{advanced}
+use Rattle.redir_data.specs.declared.stream_kind.StreamKind.{StreamKind}
+use Rattle.redir_data.specs.declared.stream_kind.StreamKind.TheVariants.{Iso, Interrupt}
+use Rattle.redir_data.specs.StreamKinds.{is_kind_of}
 use Rattle.control_route.specs.declared.route.Route.TheVariants as route
 use Rattle.model_device.specs.Meaning.{Meaning}
 use Rattle.model_device.specs.Transfer.{IsTransfer, is_control}
@@ -30,9 +33,6 @@ use Rattle.redir_host.specs.declared.state.request.Asking.TheVariants.{Nothing}
 use Rattle.redir_host.specs.declared.state.request.Form.{Form}
 use Rattle.redir_host.specs.declared.state.request.Form.TheVariants as form
 use Rattle.redir_host.specs.declared.state.request.Request.{Request}
-use Rattle.redir_data.specs.declared.stream_kind.StreamKind.{StreamKind}
-use Rattle.redir_data.specs.declared.stream_kind.StreamKind.TheVariants.{Iso, Interrupt}
-use Rattle.redir_data.specs.StreamKinds.{is_kind_of}
 use Rattle.usb_base.specs.declared.limits.TheConstants.{MAX_TRANSFER}
 use Rattle.redir_host.specs.guest.Asking.{is_other, asked_if, asking_of, routed}
 use Rattle.redir_host.specs.step.Makes.{IsTaken}

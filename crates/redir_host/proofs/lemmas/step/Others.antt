@@ -12,14 +12,14 @@ use Rattle.redir_wire.specs.declared.packet.RedirControl.TheVariants as plain
 use Rattle.redir_data.specs.declared.packet.RedirPacket.{RedirPacket}
 use Rattle.redir_data.specs.declared.packet.RedirPacket.TheVariants.{Plain, Carrying}
 use Rattle.redir_data.specs.Streams.{advanced}
+use Rattle.redir_data.specs.declared.stream_kind.StreamKind.{StreamKind}
+use Rattle.redir_data.specs.declared.stream_kind.StreamKind.TheVariants.{Iso, Interrupt}
 use Rattle.control_route.specs.declared.route.Route.{Route}
 use Rattle.model_device.specs.Meaning.{Meaning}
 use Rattle.redir_host.specs.declared.state.host.Host.{Host}
 use Rattle.redir_host.specs.declared.state.request.Asking.{Asking}
 use Rattle.redir_host.specs.declared.state.request.Asking.TheVariants.{Nothing, Refuses, Asks}
 use Rattle.redir_host.specs.declared.state.request.Request.{Request}
-use Rattle.redir_data.specs.declared.stream_kind.StreamKind.{StreamKind}
-use Rattle.redir_data.specs.declared.stream_kind.StreamKind.TheVariants.{Iso, Interrupt}
 use Rattle.redir_host.specs.device.Changes.{changed, touched, stays}
 use Rattle.redir_host.specs.device.Facts.{facts_of}
 use Rattle.redir_host.specs.device.Offering.{offered_by}

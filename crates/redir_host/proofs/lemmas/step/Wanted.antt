@@ -9,6 +9,7 @@ use Rattle.usb_base.specs.declared.endpoint.EpTable.{EpTable}
 use Rattle.usb_base.specs.declared.transfer.Outcome.{Outcome}
 use Rattle.usb_base.specs.declared.transfer.StreamPacket.{StreamPacket}
 use Rattle.redir_data.specs.declared.state.RedirState.{RedirState}
+use Rattle.redir_data.specs.declared.stream_kind.StreamKind.{StreamKind}
 use Rattle.control_route.specs.declared.route.Route.{Route}
 use Rattle.control_route.specs.declared.route.Route.TheVariants as route
 use Rattle.model_device.specs.Gadget.{IsGadget}
@@ -19,7 +20,6 @@ use Rattle.redir_host.specs.declared.state.request.Form.{Form}
 use Rattle.redir_host.specs.declared.state.request.Form.TheVariants as form
 use Rattle.redir_host.specs.declared.state.request.Request.{Request}
 use Rattle.redir_host.specs.declared.state.running.Running.{Running}
-use Rattle.redir_data.specs.declared.stream_kind.StreamKind.{StreamKind}
 use Rattle.redir_host.specs.device.Changes.{change_of, changed}
 use Rattle.redir_host.specs.device.Offering.{offer_move, offered_by, offered_on, unplug_move}
 use Rattle.redir_host.specs.device.Performing.{does, done_by, first_performed, perform_move, perform_move_by, performed, performs, performs_any, performs_marked, resets, with_id}

@@ -12,9 +12,9 @@ use Rattle.redir_wire.specs.Capability.{has}
 use Rattle.redir_wire.specs.Header.{IdFits}
 use Rattle.redir_wire.specs.Ranges.{IsSent}
 use Rattle.redir_wire.specs.Written.{CanWrite}
-use Rattle.model_device.specs.declared.gadget.TheConstants.{MAX_STREAM_PACKET}
 use Rattle.redir_data.specs.declared.stream_kind.StreamKind.{StreamKind}
 use Rattle.redir_data.specs.declared.stream_kind.StreamKind.TheVariants.{Iso, Interrupt}
+use Rattle.model_device.specs.declared.gadget.TheConstants.{MAX_STREAM_PACKET}
 use Rattle.redir_host.specs.device.Facts.{column, ep_info_of, connect_of}
 use Rattle.redir_host.specs.device.Offering.{stream_packet}
 use Rattle.redir_host.specs.state.Sound.{CanTell}

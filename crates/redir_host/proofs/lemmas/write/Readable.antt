@@ -21,6 +21,8 @@ use Rattle.redir_data.specs.declared.packet.RedirPacket.TheVariants.{Plain}
 use Rattle.redir_data.specs.declared.state.RedirState.{RedirState}
 use Rattle.redir_data.specs.Sent.{CanBeRead}
 use Rattle.redir_data.proofs.Sent.{control_sent, data_sent}
+use Rattle.redir_data.specs.declared.stream_kind.StreamKind.{StreamKind}
+use Rattle.redir_data.specs.declared.stream_kind.StreamKind.TheVariants.{Iso, Interrupt}
 use Rattle.control_route.specs.declared.route.Route.{Route}
 use Rattle.control_route.specs.declared.route.Route.TheVariants as route
 use Rattle.model_device.specs.Gadget.{IsGadget}
@@ -32,8 +34,6 @@ use Rattle.redir_host.specs.declared.state.request.Form.{Form}
 use Rattle.redir_host.specs.declared.state.request.Form.TheVariants as form
 use Rattle.redir_host.specs.declared.state.request.Request.{Request}
 use Rattle.redir_host.specs.declared.state.running.Running.{Running}
-use Rattle.redir_data.specs.declared.stream_kind.StreamKind.{StreamKind}
-use Rattle.redir_data.specs.declared.stream_kind.StreamKind.TheVariants.{Iso, Interrupt}
 use Rattle.chapter9.specs.Standard.{ended}
 use Rattle.redir_host.specs.write.Answers.{alt_in, answer, answer_by, cancelled}
 use Rattle.redir_host.specs.guest.Asking.{routed}

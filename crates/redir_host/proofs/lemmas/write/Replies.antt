@@ -26,6 +26,8 @@ use Rattle.redir_data.specs.Ranges.{IsData}
 use Rattle.redir_data.specs.Sent.{CanBeRead}
 use Rattle.redir_data.specs.Streams.{advanced}
 use Rattle.redir_data.proofs.Sent.{control_sent}
+use Rattle.redir_data.specs.declared.stream_kind.StreamKind.{StreamKind}
+use Rattle.redir_data.specs.declared.stream_kind.StreamKind.TheVariants.{Iso, Interrupt}
 use Rattle.model_device.specs.Gadget.{IsGadget}
 use Rattle.model_device.specs.Meaning.{Meaning}
 use Rattle.redir_host.specs.declared.state.host.Host.{Host}
@@ -33,8 +35,6 @@ use Rattle.redir_host.specs.declared.state.request.Asking.TheVariants.{Nothing}
 use Rattle.redir_host.specs.declared.state.request.Form.{Form}
 use Rattle.redir_host.specs.declared.state.request.Form.TheVariants as form
 use Rattle.redir_host.specs.declared.state.request.Request.{Request}
-use Rattle.redir_data.specs.declared.stream_kind.StreamKind.{StreamKind}
-use Rattle.redir_data.specs.declared.stream_kind.StreamKind.TheVariants.{Iso, Interrupt}
 use Rattle.chapter9.specs.Standard.{ended}
 use Rattle.usb_base.specs.declared.limits.TheConstants.{MAX_TRANSFER}
 use Rattle.redir_host.specs.guest.Asking.{is_other, asked_if, asking_of}
