@@ -56,8 +56,8 @@ pub event-done : {S : Type 0} (old : SystemKept S) (gate : GateKept) (events : L
 event-done old gate events e c0 c1 h0 h1 from wire i0 items trace r0 refusals submits notes t c-none h-none f-none i-none r-none wire-is items-is refusals-is submits-is trace-is = record {
   gate = t.stands;
   told-is = λ i. record {
-    to_client = gained c0 c1 (out_client first_id (history first_id events)) (out_client first_id (history first_id (e ∷ events))) (given_of client_bytes_of events e) t.client c-none (event-gives client_bytes_of first_id events e) i;
-    to_host = gained h0 h1 (out_host first_id (history first_id events)) (out_host first_id (history first_id (e ∷ events))) (given_of host_bytes_of events e) t.host h-none (host-gives events e) i;
+    to_client = gained c0 c1 (out_client first_id (history first_id events)) (out_client first_id (history first_id (e ∷ events))) (given_of client_bytes_of events e) t.sends.client c-none (event-gives client_bytes_of first_id events e) i;
+    to_host = gained h0 h1 (out_host first_id (history first_id events)) (out_host first_id (history first_id (e ∷ events))) (given_of host_bytes_of events e) t.sends.host h-none (host-gives events e) i;
     from_host = f-none i;
     items = (items-is ∙ (λ j. i-none j ++ flat_map item_of (notes-are j))) i;
     refusals = (refusals-is ∙ (λ j. r-none j ++ flat_map refusal_in (notes-are j))) i;
@@ -74,7 +74,7 @@ event-done old gate events e c0 c1 h0 h1 from wire i0 items trace r0 refusals su
 }
   where
     notes-are : notes ≡ given_of notes_of events e
-    notes-are = append_cancel_left (all_of notes_of first_id (history first_id events)) notes (given_of notes_of events e) (sym t.told ∙ event-gives notes_of first_id events e)
+    notes-are = append_cancel_left (all_of notes_of first_id (history first_id events)) notes (given_of notes_of events e) (sym t.sends.notes-are ∙ event-gives notes_of first_id events e)
 
 -- the same of what was told before and is told now
 pub event-told : {S : Type 0} (old new : SystemKept S) (gate : GateKept) (events : List Event) (e : Event) (c1 h1 wire : List ℕ) (before now : Told) (notes : List Note) →

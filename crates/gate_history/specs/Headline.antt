@@ -3,8 +3,8 @@
 -- (History.antt) is what came, in the order in which packets became whole: each packet, each wrong place and each end,
 -- as what it means behind those before it (Past.antt, Meaning.antt). All that is sent, told and counted is what each
 -- mark of the history gives, one after another (All.antt): packets to the clients and to the host (Output.antt), and
--- notes (Notes.antt).
-use Rattle.std.specs.Prelude.{ℕ, List, ◌≡◌, ◌++◌}
+-- notes (Notes.antt). One event more appends to each list what the longer history has there behind the shorter one's.
+use Rattle.std.specs.Prelude.{ℕ, List, ◌≡◌, ◌++◌, ◌∷◌}
 use Rattle.gate_history.specs.declared.note.Note.{Note}
 use Rattle.gate_history.specs.declared.note.Counts.{Counts}
 use Rattle.gate_history.specs.step.Events.{Event}
@@ -38,3 +38,9 @@ pub record Gains {A : Type 0} (old new before after : List A) : Type 0 where
   pub more : List A
   pub new-is : new ≡ old ++ more
   pub after-is : after ≡ before ++ more
+
+-- behind these events it has appended what it sends to the client's list and to the host's list, and told these notes
+pub record EventSends (first : ℕ) (events : List Event) (event : Event) (client_old client_new host_old host_new : List ℕ) (told : List Note) : Type 0 where
+  pub client : Gains client_old client_new (client_output first events) (client_output first (event ∷ events))
+  pub host : Gains host_old host_new (host_output first events) (host_output first (event ∷ events))
+  pub notes-are : notes first (event ∷ events) ≡ notes first events ++ told

@@ -23,7 +23,7 @@ use Rattle.gate_core.specs.state.Kept.{GateKept}
 use Rattle.gate_parts.specs.state.Rows.{row, left_row, unmarked}
 use Rattle.gate_history.specs.step.Wants.{IsHeld, FirstWants}
 use Rattle.gate_history.specs.step.Came.{asked, told}
-use Rattle.gate_history.specs.Headline.{client_output, host_output, notes as told_notes, Gains}
+use Rattle.gate_history.specs.Headline.{Gains, EventSends}
 
 -- it met want of memory: from then on it does nothing
 abbrev pub GateHasFailed : GateKept → Type 0
@@ -101,9 +101,7 @@ IsReady g = g.failed ≡ false → HasPast g
 
 pub record TakesEvent (first : ℕ) (new : GateKept) (events : List Event) (e : Event) (client_old client_new host_old host_new : List ℕ) (notes : List Note) : Type 0 where
   pub stands : Stands first new (e ∷ events)
-  pub client : Gains client_old client_new (client_output first events) (client_output first (e ∷ events))
-  pub host : Gains host_old host_new (host_output first events) (host_output first (e ∷ events))
-  pub told : told_notes first (e ∷ events) ≡ told_notes first events ++ notes
+  pub sends : EventSends first events e client_old client_new host_old host_new notes
 
 -- memory ran out within an event: the first of its items were taken, what they send was sent, and the gate stands for
 -- them; or not even its bytes have come

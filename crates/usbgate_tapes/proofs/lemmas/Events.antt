@@ -92,10 +92,10 @@ pub sees : (first : ℕ) (old new : Replay) (events : List Event) (e : Event) (c
 sees first old new events e client host text_old text_new notes h t text no_client no_host refused =
     let clients : List Event → List ℕ = λ es. out_client first (history first es) in
     let hosts : List Event → List ℕ = λ es. out_host first (history first es) in
-    let to_client : client ≡ added clients events e = gains-is old.to_client client _ _ h.to_client t.client in
-    let to_host : host ≡ added hosts events e = gains-is old.to_host host _ _ h.to_host t.host in
+    let to_client : client ≡ added clients events e = gains-is old.to_client client _ _ h.to_client t.sends.client in
+    let to_host : host ≡ added hosts events e = gains-is old.to_host host _ _ h.to_host t.sends.host in
     let told : notes ≡ added (λ es. all_of notes_of first (history first es)) events e =
-    sym (drop_at (all_of notes_of first (history first events)) notes _ refl) ∙ ap (drop (length (all_of notes_of first (history first events)))) (sym t.told) in
+    sym (drop_at (all_of notes_of first (history first events)) notes _ refl) ∙ ap (drop (length (all_of notes_of first (history first events)))) (sym t.sends.notes-are) in
     record {
       text = text ∙ ap (λ (l : List ℕ). text_old ++ l) (ap (λ (l : List ℕ). sent_text l host notes) to_client ∙ ap (λ (l : List ℕ). sent_text (added clients events e) l notes) to_host
           ∙ ap (λ (l : List Note). sent_text (added clients events e) (added hosts events e) l) told);
@@ -103,6 +103,6 @@ sees first old new events e client host text_old text_new notes h t text no_clie
         gate = t.stands;
         to_client = no_client;
         to_host = no_host;
-        refused = refused ∙ ap (λ (b : Bool). b || list_any is_refusal notes) h.refused ∙ refused-more first (history first events) (history first (e ∷ events)) notes t.told;
+        refused = refused ∙ ap (λ (b : Bool). b || list_any is_refusal notes) h.refused ∙ refused-more first (history first events) (history first (e ∷ events)) notes t.sends.notes-are;
       };
     }

@@ -33,13 +33,13 @@ pub gate-sends : (setting was : AfterLoss) (first : ℕ) (past : List LinkEvent)
 gate-sends setting was first past e ge kept old client host refusals gone notes is t pushed keep close same =
     let p = gate_sends setting first in
     let came : gate_events (e ∷ past) ≡ ge ∷ gate_events past = ap (λ (o : Option GateEvent). cons_option o (gate_events past)) is in
-    let told : gate_notes first (e ∷ past) ≡ gate_notes first past ++ notes = ap (told_notes first) came ∙ t.told in
+    let told : gate_notes first (e ∷ past) ≡ gate_notes first past ++ notes = ap (told_notes first) came ∙ t.sends.notes-are in
     let told_is : gained (gate_notes first) past e ≡ notes = gained-is (gate_notes first past) notes (gate_notes first (e ∷ past)) told in
     let refused : p.refusals (e ∷ past) ≡ p.refusals past ++ flat_map refusal_in notes = ap (flat_map refusal_in) told ∙ flat_map-append refusal_in (gate_notes first past) notes in
     let refused_is : gained p.refusals past e ≡ flat_map refusal_in notes = gained-is (p.refusals past) (flat_map refusal_in notes) (p.refusals (e ∷ past)) refused in
     record {
-      client = gained-of p.to_client past e old.to_client client (client_output first (ge ∷ gate_events past)) (ap (client_output first) came) t.client;
-      host = gained-of p.to_host past e old.to_host host (host_output first (ge ∷ gate_events past)) (ap (host_output first) came) t.host;
+      client = gained-of p.to_client past e old.to_client client (client_output first (ge ∷ gate_events past)) (ap (client_output first) came) t.sends.client;
+      host = gained-of p.to_host past e old.to_host host (host_output first (ge ∷ gate_events past)) (ap (host_output first) came) t.sends.host;
       refusals = pushed ∙ ap (λ (l : List Refusal). old.refusals ++ l) (sym refused_is);
       lets_go = ap (λ (b : Bool). old.lets_go || b) (let-go setting was first past e notes gone told_is keep close same);
       grows = refused ∙ ap (λ (l : List Refusal). p.refusals past ++ l) (sym refused_is);

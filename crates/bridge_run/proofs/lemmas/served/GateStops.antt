@@ -118,13 +118,13 @@ pub gate-untold : (setting : AfterLoss) (first : ℕ) (past : List LinkEvent) (e
 gate-untold setting first past e ge kept old new notes is t some =
     let p = gate_sends setting first in
     let came : gate_events (e ∷ past) ≡ ge ∷ gate_events past = ap (λ (o : Option GateEvent). cons_option o (gate_events past)) is in
-    let told : gate_notes first (e ∷ past) ≡ gate_notes first past ++ notes = ap (told_notes first) came ∙ t.told in
+    let told : gate_notes first (e ∷ past) ≡ gate_notes first past ++ notes = ap (told_notes first) came ∙ t.sends.notes-are in
     let refused : p.refusals (e ∷ past) ≡ p.refusals past ++ flat_map refusal_in notes = ap (flat_map refusal_in) told ∙ flat_map-append refusal_in (gate_notes first past) notes in
     record {
       client = gained p.to_client past e;
       host = gained p.to_host past e;
-      to_client = gained-of p.to_client past e old.to_client new.to_client (client_output first (ge ∷ gate_events past)) (ap (client_output first) came) t.client;
-      to_host = gained-of p.to_host past e old.to_host new.to_host (host_output first (ge ∷ gate_events past)) (ap (host_output first) came) t.host;
+      to_client = gained-of p.to_client past e old.to_client new.to_client (client_output first (ge ∷ gate_events past)) (ap (client_output first) came) t.sends.client;
+      to_host = gained-of p.to_host past e old.to_host new.to_host (host_output first (ge ∷ gate_events past)) (ap (host_output first) came) t.sends.host;
       part = record {
         to_client = ([], sym (append-nil (gained p.to_client past e)));
         to_host = ([], sym (append-nil (gained p.to_host past e)));

@@ -53,9 +53,11 @@ returns-in-Ok-clause-takes c first past stands =
     let t = on first past (subst (λ (k : GateKept). Stands first k past) (sym c.self.view_is) stands) in
     record {
       stands = t.stands;
-      client = rw c.swap-3.ensures.x_after t.sends.client;
-      host = rw c.swap-4.ensures.x_after t.sends.host;
-      told = t.sends.told.after-is ∙ ap (λ (l : List Note). notes first past ++ l) (sym t.sends.told.new-is);
+      sends = record {
+        client = rw c.swap-3.ensures.x_after t.sends.client;
+        host = rw c.swap-4.ensures.x_after t.sends.host;
+        notes-are = t.sends.told.after-is ∙ ap (λ (l : List Note). notes first past ++ l) (sym t.sends.told.new-is);
+      };
     }
 
 pub returns-in-Err-clause-stops : goal.returns-in-Err-clause-stops
