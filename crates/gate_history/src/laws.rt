@@ -1,4 +1,4 @@
-//! Laws of the core's definitions, as contracts of functions that do nothing.
+//! Laws of what the gate means, as contracts of functions that do nothing.
 
 ghost use Rattle.std.specs.Prelude.{◌≡◌, ◌<◌, ◌≤◌, ◌↔◌, ℕ, List, ◌∷◌, length, map, filter};
 ghost use Rattle.std.specs.List.{list_any, flat_map, AllByRecursion};
@@ -106,7 +106,7 @@ pub fn ids_fly_once()
 {}
 
 /// A law: the refusals that are told are, in order, one for each wrong place of a side's stream and one for each packet
-/// that breaks a rule of the core, and there is no other. The items of a side's bytes have the wrong place of their
+/// that breaks a rule of the gate, and there is no other. The items of a side's bytes have the wrong place of their
 /// splitting, where that has one.
 pub fn refusals_have_causes()
     ensures told { (first : ℕ) (items : List Item) → filter is_refusal (all_of notes_of first (past first items)) ≡ causes first items }

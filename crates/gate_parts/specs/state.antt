@@ -1,3 +1,3 @@
--- What is kept.
+-- Rows of requests, and ids.
 pub mod Rows
 pub mod Ids

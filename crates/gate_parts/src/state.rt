@@ -1,4 +1,4 @@
-//! What is kept.
+//! Ids, the streams that are up, and the ids of their starts and stops.
 
 pub mod id;
 pub mod stream_ids;

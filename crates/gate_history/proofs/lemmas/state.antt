@@ -1,4 +1,4 @@
--- What is kept.
+-- What the items that came leave: facts, streams, ids, and where both sides stand.
 pub mod Cycle
 pub mod Draws
 pub mod StreamIds

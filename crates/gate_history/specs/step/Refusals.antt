@@ -1,4 +1,4 @@
--- Which refusals there are: a side is refused where its stream has a wrong place, and for four rules of the core. There
+-- Which refusals there are: a side is refused where its stream has a wrong place, and for four rules of the gate. There
 -- is no other.
 use Rattle.std.specs.Prelude.{ℕ, ◌+◌, not, Bool, true, false, if◌then◌else◌, List, [], ◌∷◌, ◌++◌, Option, Some, None}
 use Rattle.std.specs.List.{find}
@@ -26,7 +26,7 @@ use Rattle.gate_history.specs.step.Past.{is_left_out, past}
 use Rattle.gate_history.specs.host.Responses.{response_of, mismatch}
 use Rattle.gate_history.specs.write.Notes.{refusal_notes}
 
--- ---- the rules of the core
+-- ---- the rules of the gate
 
 abbrev pub refused_if : Bool → ℕ → Reason → Option Refusal
 refused_if broken place reason = if broken then Some (refusal Client place reason) else None

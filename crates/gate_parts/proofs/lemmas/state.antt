@@ -1,4 +1,4 @@
--- What is kept.
+-- Rows of requests, ids, and places of streams.
 pub mod Rows
 pub mod Ids
 pub mod Places
