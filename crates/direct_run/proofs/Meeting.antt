@@ -25,7 +25,7 @@ use Rattle.redir_data.specs.Sent.{sent_packet_bytes}
 use Rattle.gate_history.specs.write.Bytes.{host_bytes_of}
 use Rattle.gate_history.specs.step.Meaning.{told_by, told_meaning, meaning, mark_of, mark_as}
 use Rattle.gate_history.specs.step.Past.{is_left_out, past}
-use Rattle.gate_history.specs.step.Machine.{after, run, given, all_given}
+use Rattle.gate_history.specs.step.Machine.{with_mark, run, given, all_given}
 use Rattle.gate_history.proofs.lemmas.step.Runs.{state-run}
 use Rattle.gate_history.proofs.lemmas.step.Apart.{asked-host, wrong-host, left-host, asked-agreed, wrong-agreed, left-agreed, data-agrees, response-agrees}
 use Rattle.gate_history.proofs.lemmas.host.NoHello.{IsQuiet, IsUntold, none-sent, stays-quiet, sends-none}
@@ -104,8 +104,8 @@ unmet-more first xs x client u =
     let same : mark_of st x ≡ m = ap (mark_as st (meaning st x)) (told-none x client) in
     record {
       fresh = record {
-        quiet = subst (λ (k : Mark). IsQuiet (cond left st (after st k))) (sym same)
-            (elim left as (λ (b : Bool). IsQuiet (cond b st (after st m))) [ true ↦ u.fresh.quiet | false ↦ stays-quiet st x u.fresh.quiet (untold x client) ]);
+        quiet = subst (λ (k : Mark). IsQuiet (cond left st (with_mark st k))) (sym same)
+            (elim left as (λ (b : Bool). IsQuiet (cond b st (with_mark st m))) [ true ↦ u.fresh.quiet | false ↦ stays-quiet st x u.fresh.quiet (untold x client) ]);
         host_there = client-host first xs x client ∙ u.fresh.host_there;
         agreed = client-agreed first xs x client ∙ u.fresh.agreed;
       };
@@ -135,7 +135,7 @@ met-hello first xs place h u =
     let none : all_given to_host first (x ∷ xs) ≡ [] = (λ i. u.none i ++ cond (u.fresh.host_there i) [] (silent i)) in
     let no_bytes : all_given host_bytes_of first (x ∷ xs) ≡ [] = (λ i. u.no_bytes i ++ cond (u.fresh.host_there i) [] (flat_map (sent_packet_bytes st.agreed) (silent i))) in
     record {
-      agreed = ap (λ (b : Bool). (cond b st (after st m)).agreed) u.fresh.host_there;
+      agreed = ap (λ (b : Bool). (cond b st (with_mark st m)).agreed) u.fresh.host_there;
       bytes = no_bytes ∙ ap (flat_map (sent_packet_bytes both_caps)) (sym none);
     }
 
@@ -150,5 +150,5 @@ told-agrees st place h p none = response-agrees st place h (response_of p)
 pub told-agreed : (first : ℕ) (xs : List Item) (place : ℕ) (h : Header) (p : RedirPacket) → is_hello p ≡ false → (run first (Told place h p ∷ xs)).agreed ≡ (run first xs).agreed
 told-agreed first xs place h p none =
     let st = run first xs in
-    elim st.host_over as (λ (b : Bool). (cond b st (after st (mark_of st (Told place h p)))).agreed ≡ st.agreed)
+    elim st.host_over as (λ (b : Bool). (cond b st (with_mark st (mark_of st (Told place h p)))).agreed ≡ st.agreed)
     [ true ↦ refl | false ↦ ap (λ (o : Option Caps). unwrap_or o st.agreed) (told-agrees st place h p none) ]

@@ -16,7 +16,7 @@ use Rattle.gate_history.specs.write.Output.{to_client, to_host}
 use Rattle.gate_history.specs.write.Notes.{notes_of}
 use Rattle.gate_history.specs.step.Meaning.{mark_of}
 use Rattle.gate_history.specs.step.Past.{is_left_out}
-use Rattle.gate_history.specs.step.Machine.{after, step, given, steps, given_by}
+use Rattle.gate_history.specs.step.Machine.{with_mark, step, given, steps, given_by}
 use Rattle.direct_run.specs.declared.item.Item.{Item as RunItem}
 use Rattle.direct_run.specs.declared.submitted.Submitted.{Submitted}
 use Rattle.direct_run.specs.Moves.{World, Made, Telling, Move, ByClient, HostReads, GateReads, as_items, as_submits, first_world, quiet, then_made, gate_made, gate_move, host_reads, move, run}
@@ -67,7 +67,7 @@ gate_all t w xs = record {
 
 abbrev one_by : {S T : Type 0} → Telling T → World S → Item → Bool → Made S T
 one_by t w x b = record {
-  world = record w { gate = cond b w.gate (after w.gate (mark_of w.gate x)); to_host = w.to_host ++ cond b [] (to_host w.gate (mark_of w.gate x)); submits = w.submits ++ flat_map named (cond b [] (notes_of w.gate (mark_of w.gate x))) };
+  world = record w { gate = cond b w.gate (with_mark w.gate (mark_of w.gate x)); to_host = w.to_host ++ cond b [] (to_host w.gate (mark_of w.gate x)); submits = w.submits ++ flat_map named (cond b [] (notes_of w.gate (mark_of w.gate x))) };
   outs = cond b [] (to_client w.gate (mark_of w.gate x));
   told = cond b [] (t.by_gate w.gate (mark_of w.gate x));
 }

@@ -14,7 +14,7 @@ use Rattle.gate_history.specs.step.Past.{is_left_out}
 use Rattle.gate_history.specs.write.Output.{to_client, to_host}
 use Rattle.gate_history.specs.write.Notes.{notes_of}
 use Rattle.gate_history.specs.write.Bytes.{gateway_hello}
-use Rattle.gate_history.specs.step.Machine.{after, start as first_state}
+use Rattle.gate_history.specs.step.Machine.{with_mark, start as first_state}
 use Rattle.model_device.specs.Meaning.{Meaning}
 use Rattle.redir_host.specs.declared.state.host.Host.{Host}
 use Rattle.redir_host.specs.step.Machine.{first_host}
@@ -78,7 +78,7 @@ as_submits = record { by_gate = λ st m. opened m.what; by_host = λ items. [] }
 
 abbrev pub gate_made : {S T : Type 0} → Telling T → World S → Mark → Made S T
 gate_made t w m = record {
-  world = record w { gate = after w.gate m; to_host = w.to_host ++ to_host w.gate m; submits = w.submits ++ flat_map named (notes_of w.gate m) };
+  world = record w { gate = with_mark w.gate m; to_host = w.to_host ++ to_host w.gate m; submits = w.submits ++ flat_map named (notes_of w.gate m) };
   outs = to_client w.gate m;
   told = t.by_gate w.gate m;
 }

@@ -15,7 +15,7 @@ use Rattle.gate_history.specs.state.State.{State, state_of, flying}
 use Rattle.gate_history.specs.state.Sound.{IsSound, HasFewPackets}
 use Rattle.gate_history.specs.step.Past.{is_left_out, past}
 use Rattle.gate_history.specs.step.Meaning.{mark_of}
-use Rattle.gate_history.specs.step.Machine.{step, after}
+use Rattle.gate_history.specs.step.Machine.{step, with_mark}
 use Rattle.gate_history.proofs.lemmas.state.Sound.{state-sound}
 use Rattle.gate_history.proofs.lemmas.step.Runs.{state-run}
 use Rattle.gate_history.proofs.lemmas.state.Flights.{item-fresh}
@@ -31,7 +31,7 @@ pub run-sound : (st : State) → IsRun st → IsSound st
 run-sound st r = subst IsSound (state-run first_id r.0 ∙ sym r.1) (state-sound first_id r.0)
 
 step-is : {S : Type 0} (w : World S) (x : GateItem) → (gate_move as_deeds w x).world.gate ≡ step w.gate x
-step-is w x = elim (is_left_out w.gate x) as (λ b. (cond b (quiet w) (gate_made as_deeds w (mark_of w.gate x))).world.gate ≡ cond b w.gate (after w.gate (mark_of w.gate x))) [ true ↦ refl | false ↦ refl ]
+step-is w x = elim (is_left_out w.gate x) as (λ b. (cond b (quiet w) (gate_made as_deeds w (mark_of w.gate x))).world.gate ≡ cond b w.gate (with_mark w.gate (mark_of w.gate x))) [ true ↦ refl | false ↦ refl ]
 
 stepped : {S : Type 0} (w : World S) (x : GateItem) → IsRun w.gate → IsRun (gate_move as_deeds w x).world.gate
 stepped w x r = (x ∷ r.0, step-is w x ∙ ap (λ (st : State). step st x) r.1)

@@ -12,7 +12,7 @@ use Rattle.usbip_urb.specs.declared.client.ClientPacket.TheVariants.{Op, Urb}
 use Rattle.usbip_urb.specs.declared.packet.UrbPacket.{UrbPacket}
 use Rattle.model_device.specs.Meaning.{Meaning}
 use Rattle.gate_history.specs.client.Ends.{answers_at, ends}
-use Rattle.gate_history.specs.step.Machine.{after}
+use Rattle.gate_history.specs.step.Machine.{with_mark}
 use Rattle.gate_history.specs.step.Marks.{Mark}
 use Rattle.gate_history.specs.write.Output.{fresh, to_client}
 use Rattle.gate_history.specs.state.Sides.{imports, leaves, refuses_client, ends_client}
@@ -88,7 +88,7 @@ module _ {S : Type 0} (n : Meaning S) (d : Direct S) (since : List UrbPacket) (s
   no-ops : r.ops ≡ [] → imports m.what ≡ false
   no-ops h = sym r.success ∙ ap (list_any is_import) h
 
-  begun-inside : st.imported ≡ true → Begun later (after st m) (packets ++ to_client st m)
+  begun-inside : st.imported ≡ true → Begun later (with_mark st m) (packets ++ to_client st m)
   begun-inside h = record {
     ops = b.ops;
     urbs = b.urbs ++ (r.urbs ++ told);
@@ -105,7 +105,7 @@ module _ {S : Type 0} (n : Meaning S) (d : Direct S) (since : List UrbPacket) (s
   none-out : st.imported ≡ false → all_answers n d (deeds_of st m) ≡ []
   none-out h = sym k ∙ urbs-out ∙ (λ i. (r.behind h).0 i ++ none-told h i)
 
-  begun-outside : st.imported ≡ false → b.urbs ≡ [] → Begun later (after st m) (packets ++ to_client st m)
+  begun-outside : st.imported ≡ false → b.urbs ≡ [] → Begun later (with_mark st m) (packets ++ to_client st m)
   begun-outside h nothing = record {
     ops = b.ops ++ r.ops;
     urbs = [];
@@ -116,7 +116,7 @@ module _ {S : Type 0} (n : Meaning S) (d : Direct S) (since : List UrbPacket) (s
     inside = λ i. list_any-append is_import b.ops r.ops ∙ or_right (list_any is_import b.ops) (list_any is_import r.ops) (r.success ∙ comes (imports m.what) refl i);
   }
     where
-      comes : (x : Bool) → imports m.what ≡ x → (after st m).imported ≡ true → imports m.what ≡ true
+      comes : (x : Bool) → imports m.what ≡ x → (with_mark st m).imported ≡ true → imports m.what ≡ true
       comes true e i = e
       comes false e i = absurd (not-in (imports m.what) (leaves m.what) e (ap (λ (z : Bool). cond (imports m.what) true (cond (leaves m.what) false z)) (sym h) ∙ i))
 
@@ -134,7 +134,7 @@ module _ {S : Type 0} (n : Meaning S) (d : Direct S) (since : List UrbPacket) (s
           same : list_any is_import (b.ops ++ r.ops) ≡ list_any is_import b.ops
           same = list_any-append is_import b.ops r.ops ∙ or-none (list_any is_import b.ops) (list_any is_import r.ops) (r.success ∙ e)
 
-  begun-over : st.imported ≡ false → st.client_over ≡ true → Begun later (after st m) (packets ++ to_client st m)
+  begun-over : st.imported ≡ false → st.client_over ≡ true → Begun later (with_mark st m) (packets ++ to_client st m)
   begun-over h over = record {
     ops = b.ops;
     urbs = b.urbs;
@@ -144,10 +144,10 @@ module _ {S : Type 0} (n : Meaning S) (d : Direct S) (since : List UrbPacket) (s
     inside = λ i. absurd (not-in (imports m.what) (leaves m.what) (no-ops (r.on over)) (ap (λ (z : Bool). cond (imports m.what) true (cond (leaves m.what) false z)) (sym h) ∙ i));
   }
 
-  pub begun-mark : Begun later (after st m) (packets ++ to_client st m)
+  pub begun-mark : Begun later (with_mark st m) (packets ++ to_client st m)
   begun-mark = go st.imported st.client_over refl refl
     where
-      go : (i o : Bool) → st.imported ≡ i → st.client_over ≡ o → Begun later (after st m) (packets ++ to_client st m)
+      go : (i o : Bool) → st.imported ≡ i → st.client_over ≡ o → Begun later (with_mark st m) (packets ++ to_client st m)
       go true o h z = begun-inside h
       go false true h z = begun-over h z
       go false false h z = begun-outside h (b.none h z)

@@ -20,7 +20,7 @@ use Rattle.gate_history.specs.client.Ends.{is_touched}
 use Rattle.gate_history.specs.state.StreamIds.{stream_ids_after}
 use Rattle.gate_history.specs.state.State.{State, submits, is_number as is_numbered, change_waits}
 use Rattle.gate_history.specs.state.Sound.{IsSound}
-use Rattle.gate_history.specs.step.Machine.{after}
+use Rattle.gate_history.specs.step.Machine.{with_mark}
 use Rattle.gate_history.specs.step.Meaning.{mark_as, mark_of, by_stream}
 use Rattle.gate_history.specs.write.Output.{fresh}
 use Rattle.gate_history.proofs.lemmas.Lists.{filter-all, list_any-map, Each-append, Each-filter}
@@ -96,14 +96,14 @@ module _ {S : Type 0} (m : Meaning S) (w : World S) (j : Shared) (rel : Related 
 
   abbrev opened_world : World S
   opened_world = record w {
-    gate = record (after st mark) { live = st.live ++ fresh (record { place = st.items; request = r; verdict = v; id = is.simple.id }) ∷ []; abandoned = st.abandoned; streams = st.streams; stream_ids = st.stream_ids };
+    gate = record (with_mark st mark) { live = st.live ++ fresh (record { place = st.items; request = r; verdict = v; id = is.simple.id }) ∷ []; abandoned = st.abandoned; streams = st.streams; stream_ids = st.stream_ids };
     to_host = w.to_host ++ qs;
     submits = w.submits ++ record { seqnum = r.number; id = is.simple.id } ∷ [];
   }
 
   world : (gate_made as_deeds w mark).world ≡ opened_world
   world = λ i. record w {
-    gate = record (after st mark) {
+    gate = record (with_mark st mark) {
       live = simple-live st r v is.simple first i;
       abandoned = filter-all st.abandoned i;
       streams = is.simple.streams i;

@@ -26,7 +26,7 @@ use Rattle.gate_history.specs.write.Output.{to_client}
 use Rattle.gate_history.specs.write.Notes.{notes_of, dropped}
 use Rattle.gate_history.specs.write.All.{is_ret_submit, is_won_unlink}
 use Rattle.gate_history.specs.write.Bytes.{client_bytes_of, host_bytes_of}
-use Rattle.gate_history.specs.step.Machine.{start, after}
+use Rattle.gate_history.specs.step.Machine.{start, with_mark}
 use Rattle.gate_history.specs.declared.request.Request.{Request}
 pub use Rattle.gate_core.specs.step.Stands.{Holds}
 use Rattle.gate_history.specs.write.Asked.{HasItsPackets}
@@ -66,7 +66,7 @@ pub record IsFirst (t : Kept) (first : ℕ) : Type 0 where
 -- ---- what is done with a mark, and so with an item
 
 pub record Does (st : State) (m : Mark) (old new : Kept) (out_old out_new : Outputs) : Type 0 where
-  pub holds : Holds new (after st m)
+  pub holds : Holds new (with_mark st m)
   pub client : out_new.to_client ≡ out_old.to_client ++ client_bytes_of st m
   pub host : out_new.to_host ≡ out_old.to_host ++ host_bytes_of st m
   pub notes : out_new.notes ≡ out_old.notes ++ notes_of st m

@@ -3,8 +3,8 @@ use Rattle.std.specs.Prelude.{◌≡◌, ℕ, zero, suc, ◌+◌, ◌≤◌, ◌
 use Rattle.std.specs.List.{list_any, AllByRecursion, IsDistinct}
 
 -- the id after this one; 1 comes after m
-abbrev pub after : ℕ → ℕ → ℕ
-after m id = if nat_lt id m then id + 1 else 1
+abbrev pub id_after : ℕ → ℕ → ℕ
+id_after m id = if nat_lt id m then id + 1 else 1
 
 abbrev pub holds : List ℕ → ℕ → Bool
 holds ids id = list_any (λ x. id == x) ids
@@ -12,11 +12,11 @@ holds ids id = list_any (λ x. id == x) ids
 -- the first id from this one on that isn't in flight, where at most n are passed over
 abbrev pub free_from : ℕ → List ℕ → ℕ → ℕ → ℕ
 free_from m flying zero id = id
-free_from m flying (suc n) id = if holds flying id then free_from m flying n (after m id) else id
+free_from m flying (suc n) id = if holds flying id then free_from m flying n (id_after m id) else id
 
 -- the next id: the first after the last drawn that isn't in flight. No more are passed over than are in flight
 abbrev pub draw : ℕ → List ℕ → ℕ → ℕ
-draw m flying last = free_from m flying (length flying) (after m last)
+draw m flying last = free_from m flying (length flying) (id_after m last)
 
 -- n ids in turn, the first drawn first
 abbrev pub draws : ℕ → List ℕ → ℕ → ℕ → List ℕ
@@ -36,10 +36,10 @@ greatest wide = if wide then 18446744073709551615 else 4294967295
 -- `found` comes k turns after `from`, isn't in flight, and all before it are
 abbrev pub ReachesId : ℕ → List ℕ → ℕ → ℕ → ℕ → Type 0
 ReachesId m flying zero from found = (found ≡ from) × (holds flying found ≡ false)
-ReachesId m flying (suc k) from found = (holds flying from ≡ true) × ReachesId m flying k (after m from) found
+ReachesId m flying (suc k) from found = (holds flying from ≡ true) × ReachesId m flying k (id_after m from) found
 
 abbrev pub IsNext : ℕ → List ℕ → ℕ → ℕ → Type 0
-IsNext m flying last found = (k : ℕ) × ReachesId m flying k (after m last) found
+IsNext m flying last found = (k : ℕ) × ReachesId m flying k (id_after m last) found
 
 -- an id that a packet can have
 pub record Fits (m id : ℕ) : Type 0 where

@@ -32,8 +32,8 @@ ask e p = record p { unlinker = option_or p.unlinker (asks e p.submit) }
 abbrev pub live_after : State → Effect → List Pending
 live_after st e = map (ask e) (filter (λ p. is_none (ends e p.submit)) (present st e))
 
-abbrev pub after : State → Mark → State
-after st m = record {
+abbrev pub with_mark : State → Mark → State
+with_mark st m = record {
   items = suc st.items;
   facts = facts_after m.what m.told st.facts;
   agreed = unwrap_or (agrees m.what) st.agreed;
@@ -50,7 +50,7 @@ after st m = record {
 }
 
 abbrev pub step : State → Item → State
-step st x = if is_left_out st x then st else after st (mark_of st x)
+step st x = if is_left_out st x then st else with_mark st (mark_of st x)
 
 -- lists of items have the latest first
 abbrev pub run : ℕ → List Item → State

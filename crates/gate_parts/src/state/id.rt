@@ -2,7 +2,7 @@
 
 ghost use Rattle.std.specs.Prelude.{◌≡◌, ◌+◌, ◌++◌, ◌<◌, length, false};
 ghost use Rattle.redir_wire.specs.Header.{IdFits};
-ghost use Rattle.gate_history.specs.state.Ids.{after, greatest, holds, draw};
+ghost use Rattle.gate_history.specs.state.Ids.{id_after, greatest, holds, draw};
 ghost use Rattle.gate_history.specs.state.StreamIds.{ids_of_streams};
 ghost use Rattle.gate_parts.specs.state.Ids.{ids_in};
 
@@ -17,8 +17,8 @@ fn greatest(wide: bool) -> u64
 }
 
 // The id after this one; 1 comes after the greatest.
-fn after(greatest: u64, id: u64) -> u64
-    ensures { result ≡ after greatest id }
+fn id_after(greatest: u64, id: u64) -> u64
+    ensures { result ≡ id_after greatest id }
 {
     if id < greatest { id + 1 } else { 1 }
 }
@@ -32,9 +32,9 @@ pub fn draw(lives: &Lives, stream_ids: &StreamIds, wide: bool, last: u64) -> u64
     ensures fits { IdFits wide result }
 {
     let greatest = greatest(wide);
-    let mut id = after(greatest, last);
+    let mut id = id_after(greatest, last);
     while is_held(lives, stream_ids, id) {
-        id = after(greatest, id);
+        id = id_after(greatest, id);
     }
     id
 }

@@ -3,7 +3,7 @@ use Rattle.std.proofs.Common.{◌≡◌, true, false, cond, List, [], ◌∷◌,
 use Rattle.control_route.specs.declared.route.Route.{Route}
 use Rattle.gate_history.specs.state.StreamIds.{no_stream_ids}
 use Rattle.gate_history.specs.declared.item.Item.{Item}
-use Rattle.gate_history.specs.step.Machine.{after, run as gate_run}
+use Rattle.gate_history.specs.step.Machine.{with_mark, run as gate_run}
 use Rattle.gate_history.specs.step.Meaning.{mark_of, meaning, told_by}
 use Rattle.gate_history.specs.step.Past.{is_left_out}
 use Rattle.gate_history.specs.state.State.{State}
@@ -20,13 +20,13 @@ use Rattle.direct_proof.proofs.streams.gates.Gates.{is-gate, is-changing, long-a
 long-run : (xs : List Item) → AreLong (gate_run first_id xs).stream_ids
 long-run [] = record { started = refl; stopped = refl }
 long-run (x ∷ xs) =
-    elim (is_left_out (gate_run first_id xs) x) as (λ b. AreLong (cond b (gate_run first_id xs) (after (gate_run first_id xs) (mark_of (gate_run first_id xs) x))).stream_ids)
+    elim (is_left_out (gate_run first_id xs) x) as (λ b. AreLong (cond b (gate_run first_id xs) (with_mark (gate_run first_id xs) (mark_of (gate_run first_id xs) x))).stream_ids)
     [ true ↦ long-run xs | false ↦ long-after (gate_run first_id xs) (mark_of (gate_run first_id xs) x) (long-run xs) ]
 
 unstopped-run : (xs : List Item) → Unstopped (gate_run first_id xs).streams (gate_run first_id xs).stream_ids
 unstopped-run [] = unstopped-none no_stream_ids
 unstopped-run (x ∷ xs) =
-    elim (is_left_out (gate_run first_id xs) x) as (λ b. Unstopped (cond b (gate_run first_id xs) (after (gate_run first_id xs) (mark_of (gate_run first_id xs) x))).streams (cond b (gate_run first_id xs) (after (gate_run first_id xs) (mark_of (gate_run first_id xs) x))).stream_ids)
+    elim (is_left_out (gate_run first_id xs) x) as (λ b. Unstopped (cond b (gate_run first_id xs) (with_mark (gate_run first_id xs) (mark_of (gate_run first_id xs) x))).streams (cond b (gate_run first_id xs) (with_mark (gate_run first_id xs) (mark_of (gate_run first_id xs) x))).stream_ids)
     [ true ↦ unstopped-run xs | false ↦ unstopped-after (gate_run first_id xs) (meaning (gate_run first_id xs) x) (told_by x) (unstopped-run xs) ]
 
 pub run-long : (st : State) → IsRun st → AreLong st.stream_ids

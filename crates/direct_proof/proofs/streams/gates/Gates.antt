@@ -7,7 +7,7 @@ use Rattle.control_route.specs.declared.route.Route.TheVariants as route
 use Rattle.gate_history.specs.state.StreamIds.{ids_of_streams, asking}
 use Rattle.gate_history.specs.state.Flight.{wide_ids, ids_of}
 use Rattle.gate_history.specs.state.Ids.{greatest}
-use Rattle.gate_history.specs.step.Machine.{after}
+use Rattle.gate_history.specs.step.Machine.{with_mark}
 use Rattle.gate_history.specs.step.Marks.{Submission, Mark}
 use Rattle.gate_history.specs.write.Packets.{stops, route_packets}
 use Rattle.gate_history.specs.state.Sound.{IsSound}
@@ -67,5 +67,5 @@ is-changing st x sound long places free = record {
 }
 
 -- an item keeps the places of ids
-pub long-after : (st : State) (m : Mark) → AreLong st.stream_ids → AreLong (after st m).stream_ids
+pub long-after : (st : State) (m : Mark) → AreLong st.stream_ids → AreLong (with_mark st m).stream_ids
 long-after st m long = long-stream_ids_after (asking st.streams m) st.stream_ids long

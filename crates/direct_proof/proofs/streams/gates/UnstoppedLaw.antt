@@ -21,7 +21,7 @@ use Rattle.gate_history.specs.write.Packets.{stops, route_packets, starts, iso_p
 use Rattle.gate_history.specs.state.Ups.{Up, stream_at, raise, lower, hold, is_ended, no_streams, opened_streams}
 use Rattle.gate_history.specs.state.State.{State, flying}
 use Rattle.gate_history.specs.step.Meaning.{mark_as}
-use Rattle.gate_history.specs.step.Machine.{after}
+use Rattle.gate_history.specs.step.Machine.{with_mark}
 use Rattle.gate_history.proofs.lemmas.state.StreamIds.{zip-append, stream_ids_after-append, stream_ids_after-silent, wire-silent, route-silent, iso-silent, start-stream_ids}
 use Rattle.direct_proof.proofs.streams.gates.Unstopped.{Unstopped, unstopped-raised, unstopped-fewer, unstopped-lower}
 
@@ -111,7 +111,7 @@ module _ (most : ℕ) (fly : List ℕ) (last : ℕ) (ups : List (Option Up)) (c 
 
 -- ---- any effect
 
-pub unstopped-after : (st : State) (e : Effect) (told : Option Fact) → Unstopped st.streams st.stream_ids → Unstopped (after st (mark_as st e told)).streams (after st (mark_as st e told)).stream_ids
+pub unstopped-after : (st : State) (e : Effect) (told : Option Fact) → Unstopped st.streams st.stream_ids → Unstopped (with_mark st (mark_as st e told)).streams (with_mark st (mark_as st e told)).stream_ids
 unstopped-after st Idle told h = h
 unstopped-after st (Replies reply) told h = h
 unstopped-after st (Imports reply) told h = h
@@ -132,6 +132,6 @@ unstopped-after st (Ends Client) told h = unstopped-none _
 unstopped-after st (Ends Host) told h = unstopped-none _
 unstopped-after st (Refuses r) told h = go r.side
   where
-    go : (s : Side) → Unstopped (after st (mark_as st (Refuses (record r { side = s })) told)).streams (after st (mark_as st (Refuses (record r { side = s })) told)).stream_ids
+    go : (s : Side) → Unstopped (with_mark st (mark_as st (Refuses (record r { side = s })) told)).streams (with_mark st (mark_as st (Refuses (record r { side = s })) told)).stream_ids
     go Client = unstopped-none _
     go Host = unstopped-none _

@@ -18,7 +18,7 @@ use Rattle.gate_history.specs.write.Notes.{notes_of, dropped}
 use Rattle.gate_history.specs.write.All.{all_of, is_ret_submit, is_won_unlink}
 use Rattle.redir_data.specs.Sent.{sent_packet_bytes}
 use Rattle.gate_history.specs.write.Bytes.{gateway_hello, client_bytes_of, host_bytes_of, out_client, out_host}
-use Rattle.gate_history.specs.step.Machine.{after, step}
+use Rattle.gate_history.specs.step.Machine.{with_mark, step}
 use Rattle.gate_core.specs.step.Stands.{Translates}
 use Rattle.gate_history.specs.Headline.{Gains}
 use Rattle.gate_core.specs.inner.Holds.{Holds, Does}
@@ -66,11 +66,11 @@ pub past-skipped : (first : ℕ) (xs : List Item) (x : Item) → is_left_out (st
 past-skipped first xs x skipped = let ms = past first xs in ap (λ (b : Bool). cond b ms (mark_of (state_of first ms) x ∷ ms)) skipped
 
 state-taken : (first : ℕ) (xs : List Item) (x : Item) → is_left_out (state_of first (past first xs)) x ≡ false →
-    after (state_of first (past first xs)) (mark_of (state_of first (past first xs)) x) ≡ state_of first (past first (x ∷ xs))
+    with_mark (state_of first (past first xs)) (mark_of (state_of first (past first xs)) x) ≡ state_of first (past first (x ∷ xs))
 state-taken first xs x taken =
     let st = state_of first (past first xs) in
     let now : state_of first (past first (x ∷ xs)) ≡ step st x = state-run first (x ∷ xs) ∙ ap (λ (s : State). step s x) (sym (state-run first xs)) in
-    sym (now ∙ ap (λ (b : Bool). cond b st (after st (mark_of st x))) taken)
+    sym (now ∙ ap (λ (b : Bool). cond b st (with_mark st (mark_of st x))) taken)
 
 counts-more : {A : Type 0} (gives : State → Mark → List A) (p : A → Bool) (first : ℕ) (ms : List Mark) (m : Mark) (old new : ℕ) → old ≡ capped (length (filter p (all_of gives first ms))) →
     new ≡ capped (old + length (filter p (gives (state_of first ms) m))) → new ≡ capped (length (filter p (all_of gives first (m ∷ ms))))

@@ -17,7 +17,7 @@ use Rattle.redir_wire.specs.declared.packet.Connect.{Connect}
 use Rattle.gate_history.specs.state.Facts.{no_facts}
 use Rattle.gate_history.specs.declared.item.Item.{Item}
 use Rattle.gate_history.specs.declared.item.Item.TheVariants.{Asked, ClientWrong, ClientLeft, Told, HostWrong, HostLeft}
-use Rattle.gate_history.specs.step.Machine.{ask, live_after, after}
+use Rattle.gate_history.specs.step.Machine.{ask, live_after, with_mark}
 use Rattle.gate_history.specs.step.Marks.{Effect, Idle, Replies, Ends, Refuses}
 use Rattle.gate_history.specs.step.Meaning.{importable, imported_as, asked_meaning, meaning, mark_as}
 use Rattle.gate_history.specs.write.Output.{cancel, cancels, fresh, acknowledgements, to_host}
@@ -121,7 +121,7 @@ turned-off false true before a e = refl
 turned-off false false before a e = e
 
 record Stays (st : State) (e : Effect) : Type 0 where
-  pub quiet : IsQuiet (after st (mark_as st e None))
+  pub quiet : IsQuiet (with_mark st (mark_as st e None))
   pub sends : to_host st (mark_as st e None) ≡ []
 
 stays : (st : State) (e : Effect) → IsQuiet st → IsStill e → Stays st e
@@ -144,7 +144,7 @@ stays st e q s = record {
     kept false true = refl
     kept false false = ap (moved_streams e) q.streams ∙ s.moves
 
-pub stays-quiet : (st : State) (x : Item) → IsQuiet st → IsUntold x → IsQuiet (after st (mark_as st (meaning st x) None))
+pub stays-quiet : (st : State) (x : Item) → IsQuiet st → IsUntold x → IsQuiet (with_mark st (mark_as st (meaning st x) None))
 stays-quiet st x q un = (stays st (meaning st x) q (still st x q un)).quiet
 
 pub sends-none : (st : State) (x : Item) → IsQuiet st → IsUntold x → to_host st (mark_as st (meaning st x) None) ≡ []

@@ -6,14 +6,14 @@ use Rattle.std.proofs.lemmas.Bool.{cases_Bool, cases_lt, false≢true}
 use Rattle.std.proofs.lemmas.Bool.Decides.{nat_tests}
 use Rattle.std.proofs.lemmas.List.Filters.{length-filter_both}
 use Rattle.std.proofs.lemmas.Map.Made.{length-le_from_is_member}
-use Rattle.gate_history.specs.state.Ids.{after, holds, free_from, draw, draws, Fits, AreFresh}
+use Rattle.gate_history.specs.state.Ids.{id_after, holds, free_from, draw, draws, Fits, AreFresh}
 use Rattle.gate_history.proofs.lemmas.state.Cycle.{turn, after-fits, turn-distinct, length-turn}
 
 pub free_from-fits : (m : ℕ) (flying : List ℕ) (n id : ℕ) → Fits m id → Fits m (free_from m flying n id)
 free_from-fits m flying zero id f = f
 free_from-fits m flying (suc n) id f =
-    elim (holds flying id) as (λ (b : Bool). Fits m (cond b (free_from m flying n (after m id)) id))
-    [ true ↦ free_from-fits m flying n (after m id) (after-fits m id (omega (arith, f.low, f.high))) | false ↦ f ]
+    elim (holds flying id) as (λ (b : Bool). Fits m (cond b (free_from m flying n (id_after m id)) id))
+    [ true ↦ free_from-fits m flying n (id_after m id) (after-fits m id (omega (arith, f.low, f.high))) | false ↦ f ]
 
 -- each id of the list passes
 abbrev AllPass : (ℕ → Bool) → List ℕ → Type 0
@@ -35,7 +35,7 @@ found_or_all m flying zero id =
     ]
 found_or_all m flying (suc n) id =
     elim (cases_Bool (holds flying id)) [
-      | inl here ↦ rw here (elim (found_or_all m flying n (after m id)) [ inl free ↦ inl free | inr all ↦ inr (pass-cons (holds flying) id (turn m (after m id) (suc n)) here all) ])
+      | inl here ↦ rw here (elim (found_or_all m flying n (id_after m id)) [ inl free ↦ inl free | inr all ↦ inr (pass-cons (holds flying) id (turn m (id_after m id) (suc n)) here all) ])
       | inr free ↦ rw free (inl free)
     ]
 
@@ -51,10 +51,10 @@ free_from-free m flying id f room =
     ]
 
 pub draw-fits : (m : ℕ) (flying : List ℕ) (last : ℕ) → 1 ≤ m → Fits m (draw m flying last)
-draw-fits m flying last some = free_from-fits m flying (length flying) (after m last) (after-fits m last some)
+draw-fits m flying last some = free_from-fits m flying (length flying) (id_after m last) (after-fits m last some)
 
 pub draw-free : (m : ℕ) (flying : List ℕ) (last : ℕ) → length flying < m → holds flying (draw m flying last) ≡ false
-draw-free m flying last room = free_from-free m flying (after m last) (after-fits m last (omega arith)) room
+draw-free m flying last room = free_from-free m flying (id_after m last) (after-fits m last (omega arith)) room
 
 -- ---- the ids of one item: they are the free ones of so many turns
 
@@ -68,14 +68,14 @@ join (suc k) rest = suc (join k rest)
 -- the turns of one draw, and then others
 record Skips (m : ℕ) (flying : List ℕ) (id found : ℕ) : Type 0 where
   turns : ℕ
-  then_rest : (rest : ℕ) → filter (free flying) (turn m id (join turns rest)) ≡ found ∷ filter (free flying) (turn m (after m found) rest)
+  then_rest : (rest : ℕ) → filter (free flying) (turn m id (join turns rest)) ≡ found ∷ filter (free flying) (turn m (id_after m found) rest)
 
 skips : (m : ℕ) (flying : List ℕ) (n id : ℕ) → holds flying (free_from m flying n id) ≡ false → Skips m flying id (free_from m flying n id)
 skips m flying zero id h = record { turns = zero; then_rest = λ rest. rw h refl }
 skips m flying (suc n) id h =
     elim (cases_Bool (holds flying id)) [
       | inl here ↦
-          let later = skips m flying n (after m id) (rw here at h) in
+          let later = skips m flying n (id_after m id) (rw here at h) in
           rw here record { turns = suc later.turns; then_rest = λ rest. rw here (later.then_rest rest) }
       | inr none ↦ rw none record { turns = zero; then_rest = λ rest. rw none refl }
     ]
@@ -84,10 +84,10 @@ record Turns (m : ℕ) (flying : List ℕ) (id : ℕ) (ids : List ℕ) : Type 0 
   turns : ℕ
   are : filter (free flying) (turn m id turns) ≡ ids
 
-turns_of : (m : ℕ) (flying : List ℕ) (last n : ℕ) → length flying < m → Turns m flying (after m last) (draws m flying last n)
+turns_of : (m : ℕ) (flying : List ℕ) (last n : ℕ) → length flying < m → Turns m flying (id_after m last) (draws m flying last n)
 turns_of m flying last zero room = record { turns = zero; are = refl }
 turns_of m flying last (suc n) room =
-    let one = skips m flying (length flying) (after m last) (draw-free m flying last room) in
+    let one = skips m flying (length flying) (id_after m last) (draw-free m flying last room) in
     let others = turns_of m flying (draw m flying last) n room in
     record {
       turns = join one.turns others.turns;
@@ -124,8 +124,8 @@ fewer : (m : ℕ) (p : ℕ → Bool) (id a b : ℕ) → a ≤ b → length (filt
 fewer m p id zero b h = omega arith
 fewer m p id (suc a) zero h = absurd (omega arith)
 fewer m p id (suc a) (suc b) h =
-    let rest = fewer m p (after m id) a b (omega arith) in
-    elim (p id) as (λ (c : Bool). length (cond c (id ∷ filter p (turn m (after m id) a)) (filter p (turn m (after m id) a))) ≤ length (cond c (id ∷ filter p (turn m (after m id) b)) (filter p (turn m (after m id) b))))
+    let rest = fewer m p (id_after m id) a b (omega arith) in
+    elim (p id) as (λ (c : Bool). length (cond c (id ∷ filter p (turn m (id_after m id) a)) (filter p (turn m (id_after m id) a))) ≤ length (cond c (id ∷ filter p (turn m (id_after m id) b)) (filter p (turn m (id_after m id) b))))
     [ true ↦ omega arith | false ↦ rest ]
 
 -- so many free ones come within m turns
@@ -150,8 +150,8 @@ draws-distinct m flying last n room =
     let t = turns_of m flying last n (omega arith) in
     let fits = after-fits m last (omega arith) in
     let long = ap length t.are ∙ length-draws m flying last n in
-    let short = within m flying (after m last) t.turns fits (omega arith) in
-    subst (IsDistinct eqb) t.are (distinct-filter (free flying) (turn m (after m last) t.turns) (turn-distinct m (after m last) t.turns fits short))
+    let short = within m flying (id_after m last) t.turns fits (omega arith) in
+    subst (IsDistinct eqb) t.are (distinct-filter (free flying) (turn m (id_after m last) t.turns) (turn-distinct m (id_after m last) t.turns fits short))
 
 pub draws-fit : (m : ℕ) (flying : List ℕ) (last n : ℕ) → 1 ≤ m → AllByRecursion (Fits m) (draws m flying last n)
 draws-fit m flying last zero some = tt

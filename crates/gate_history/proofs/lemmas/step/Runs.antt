@@ -33,7 +33,7 @@ use Rattle.gate_history.specs.host.Responses.{Response, response_of}
 use Rattle.gate_history.specs.step.Meaning.{importable, imported_as, asked_meaning, verdict_of, drawn_for, submission, by_stream, accepted_as, accepts, answered_as, answer_to, by_response, arrives, told_meaning, meaning, mark_of}
 use Rattle.gate_history.specs.step.Past.{is_left_out, put, past}
 use Rattle.gate_history.specs.write.All.{all_of}
-use Rattle.gate_history.specs.step.Machine.{after, step, run, given, all_given}
+use Rattle.gate_history.specs.step.Machine.{with_mark, step, run, given, all_given}
 use Rattle.gate_history.proofs.lemmas.step.Steps.{IsPlaced, IsWell, state-after}
 
 -- ---- what an item opens has its place
@@ -113,7 +113,7 @@ well-put first ms x w =
 
 state-put : (first : ℕ) (ms : List Mark) (x : Item) → IsWell ms → state_of first (put first ms x) ≡ step (state_of first ms) x
 state-put first ms x w =
-    elim (is_left_out (state_of first ms) x) as (λ b. state_of first (cond b ms (mark_of (state_of first ms) x ∷ ms)) ≡ cond b (state_of first ms) (after (state_of first ms) (mark_of (state_of first ms) x)))
+    elim (is_left_out (state_of first ms) x) as (λ b. state_of first (cond b ms (mark_of (state_of first ms) x ∷ ms)) ≡ cond b (state_of first ms) (with_mark (state_of first ms) (mark_of (state_of first ms) x)))
     [ true ↦ refl | false ↦ state-after first ms (mark_of (state_of first ms) x) (placed-meaning (state_of first ms) x, w) ]
 
 all-put : {A : Type 0} (gives : State → Mark → List A) (first : ℕ) (ms : List Mark) (x : Item) → all_of gives first (put first ms x) ≡ all_of gives first ms ++ given gives (state_of first ms) x

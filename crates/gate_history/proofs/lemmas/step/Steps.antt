@@ -10,7 +10,7 @@ use Rattle.gate_history.specs.client.Submits.{opened, accepted, end_of, is_live,
 use Rattle.gate_history.specs.client.Ends.{ends, End}
 use Rattle.gate_history.specs.state.State.{state_of}
 use Rattle.gate_history.specs.write.Output.{fresh}
-use Rattle.gate_history.specs.step.Machine.{ask, live_after, after}
+use Rattle.gate_history.specs.step.Machine.{ask, live_after, with_mark}
 use Rattle.gate_history.proofs.lemmas.Lists.{Each, Each-weaker, Each-append, Each-filter, filter-same, filter-twice, both, filter-all, filter-map, map-same, map-map}
 
 -- an accepted submit has the place where it stands
@@ -124,7 +124,7 @@ pendings-is first ms m w =
 
 -- ---- the whole state
 
-pub state-after : (first : ℕ) (ms : List Mark) (m : Mark) → IsWell (m ∷ ms) → state_of first (m ∷ ms) ≡ after (state_of first ms) m
+pub state-after : (first : ℕ) (ms : List Mark) (m : Mark) → IsWell (m ∷ ms) → state_of first (m ∷ ms) ≡ with_mark (state_of first ms) m
 state-after first ms m w =
     ap (λ (l : List Pending). record (state_of first (m ∷ ms)) { live = l }) (pendings-is first ms m w)
-    ∙ ap (λ (l : List Submission). record (after (state_of first ms) m) { abandoned = abandoned_after m.what l (state_of first ms).abandoned }) (sym (submits-is ms (live ms)))
+    ∙ ap (λ (l : List Submission). record (with_mark (state_of first ms) m) { abandoned = abandoned_after m.what l (state_of first ms).abandoned }) (sym (submits-is ms (live ms)))

@@ -19,7 +19,7 @@ use Rattle.redir_data.specs.Spelling as carrying
 use Rattle.redir_data.specs.Streams.{start as first_state, after as read_after, advanced, stream_format}
 use Rattle.gate_history.specs.declared.item.Item.{Item}
 use Rattle.gate_history.specs.declared.item.Item.TheVariants.{Asked, ClientWrong, ClientLeft, Told, HostWrong, HostLeft}
-use Rattle.gate_history.specs.step.Machine.{after, step, run, given, all_given, live_after}
+use Rattle.gate_history.specs.step.Machine.{with_mark, step, run, given, all_given, live_after}
 use Rattle.gate_history.specs.step.Marks.{Effect, Agrees, Fact}
 use Rattle.gate_history.specs.step.Meaning.{told_meaning, meaning, mark_as, told_by}
 use Rattle.gate_history.specs.write.Output.{to_host}
@@ -82,11 +82,11 @@ pub record Goes (s : RedirState) (st : State) (sent : List (ℕ × RedirPacket))
   pub read : Each (Reads st.agreed) sent
 
 abbrev Stays : State → Effect → Option Fact → Type 0
-Stays st e fact = IsQuiet (after st (mark_as st e fact)) × (to_host st (mark_as st e fact) ≡ [])
+Stays st e fact = IsQuiet (with_mark st (mark_as st e fact)) × (to_host st (mark_as st e fact) ≡ [])
 
 -- an item that is no hello
 goes-on : (s z : RedirState) (st : State) (sent : List (ℕ × RedirPacket)) (e : Effect) (fact : Option Fact) (left : Bool) → Goes s st sent → (z.first ≡ true → s.first ≡ true) → (left ≡ false → IsReadable st e) → (z.first ≡ true → IsQuiet st → Stays st e fact) →
-    Goes z (cond left st (after st (mark_as st e fact))) (sent ++ cond left [] (to_host st (mark_as st e fact)))
+    Goes z (cond left st (with_mark st (mark_as st e fact))) (sent ++ cond left [] (to_host st (mark_as st e fact)))
 goes-on s z st sent e fact true g before can stays = record {
   quiet = λ first. let q = g.quiet (before first) in (q.0, append-nil sent ∙ q.1);
   ids = g.ids;
@@ -95,7 +95,7 @@ goes-on s z st sent e fact true g before can stays = record {
 goes-on s z st sent e fact false g before can stays =
     let is = can refl in
     let m = mark_as st e fact in
-    let same : (after st m).agreed ≡ st.agreed = ap (λ (o : Option Caps). unwrap_or o st.agreed) is.agrees-none in
+    let same : (with_mark st m).agreed ≡ st.agreed = ap (λ (o : Option Caps). unwrap_or o st.agreed) is.agrees-none in
     record {
       quiet = λ first. let q = g.quiet (before first) in let k = stays first q.0 in (k.0, λ i. q.1 i ++ k.1 i);
       ids = subst (λ (caps : Caps). IdsFit (wide_ids caps) (live_after st e)) (sym same) (live-fit st e g.ids is);
@@ -104,7 +104,7 @@ goes-on s z st sent e fact false g before can stays =
 
 -- the hello
 goes-greeted : (z : RedirState) (st : State) (sent : List (ℕ × RedirPacket)) (caps : Caps) (left : Bool) → z.first ≡ false → IsQuiet st → sent ≡ [] →
-    Goes z (cond left st (after st (mark_as st (Agrees caps) None))) (sent ++ cond left [] (to_host st (mark_as st (Agrees caps) None)))
+    Goes z (cond left st (with_mark st (mark_as st (Agrees caps) None))) (sent ++ cond left [] (to_host st (mark_as st (Agrees caps) None)))
 goes-greeted z st sent caps true greeted q none = record {
   quiet = λ first. absurd (true≢false (sym first ∙ greeted));
   ids = subst (IdsFit (wide_ids st.agreed)) (sym q.live) tt;
@@ -133,7 +133,7 @@ goes-told s st sent place h (Plain q) g fits steps = later-told s st sent place 
 goes-told s st sent place h (Carrying d) g fits steps = later-told s st sent place h (Carrying d) refl g fits steps
 
 goes-untold : (s : RedirState) (st : State) (sent : List (ℕ × RedirPacket)) (x : Item) (left : Bool) → IsUntold x → (left ≡ false → IsReadable st (meaning st x)) → Goes s st sent →
-    Goes s (cond left st (after st (mark_as st (meaning st x) None))) (sent ++ cond left [] (to_host st (mark_as st (meaning st x) None)))
+    Goes s (cond left st (with_mark st (mark_as st (meaning st x) None))) (sent ++ cond left [] (to_host st (mark_as st (meaning st x) None)))
 goes-untold s st sent x left un can g = goes-on s s st sent (meaning st x) None left g (λ first. first) can (λ first q. (stays-quiet st x q un, sends-none st x q un))
 
 -- ---- all items
