@@ -3,8 +3,8 @@ use Rattle.std.specs.Prelude.{◌∷◌, ℕ, List, is_some, Result, Ok, Err}
 use Rattle.usb_base.specs.declared.memory.Memory.{Memory}
 use Rattle.redir_wire.specs.declared.packet.Header.{Header}
 use Rattle.redir_data.specs.declared.packet.RedirPacket.{RedirPacket}
-use Rattle.gate_history.specs.declared.item.Item.{Item as RawItem, Item}
-use Rattle.gate_history.specs.declared.item.Item.TheVariants as raw
+use Rattle.gate_history.specs.declared.item.Item.{Item}
+use Rattle.gate_history.specs.declared.item.Item.TheVariants.{Told}
 use Rattle.gate_parts.specs.declared.write.outputs.Outputs.{Outputs}
 use Rattle.gate_core.specs.declared.step.inner.Inner.{Inner}
 use Rattle.gate_history.specs.step.Events.{Event}
@@ -21,8 +21,8 @@ use Rattle.gate_history.specs.Headline.{Gains}
 abbrev pub kept_of : Inner → GateKept
 kept_of g = record { items = g.translator; client = g.client; host = g.host; failed = is_some g.want }
 
-abbrev pub raw_told : ℕ → Header × RedirPacket → RawItem
-raw_told place p = raw.Told place p.0 p.1
+abbrev pub told_item : ℕ → Header × RedirPacket → Item
+told_item place p = Told place p.0 p.1
 
 -- ---- an event
 

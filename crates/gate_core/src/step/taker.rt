@@ -1,8 +1,8 @@
 //! Takes the packets of either side's stream as items.
 
-ghost use Rattle.gate_history.specs.declared.item.Item.TheVariants as raw;
+ghost use Rattle.gate_history.specs.declared.item.Item.TheVariants.{Asked, ClientWrong, HostWrong};
 ghost use Rattle.gate_history.specs.step.Fits.{ItemFits};
-ghost use Rattle.gate_core.specs.inner.Steps.{raw_told};
+ghost use Rattle.gate_core.specs.inner.Steps.{told_item};
 
 use crate::step::translator::Translator;
 use gate_history::Item;
@@ -23,9 +23,9 @@ pub struct ItemTaker<'a> {
 impl<'a> PacketTaker<ClientFormat> for ItemTaker<'a> {
     ghost use Rattle.gate_core.specs.inner.Takers.{TakerTakes};
 
-    ghost CanTake = { λ taker place packet. ItemFits taker.translator.now.caps (raw.Asked place packet) };
+    ghost CanTake = { λ taker place packet. ItemFits taker.translator.now.caps (Asked place packet) };
 
-    ghost Takes = { TakerTakes raw.Asked raw.ClientWrong };
+    ghost Takes = { TakerTakes Asked ClientWrong };
 
     ghost over_in = { λ taker. taker.translator.now.client_over };
 
@@ -47,9 +47,9 @@ impl<'a> PacketTaker<ClientFormat> for ItemTaker<'a> {
 impl<'a> PacketTaker<FromHost> for ItemTaker<'a> {
     ghost use Rattle.gate_core.specs.inner.Takers.{TakerTakes};
 
-    ghost CanTake = { λ taker place packet. ItemFits taker.translator.now.caps (raw_told place packet) };
+    ghost CanTake = { λ taker place packet. ItemFits taker.translator.now.caps (told_item place packet) };
 
-    ghost Takes = { TakerTakes raw_told raw.HostWrong };
+    ghost Takes = { TakerTakes told_item HostWrong };
 
     ghost over_in = { λ taker. taker.translator.now.host_over };
 

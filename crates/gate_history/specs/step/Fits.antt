@@ -10,20 +10,19 @@ use Rattle.redir_data.specs.declared.packet.RedirPacket.{RedirPacket}
 use Rattle.redir_data.specs.declared.packet.RedirPacket.TheVariants.{Plain}
 use Rattle.redir_data.specs.declared.redir.TheConstants.{FIRST_DATA}
 use Rattle.redir_data.specs.Spelling.{data_count}
-use Rattle.gate_history.specs.declared.item.Item.{Item as RawItem, Item}
-use Rattle.gate_history.specs.declared.item.Item.TheVariants as raw
+use Rattle.gate_history.specs.declared.item.Item.{Item}
 use Rattle.gate_history.specs.declared.item.Item.TheVariants.{Asked, ClientWrong, ClientLeft, Told, HostWrong, HostLeft}
 use Rattle.usb_base.specs.Number.{capped}
 use Rattle.gate_history.specs.state.Flight.{wide_ids}
 use Rattle.gate_history.specs.host.Responses.{Response, Data, Status, response_of}
 
-abbrev pub IsItem : RawItem → Item → Type 0
-IsItem (raw.Asked place packet) x = (at : ℕ) × (place ≡ capped at) × (x ≡ Asked at packet)
-IsItem (raw.ClientWrong place reason) x = (at : ℕ) × (place ≡ capped at) × (x ≡ ClientWrong at reason)
-IsItem raw.ClientLeft x = x ≡ ClientLeft
-IsItem (raw.Told place header packet) x = (at : ℕ) × (place ≡ capped at) × (x ≡ Told at header packet)
-IsItem (raw.HostWrong place reason) x = (at : ℕ) × (place ≡ capped at) × (x ≡ HostWrong at reason)
-IsItem raw.HostLeft x = x ≡ HostLeft
+abbrev pub IsItem : Item → Item → Type 0
+IsItem (Asked place packet) x = (at : ℕ) × (place ≡ capped at) × (x ≡ Asked at packet)
+IsItem (ClientWrong place reason) x = (at : ℕ) × (place ≡ capped at) × (x ≡ ClientWrong at reason)
+IsItem ClientLeft x = x ≡ ClientLeft
+IsItem (Told place header packet) x = (at : ℕ) × (place ≡ capped at) × (x ≡ Told at header packet)
+IsItem (HostWrong place reason) x = (at : ℕ) × (place ≡ capped at) × (x ≡ HostWrong at reason)
+IsItem HostLeft x = x ≡ HostLeft
 
 -- an answer's type is that of its form, and its data are there
 abbrev pub ResponseFits : ℕ → Option Response → Type 0
@@ -42,7 +41,7 @@ pub record ToldFits (caps : Caps) (h : Header) (p : RedirPacket) : Type 0 where
   pub hello : HelloFits caps p
 
 -- as its reader gives it
-abbrev pub ItemFits : Caps → RawItem → Type 0
-ItemFits caps (raw.Asked place packet) = IsClientPacket packet
-ItemFits caps (raw.Told place header packet) = ToldFits caps header packet
+abbrev pub ItemFits : Caps → Item → Type 0
+ItemFits caps (Asked place packet) = IsClientPacket packet
+ItemFits caps (Told place header packet) = ToldFits caps header packet
 ItemFits caps _ = Unit {0}

@@ -11,7 +11,6 @@ use Rattle.redir_data.specs.Streams.{start, after, stream_format, stream_start}
 use Rattle.redir_data.specs.sound.Joined.{stream_sound}
 use Rattle.usbip_urb.specs.Sound.ClientPackets.{client_packets_sound}
 use Rattle.usbip_urb.specs.ClientPackets.{client_packets}
-use Rattle.gate_history.specs.declared.item.Item.TheVariants as raw
 use Rattle.gate_parts.specs.declared.write.outputs.Outputs.{Outputs}
 use Rattle.gate_core.specs.declared.step.inner.Inner.{Inner}
 use Rattle.gate_core.specs.declared.state.kept.Kept.{Kept as Translator}
@@ -81,7 +80,7 @@ stands-first first g works translator client host = record {
 -- ---- a client's end
 
 pub ends-client : (first : ℕ) (old : Inner) (t : Translator) (kept : StreamView (Unit {0})) (events : List Event) (out_old out_new : Outputs) → Stands first (kept_of old) events →
-    TakesItem old.translator t raw.ClientLeft out_old out_new → kept ≡ record { state = tt; rest = []; place = 0; held = []; at = 0; over = false } →
+    TakesItem old.translator t ClientLeft out_old out_new → kept ≡ record { state = tt; rest = []; place = 0; held = []; at = 0; over = false } →
     TakesOn first (record old { client = kept; translator = t }) events ClientEnd out_old out_new
 ends-client first old t kept events out_old out_new stands takes is =
     let xs = arrivals events in
@@ -116,7 +115,7 @@ ends-again first g events out stands over =
     }
 
 pub ends-host : (first : ℕ) (old : Inner) (t : Translator) (kept : StreamView RedirState) (events : List Event) (out_old out_new : Outputs) → Stands first (kept_of old) events →
-    old.host.over ≡ false → TakesItem old.translator t raw.HostLeft out_old out_new → kept ≡ ended old.host →
+    old.host.over ≡ false → TakesItem old.translator t HostLeft out_old out_new → kept ≡ ended old.host →
     TakesOn first (record old { host = kept; translator = t }) events HostEnd out_old out_new
 ends-host first old t kept events out_old out_new stands runs takes is =
     let xs = arrivals events in

@@ -10,7 +10,7 @@ use Rattle.usbip_urb.specs.declared.client.ClientPacket.{ClientPacket}
 use Rattle.redir_wire.specs.declared.packet.Header.{Header}
 use Rattle.redir_data.specs.declared.packet.RedirPacket.{RedirPacket}
 use Rattle.redir_data.specs.declared.state.RedirState.{RedirState}
-use Rattle.gate_history.specs.declared.item.Item.{Item as RawItem, Item}
+use Rattle.gate_history.specs.declared.item.Item.{Item}
 use Rattle.gate_history.specs.step.Came.{asked, told}
 use Rattle.gate_history.specs.step.Fits.{IsItem, ItemFits}
 use Rattle.gate_history.specs.step.Past.{is_left_out, past}
@@ -56,7 +56,7 @@ host_half first = record {
 }
 
 -- so it is with what the code has of it: how its stream is read, which packets take memory, and its items
-pub record IsSide {S P : Type 0} (first : ℕ) (h : Half S P) (r : Reader S P Reason) (takes : P → Bool) (over_in : Translator → Bool) (raw_packet : ℕ → P → RawItem) (raw_wrong : ℕ → Reason → RawItem) : Type 0 where
+pub record IsSide {S P : Type 0} (first : ℕ) (h : Half S P) (r : Reader S P Reason) (takes : P → Bool) (over_in : Translator → Bool) (packet : ℕ → P → Item) (wrong : ℕ → Reason → Item) : Type 0 where
   pub reader : h.stream.reader ≡ r
   pub takes_is : (n : ℕ) (p : P) → takes p ≡ takes_memory (h.stream.packet n p)
   pub over_past : (xs ys : List Item) → past first xs ≡ past first ys → h.over xs ≡ h.over ys
@@ -67,8 +67,8 @@ pub record IsSide {S P : Type 0} (first : ℕ) (h : Half S P) (r : Reader S P Re
   pub out_packet : (xs : List Item) (n : ℕ) (p : P) → is_left_out (state_of first (past first xs)) (h.stream.packet n p) ≡ h.over xs
   pub out_wrong : (xs : List Item) (n : ℕ) (why : Reason) → is_left_out (state_of first (past first xs)) (h.stream.wrong n why) ≡ h.over xs
   pub over_wrong : (xs : List Item) (n : ℕ) (why : Reason) → h.over (h.stream.wrong n why ∷ xs) ≡ true
-  pub is_packet : (n at : ℕ) (p : P) → n ≡ capped at → IsItem (raw_packet n p) (h.stream.packet at p)
-  pub is_wrong : (n at : ℕ) (why : Reason) → n ≡ capped at → IsItem (raw_wrong n why) (h.stream.wrong at why)
+  pub is_packet : (n at : ℕ) (p : P) → n ≡ capped at → IsItem (packet n p) (h.stream.packet at p)
+  pub is_wrong : (n at : ℕ) (why : Reason) → n ≡ capped at → IsItem (wrong n why) (h.stream.wrong at why)
   -- its items leave the other side as it is
   pub others_packet : (xs : List Item) (n : ℕ) (p : P) → h.others (h.stream.packet n p ∷ xs) ≡ h.others xs
   pub others_wrong : (xs : List Item) (n : ℕ) (why : Reason) → h.others (h.stream.wrong n why ∷ xs) ≡ h.others xs
@@ -91,10 +91,10 @@ pub record GoesOn {S P : Type 0} (first : ℕ) (h : Half S P) (kept : StreamView
   pub translates : Translates first t items
 
 -- a packet that comes next, wherever it stands, is an item that the translator can take
-abbrev pub FitsNext : {S P : Type 0} → (ℕ → Half S P) → Reader S P Reason → (P → Bool) → (ℕ → P → RawItem) → Type 0
-FitsNext {S = S} {P = P} half r takes raw_packet =
+abbrev pub FitsNext : {S P : Type 0} → (ℕ → Half S P) → Reader S P Reason → (P → Bool) → (ℕ → P → Item) → Type 0
+FitsNext {S = S} {P = P} half r takes packet =
     (kept new : StreamView S) (t : Translator) (i : ℕ × P) → (kept.over ≡ false → ∥ ((first : ℕ) × GoesOn first (half first) kept t) ∥₁) →
-    Changes (Ok (Some i)) kept new → Nexts r takes (Ok (Some i)) kept new → ItemFits t.caps (raw_packet i.0 i.1)
+    Changes (Ok (Some i)) kept new → Nexts r takes (Ok (Some i)) kept new → ItemFits t.caps (packet i.0 i.1)
 
 -- ---- a piece of it
 

@@ -16,7 +16,7 @@ use Rattle.packet_stream.specs.Items.{added, onto}
 use Rattle.packet_stream.specs.Takers.{Taking as TakenBy, TakenStream, ended_if, TakesAnswer, Finishes, Reaches, TakesPiece as TakesBytes}
 use Rattle.packet_stream.proofs.Pieces.{packets, wrongs, items, onto-append}
 use Rattle.packet_stream.proofs.Takers.{reaches-keeps, piece-keeps}
-use Rattle.gate_history.specs.declared.item.Item.{Item as RawItem, Item}
+use Rattle.gate_history.specs.declared.item.Item.{Item}
 use Rattle.gate_parts.specs.declared.write.outputs.Outputs.{Outputs}
 use Rattle.gate_core.specs.declared.state.kept.Kept.{Kept as Translator}
 use Rattle.gate_history.specs.state.State.{state_of}
@@ -130,7 +130,7 @@ ended-over : {S : Type 0} (kept : StreamView S) (flag over : Bool) → flag ≡ 
 ended-over kept true over e going = e
 ended-over kept false over e going = going (sym e) ∙ e
 
-taking-one : {S P : Type 0} (first : ℕ) (d : Side S P first) (old new : StreamView S) (t u : Translator) (bytes piece : List ℕ) (before : List Item) (out_old out out_new : Outputs) (item : RawItem) (x : Item) →
+taking-one : {S P : Type 0} (first : ℕ) (d : Side S P first) (old new : StreamView S) (t u : Translator) (bytes piece : List ℕ) (before : List Item) (out_old out out_new : Outputs) (item : Item) (x : Item) →
     (k : Taking first d.half old t bytes piece before out_old out) → old.over ≡ false → Taken d.half.stream new bytes piece (d.half.came before) (k.taken ++ x ∷ []) → IsItem item x →
     ((xs : List Item) → is_left_out (state_of first (past first xs)) x ≡ d.half.over xs) → ((xs : List Item) → d.half.others (x ∷ xs) ≡ d.half.others xs) → ((xs : List Item) → d.half.other_over (x ∷ xs) ≡ d.half.other_over xs) →
     ((xs : List Item) → d.half.over (x ∷ xs) ≡ false → new.over ≡ false) →
@@ -154,11 +154,11 @@ taking-one first d old new t u bytes piece before out_old out out_new item x k r
     }
 
 -- how a side's stream is taken
-abbrev pub taking_by : {S P : Type 0} → Reader S P Reason → (P → Bool) → (Translator → Bool) → (ℕ → P → RawItem) → (ℕ → Reason → RawItem) → TakenBy S P ItemTaker
-taking_by r takes flag raw_packet raw_wrong = record { reader = r; takes_memory = takes; Takes = TakerTakes raw_packet raw_wrong; is_over = λ t. flag t.translator.now }
+abbrev pub taking_by : {S P : Type 0} → Reader S P Reason → (P → Bool) → (Translator → Bool) → (ℕ → P → Item) → (ℕ → Reason → Item) → TakenBy S P ItemTaker
+taking_by r takes flag packet wrong = record { reader = r; takes_memory = takes; Takes = TakerTakes packet wrong; is_over = λ t. flag t.translator.now }
 
 abbrev pub taking_of : {S P : Type 0} {first : ℕ} → Side S P first → TakenBy S P ItemTaker
-taking_of d = taking_by d.half.stream.reader d.takes d.flag d.raw_packet d.raw_wrong
+taking_of d = taking_by d.half.stream.reader d.takes d.flag d.packet d.wrong
 
 taking-item : {S P : Type 0} (first : ℕ) (d : Side S P first) (old new : StreamView S) (a b : ItemTaker) (bytes piece : List ℕ) (before : List Item) (out_old : Outputs) (answer : Result (Option (ℕ × P)) ReadError) →
     Changes answer old new → Nexts d.half.stream.reader d.takes answer old new → TakesAnswer (taking_of d) answer (Ok tt) a b → Taking first d.half old a.translator.now bytes piece before out_old a.out.now →
@@ -166,11 +166,11 @@ taking-item : {S P : Type 0} (first : ℕ) (d : Side S P first) (old new : Strea
 taking-item first d old new a b bytes piece before out_old (Ok None) changes nexts takes k = absurd takes
 taking-item first d old new a b bytes piece before out_old (Ok (Some i)) changes nexts takes k =
     let n = taken-packet d.half.stream d.takes old new bytes piece (d.half.came before) k.taken i k.stream changes nexts in
-    taking-one first d old new a.translator.now b.translator.now bytes piece before out_old a.out.now b.out.now (d.raw_packet i.0 i.1) (d.half.stream.packet n.at i.1) k changes.1 n.stream (d.laws.is_packet i.0 n.at i.1 n.place-is)
+    taking-one first d old new a.translator.now b.translator.now bytes piece before out_old a.out.now b.out.now (d.packet i.0 i.1) (d.half.stream.packet n.at i.1) k changes.1 n.stream (d.laws.is_packet i.0 n.at i.1 n.place-is)
     (λ xs. d.laws.out_packet xs n.at i.1) (λ xs. d.laws.others_packet xs n.at i.1) (λ xs. d.laws.other_packet xs n.at i.1) (λ xs _. changes.2) takes.1
 taking-item first d old new a b bytes piece before out_old (Err (Refused place why)) changes nexts takes k =
     let n = taken-wrong d.half.stream d.takes old new bytes piece (d.half.came before) k.taken place why k.stream changes nexts in
-    taking-one first d old new a.translator.now b.translator.now bytes piece before out_old a.out.now b.out.now (d.raw_wrong place why) (d.half.stream.wrong n.at why) k changes.0 n.stream (d.laws.is_wrong place n.at why n.place-is)
+    taking-one first d old new a.translator.now b.translator.now bytes piece before out_old a.out.now b.out.now (d.wrong place why) (d.half.stream.wrong n.at why) k changes.0 n.stream (d.laws.is_wrong place n.at why n.place-is)
     (λ xs. d.laws.out_wrong xs n.at why) (λ xs. d.laws.others_wrong xs n.at why) (λ xs. d.laws.other_wrong xs n.at why) (λ xs e. absurd (true≢false (sym (d.laws.over_wrong xs n.at why) ∙ e))) takes.1
 taking-item first d old new a b bytes piece before out_old (Err (OutOfMemory memory)) changes nexts takes k = absurd cc
 
@@ -305,7 +305,7 @@ halted {S = S} {P = P} first d old new memory a b bytes piece before out_old ans
 -- ---- the whole piece
 
 abbrev pub taken_side : {S P : Type 0} → TakenSide S P → TakenBy S P ItemTaker
-taken_side s = taking_by s.reader s.takes s.flag s.raw_packet s.raw_wrong
+taken_side s = taking_by s.reader s.takes s.flag s.packet s.wrong
 
 abbrev pub side_at : {S P : Type 0} → TakenSide S P → (first : ℕ) → Side S P first
 side_at s first = side-of s.steady (s.laws first)
@@ -325,9 +325,9 @@ within {S = S} {P = P} s old now piece are r first bytes before at =
     r
 
 -- what comes next is an item that the translator can take
-pub can-take : {S P : Type 0} (s : TakenSide S P) → FitsNext s.half s.reader s.takes s.raw_packet → (old now : TakenStream S ItemTaker) (piece : List ℕ) →
+pub can-take : {S P : Type 0} (s : TakenSide S P) → FitsNext s.half s.reader s.takes s.packet → (old now : TakenStream S ItemTaker) (piece : List ℕ) →
     ∥ ((first : ℕ) × ((bytes : List ℕ) × ((before : List Item) × IsAt first (s.half first) old.stream old.taker.translator.now bytes before))) ∥₁ → AreBytes piece → Reaches (taken_side s) old piece now →
-    (new : StreamView S) (i : ℕ × P) → Changes (Ok (Some i)) now.stream new → Nexts s.reader s.takes (Ok (Some i)) now.stream new → ItemFits now.taker.translator.now.caps (s.raw_packet i.0 i.1)
+    (new : StreamView S) (i : ℕ × P) → Changes (Ok (Some i)) now.stream new → Nexts s.reader s.takes (Ok (Some i)) now.stream new → ItemFits now.taker.translator.now.caps (s.packet i.0 i.1)
 can-take s fits old now piece past are reaches new i changes nexts =
     fits now.stream new now.taker.translator.now i
     (λ runs. ∥∥₁_map past (λ w. (

@@ -13,17 +13,16 @@ use Rattle.redir_data.specs.sound.Joined.{stream_sound}
 use Rattle.usbip_urb.specs.ClientPackets.{takes_memory as asked_takes_memory, client_packets}
 use Rattle.redir_data.specs.Packets.{takes_memory as told_takes_memory}
 use Rattle.usbip_urb.specs.Sound.ClientPackets.{client_packets_sound}
-use Rattle.gate_history.specs.declared.item.Item.{Item as RawItem, Item}
-use Rattle.gate_history.specs.declared.item.Item.TheVariants as raw
+use Rattle.gate_history.specs.declared.item.Item.{Item}
 use Rattle.gate_core.specs.declared.state.kept.Kept.{Kept as Translator}
-use Rattle.gate_history.specs.declared.item.Item.TheVariants.{ClientWrong}
+use Rattle.gate_history.specs.declared.item.Item.TheVariants.{Asked, ClientWrong, HostWrong}
 use Rattle.gate_history.specs.step.Marks.{Mark}
 use Rattle.gate_history.specs.state.Sides.{client_over, host_over}
 use Rattle.gate_history.specs.state.State.{state_of}
 use Rattle.gate_history.specs.step.Meaning.{mark_of}
 use Rattle.gate_history.specs.step.Past.{past}
 use Rattle.gate_history.specs.step.Streams.{client_reader, host_reader}
-use Rattle.gate_core.specs.inner.Steps.{raw_told}
+use Rattle.gate_core.specs.inner.Steps.{told_item}
 use Rattle.gate_core.proofs.lemmas.step.Halves.{Half, IsSide, client_half, host_half}
 use Rattle.gate_history.proofs.lemmas.step.Apart.{asked-host, wrong-host, told-client, wrong-client}
 use Rattle.gate_history.proofs.lemmas.step.Capabilities.{wrong-over}
@@ -33,21 +32,21 @@ pub record Side (S P : Type 0) (first : ℕ) : Type 0 where
   pub half : Half S P
   pub takes : P → Bool
   pub flag : Translator → Bool
-  pub raw_packet : ℕ → P → RawItem
-  pub raw_wrong : ℕ → Reason → RawItem
+  pub packet : ℕ → P → Item
+  pub wrong : ℕ → Reason → Item
   pub steady : IsSteady half.stream.reader
-  pub laws : IsSide first half half.stream.reader takes flag raw_packet raw_wrong
+  pub laws : IsSide first half half.stream.reader takes flag packet wrong
 
-abbrev pub side-of : {S P : Type 0} {first : ℕ} {half : Half S P} {reader : Reader S P Reason} {takes : P → Bool} {flag : Translator → Bool} {raw_packet : ℕ → P → RawItem} {raw_wrong : ℕ → Reason → RawItem} →
-    IsSteady reader → IsSide first half reader takes flag raw_packet raw_wrong → Side S P first
-side-of {S = S} {P = P} {first = first} {half = half} {takes = takes} {flag = flag} {raw_packet = raw_packet} {raw_wrong = raw_wrong} steady laws = record {
+abbrev pub side-of : {S P : Type 0} {first : ℕ} {half : Half S P} {reader : Reader S P Reason} {takes : P → Bool} {flag : Translator → Bool} {packet : ℕ → P → Item} {wrong : ℕ → Reason → Item} →
+    IsSteady reader → IsSide first half reader takes flag packet wrong → Side S P first
+side-of {S = S} {P = P} {first = first} {half = half} {takes = takes} {flag = flag} {packet = packet} {wrong = wrong} steady laws = record {
   half = half;
   takes = takes;
   flag = flag;
-  raw_packet = raw_packet;
-  raw_wrong = raw_wrong;
+  packet = packet;
+  wrong = wrong;
   steady = subst IsSteady (sym laws.reader) steady;
-  laws = subst (λ (r : Reader S P Reason). IsSide first half r takes flag raw_packet raw_wrong) (sym laws.reader) laws;
+  laws = subst (λ (r : Reader S P Reason). IsSide first half r takes flag packet wrong) (sym laws.reader) laws;
 }
 
 refused-by : (ms : List Mark) (m : Mark) → client_over (m ∷ ms) ≡ true → (b : Bool) → client_over ms ≡ b → client_over (cond b ms (m ∷ ms)) ≡ true
@@ -63,7 +62,7 @@ client-steady = reads_steady (λ s. client_packets) (λ s p. s) (λ s. client_pa
 pub host-steady : IsSteady host_reader
 host-steady = reads_steady (stream_format ToGuest) after (stream_sound ToGuest)
 
-pub is-client : (first : ℕ) → IsSide first (client_half first) client_reader asked_takes_memory (λ t. t.client_over) raw.Asked raw.ClientWrong
+pub is-client : (first : ℕ) → IsSide first (client_half first) client_reader asked_takes_memory (λ t. t.client_over) Asked ClientWrong
 is-client first = record {
   reader = refl;
   takes_is = λ n p. refl;
@@ -82,7 +81,7 @@ is-client first = record {
   other_wrong = wrong-host first;
 }
 
-pub is-host : (first : ℕ) → IsSide first (host_half first) host_reader told_takes_memory (λ t. t.host_over) raw_told raw.HostWrong
+pub is-host : (first : ℕ) → IsSide first (host_half first) host_reader told_takes_memory (λ t. t.host_over) told_item HostWrong
 is-host first = record {
   reader = refl;
   takes_is = λ n p. refl;
@@ -109,9 +108,9 @@ pub record TakenSide (S P : Type 0) : Type 0 where
   pub steady : IsSteady reader
   pub takes : P → Bool
   pub flag : Translator → Bool
-  pub raw_packet : ℕ → P → RawItem
-  pub raw_wrong : ℕ → Reason → RawItem
-  pub laws : (first : ℕ) → IsSide first (half first) reader takes flag raw_packet raw_wrong
+  pub packet : ℕ → P → Item
+  pub wrong : ℕ → Reason → Item
+  pub laws : (first : ℕ) → IsSide first (half first) reader takes flag packet wrong
 
 abbrev pub client_side : TakenSide (Unit {0}) ClientPacket
 client_side = record {
@@ -120,8 +119,8 @@ client_side = record {
   steady = client-steady;
   takes = asked_takes_memory;
   flag = λ t. t.client_over;
-  raw_packet = raw.Asked;
-  raw_wrong = raw.ClientWrong;
+  packet = Asked;
+  wrong = ClientWrong;
   laws = is-client;
 }
 
@@ -132,7 +131,7 @@ host_side = record {
   steady = host-steady;
   takes = told_takes_memory;
   flag = λ t. t.host_over;
-  raw_packet = raw_told;
-  raw_wrong = raw.HostWrong;
+  packet = told_item;
+  wrong = HostWrong;
   laws = is-host;
 }

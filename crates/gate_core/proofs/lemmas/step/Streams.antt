@@ -14,13 +14,13 @@ use Rattle.redir_data.specs.declared.state.RedirState.{RedirState}
 use Rattle.redir_data.specs.Packets.{takes_memory as told_takes_memory}
 use Rattle.usbip_urb.specs.ClientPackets.{takes_memory as asked_takes_memory, client_packets}
 use Rattle.usbip_urb.specs.Sound.ClientPackets.{client_packets_sound}
-use Rattle.gate_history.specs.declared.item.Item.TheVariants as raw
+use Rattle.gate_history.specs.declared.item.Item.TheVariants.{Asked}
 use Rattle.gate_core.specs.declared.state.kept.Kept.{Kept as Translator}
 use Rattle.redir_data.specs.Streams.{stream_start}
 use Rattle.gate_history.specs.step.Streams.{client_reader, host_reader}
 use Rattle.gate_history.specs.step.Came.{told}
 use Rattle.gate_history.specs.step.Fits.{ToldFits}
-use Rattle.gate_core.specs.inner.Steps.{raw_told}
+use Rattle.gate_core.specs.inner.Steps.{told_item}
 use Rattle.gate_core.proofs.lemmas.step.Halves.{Half, GoesOn, FitsNext, client_half, host_half}
 use Rattle.gate_history.proofs.lemmas.step.Capabilities.{told-fits, told_fits-prop}
 use Rattle.gate_core.proofs.lemmas.step.NextPacket.{IsReadable, fits-next}
@@ -42,7 +42,7 @@ readable first h kept t g runs =
     let left = left-by h.stream.reader kept (split h.stream.reader h.stream.start g.bytes) (h.came g.items) kept.over runs g.follows.follows in
     (left.fits, capped-again kept.place left.at.place left.place)
 
-pub asked-fits : FitsNext client_half client_reader asked_takes_memory raw.Asked
+pub asked-fits : FitsNext client_half client_reader asked_takes_memory Asked
 asked-fits kept new t i goes changes nexts =
     let can : IsReadable kept = λ runs. ∥∥₁_elim (goes runs) (readable-prop kept) (λ w. readable w.0 (client_half w.0) kept t w.1 runs) in
     fits-next (λ s. client_packets) (λ s p. s) (λ s. client_packets_sound) asked_takes_memory kept new (Ok (Some i)) i can changes nexts refl
@@ -58,5 +58,5 @@ told-next first kept new t i nexts g =
     let parts : (split host_reader stream_start g.bytes).packets ≡ given ++ (n.at, i.1) ∷ front.0 = front.1 ∙ append_assoc given one front.0 in
     subst (λ (c : Caps). ToldFits c i.1.0 i.1.1) (sym g.translates.state.caps) (told-fits first g.items g.bytes front.0 (n.at, i.1) g.runs g.follows.fits parts)
 
-pub told-fits-next : FitsNext host_half host_reader told_takes_memory raw_told
+pub told-fits-next : FitsNext host_half host_reader told_takes_memory told_item
 told-fits-next kept new t i goes changes nexts = ∥∥₁_elim (goes changes.1) (told_fits-prop t.caps i.1.0 i.1.1) (λ w. told-next w.0 kept new t i nexts w.1)

@@ -7,8 +7,8 @@ use Rattle.usbip_urb.specs.declared.client.ClientPacket.{ClientPacket}
 use Rattle.usbip_urb.specs.declared.client.ClientPacket.TheVariants.{Op, Urb}
 use Rattle.usbip_urb.specs.declared.packet.UrbPacket.TheVariants as urb
 use Rattle.redir_data.specs.declared.packet.RedirPacket.TheVariants.{Plain, Carrying}
-use Rattle.gate_history.specs.declared.item.Item.{Item as RawItem, Item}
-use Rattle.gate_history.specs.declared.item.Item.TheVariants as raw
+use Rattle.gate_history.specs.declared.item.Item.{Item}
+use Rattle.gate_history.specs.declared.item.Item.TheVariants.{Asked, ClientWrong, ClientLeft, Told, HostWrong, HostLeft}
 use Rattle.gate_history.specs.state.State.{State}
 use Rattle.gate_history.specs.state.Sides.{refusal}
 use Rattle.gate_history.specs.state.Sound.{IsSound}
@@ -26,11 +26,11 @@ use Rattle.gate_core.proofs.step.translator.Translator.take.Goals.{in-Asked+in-O
 use Rattle.gate_core.proofs.step.translator.Translator.take.Goals as goal
 
 -- what the function that knows its kind does with an item
-record Took (item : RawItem) (old : Kept) (out : Outputs) (result : Result (Unit {0}) Memory) (new : Kept) (out_new : Outputs) : Type 0 where
+record Took (item : Item) (old : Kept) (out : Outputs) (result : Result (Unit {0}) Memory) (new : Kept) (out_new : Outputs) : Type 0 where
   ok : (st : State) (x : Item) → IsItem item x → Holds old st → IsSound st → is_left_out st x ≡ false → OnOk result (Does st (mark_of st x) old new out out_new)
   wants : (st : State) (x : Item) → IsItem item x → Holds old st → IsSound st → OnErr result (GivesSome st (mark_of st x))
 
-module _ (item : RawItem) (old : Kept) (out : Outputs) (result : Result (Unit {0}) Memory) (new : Kept) (out_new : Outputs) where
+module _ (item : Item) (old : Kept) (out : Outputs) (result : Result (Unit {0}) Memory) (new : Kept) (out_new : Outputs) where
   -- an end of a side
   took-end : (end : Item) → ((x : Item) → IsItem item x → x ≡ end) →
       ((st : State) → Holds old st → OnOk result (Does st (mark_of st end) old new out out_new)) →
@@ -52,11 +52,11 @@ module _ (item : RawItem) (old : Kept) (out : Outputs) (result : Result (Unit {0
   }
 
   -- a packet of the client
-  took-asked : (place : ℕ) (packet : ClientPacket) → item ≡ raw.Asked place packet → ItemFits old.caps item →
+  took-asked : (place : ℕ) (packet : ClientPacket) → item ≡ Asked place packet → ItemFits old.caps item →
       ((st : State) (n : ℕ) → place ≡ capped n → Holds old st → IsSound st → st.client_over ≡ false → OnOk result (Does st (mark_as st (asked_meaning st n packet) None) old new out out_new)) → Took item old out result new out_new
   took-asked place packet is fits does =
-      took-at place (λ n. raw.Asked n packet) (λ x i. subst (λ (r : RawItem). IsItem r x) is i) does
-      (λ st n e h sound. on-err result _ (asked-gives st n packet (subst (λ (r : RawItem). ItemFits old.caps r) is fits)))
+      took-at place (λ n. Asked n packet) (λ x i. subst (λ (r : Item). IsItem r x) is i) does
+      (λ st n e h sound. on-err result _ (asked-gives st n packet (subst (λ (r : Item). ItemFits old.caps r) is fits)))
 
 took : (c : Joined-item) → Took c.args.item c.args.self.now c.args.out.now c.match-item.taken c.match-item.self c.match-item.out
 took c =
@@ -70,47 +70,47 @@ took c =
           let self-is : c.match-item.self ≡ w.answer_op.new.self = search rules in
           rw (w.taken-is, self-is, w.out-is)
           (took-asked item old out w.answer_op.result w.answer_op.new.self w.answer_op.new.out w.in-Asked.place (Op w.in-Op.request)
-          (w.in-Asked.is ∙ ap (raw.Asked w.in-Asked.place) w.in-Op.is) fits (λ st n e h sound over. w.answer_op.ensures.ok st n e h over))
+          (w.in-Asked.is ∙ ap (Asked w.in-Asked.place) w.in-Op.is) fits (λ st n e h sound over. w.answer_op.ensures.ok st n e h over))
       | in-Asked+in-Urb-Submit w ↦ rw (w.taken-is, w.self-is, w.out-is)
           (took-asked item old out w.submit.result w.submit.new.self w.submit.new.out w.in-Asked.place (Urb (urb.Submit w.in-Urb-Submit.submit))
-          (w.in-Asked.is ∙ ap (raw.Asked w.in-Asked.place) (w.in-Urb-Submit.is ∙ ap Urb w.in-Urb-Submit.field-0-is)) fits w.submit.ensures.ok)
+          (w.in-Asked.is ∙ ap (Asked w.in-Asked.place) (w.in-Urb-Submit.is ∙ ap Urb w.in-Urb-Submit.field-0-is)) fits w.submit.ensures.ok)
       | in-Asked+in-Urb-Unlink w ↦ rw (w.taken-is, w.self-is, w.out-is)
           (took-asked item old out w.unlink.result w.unlink.new.self w.unlink.new.out w.in-Asked.place (Urb (urb.Unlink w.in-Urb-Unlink.unlink))
-          (w.in-Asked.is ∙ ap (raw.Asked w.in-Asked.place) (w.in-Urb-Unlink.is ∙ ap Urb w.in-Urb-Unlink.field-0-is)) fits w.unlink.ensures.ok)
-      | in-Asked+in-Urb-RetSubmit w ↦ absurd (subst (λ (r : RawItem). ItemFits old.caps r) (w.in-Asked.is ∙ ap (raw.Asked w.in-Asked.place) (w.in-Urb-RetSubmit.is ∙ ap Urb w.in-Urb-RetSubmit.field-0-is)) fits)
-      | in-Asked+in-Urb-RetUnlink w ↦ absurd (subst (λ (r : RawItem). ItemFits old.caps r) (w.in-Asked.is ∙ ap (raw.Asked w.in-Asked.place) (w.in-Urb-RetUnlink.is ∙ ap Urb w.in-Urb-RetUnlink.field-0-is)) fits)
+          (w.in-Asked.is ∙ ap (Asked w.in-Asked.place) (w.in-Urb-Unlink.is ∙ ap Urb w.in-Urb-Unlink.field-0-is)) fits w.unlink.ensures.ok)
+      | in-Asked+in-Urb-RetSubmit w ↦ absurd (subst (λ (r : Item). ItemFits old.caps r) (w.in-Asked.is ∙ ap (Asked w.in-Asked.place) (w.in-Urb-RetSubmit.is ∙ ap Urb w.in-Urb-RetSubmit.field-0-is)) fits)
+      | in-Asked+in-Urb-RetUnlink w ↦ absurd (subst (λ (r : Item). ItemFits old.caps r) (w.in-Asked.is ∙ ap (Asked w.in-Asked.place) (w.in-Urb-RetUnlink.is ∙ ap Urb w.in-Urb-RetUnlink.field-0-is)) fits)
       | in-ClientWrong w ↦
           let reason = w.in-ClientWrong.reason in
           let call = w.refuse_client-taken in
           rw (w.taken-is, w.self-is, w.out-is)
-          (took-at item old out call.result call.new.self call.new.out w.in-ClientWrong.place (λ n. raw.ClientWrong n reason) (λ x i. subst (λ (r : RawItem). IsItem r x) w.in-ClientWrong.is i)
+          (took-at item old out call.result call.new.self call.new.out w.in-ClientWrong.place (λ n. ClientWrong n reason) (λ x i. subst (λ (r : Item). IsItem r x) w.in-ClientWrong.is i)
           (λ st n e h sound over. subst (λ (r : Refusal). OnOk call.result (Does st (mark_as st (Refuses r) None) old call.new.self out call.new.out)) (w.client_refusal.ensures.value n e) (call.ensures.ok st h over))
           (λ st n e h sound. on-err call.result _ (refusal-gives st (refusal Client n reason) None)))
       | in-ClientLeft w ↦
           let call = w.client_left-taken in
           rw (w.taken-is, w.self-is, w.out-is)
-          (took-end item old out call.result call.new.self call.new.out raw.ClientLeft (λ x i. subst (λ (r : RawItem). IsItem r x) w.in-ClientLeft.is i) call.ensures.ok call.ensures.wants)
+          (took-end item old out call.result call.new.self call.new.out ClientLeft (λ x i. subst (λ (r : Item). IsItem r x) w.in-ClientLeft.is i) call.ensures.ok call.ensures.wants)
       | in-Told+in-Plain w ↦
           let self-is : c.match-item.self ≡ w.told_control.new.self = search rules in
           rw (w.taken-is, self-is, w.out-is)
-          (took-at item old out w.told_control.result w.told_control.new.self w.told_control.new.out w.in-Told.place (λ n. raw.Told n w.in-Told.header (Plain w.in-Plain.packet))
-          (λ x i. subst (λ (r : RawItem). IsItem r x) (w.in-Told.is ∙ ap (raw.Told w.in-Told.place w.in-Told.header) w.in-Plain.is) i) w.told_control.ensures.ok w.told_control.ensures.wants)
+          (took-at item old out w.told_control.result w.told_control.new.self w.told_control.new.out w.in-Told.place (λ n. Told n w.in-Told.header (Plain w.in-Plain.packet))
+          (λ x i. subst (λ (r : Item). IsItem r x) (w.in-Told.is ∙ ap (Told w.in-Told.place w.in-Told.header) w.in-Plain.is) i) w.told_control.ensures.ok w.told_control.ensures.wants)
       | in-Told+in-Carrying w ↦
           rw (w.taken-is, w.self-is, w.out-is)
-          (took-at item old out w.told_data.result w.told_data.new.self w.told_data.new.out w.in-Told.place (λ n. raw.Told n w.in-Told.header (Carrying w.in-Carrying.packet))
-          (λ x i. subst (λ (r : RawItem). IsItem r x) (w.in-Told.is ∙ ap (raw.Told w.in-Told.place w.in-Told.header) w.in-Carrying.is) i)
+          (took-at item old out w.told_data.result w.told_data.new.self w.told_data.new.out w.in-Told.place (λ n. Told n w.in-Told.header (Carrying w.in-Carrying.packet))
+          (λ x i. subst (λ (r : Item). IsItem r x) (w.in-Told.is ∙ ap (Told w.in-Told.place w.in-Told.header) w.in-Carrying.is) i)
           (λ st n e h sound over. w.told_data.ensures.ok st n e h sound) w.told_data.ensures.wants)
       | in-HostWrong w ↦
           let reason = w.in-HostWrong.reason in
           let call = w.refuse_host-taken in
           rw (w.taken-is, w.self-is, w.out-is)
-          (took-at item old out call.result call.new.self call.new.out w.in-HostWrong.place (λ n. raw.HostWrong n reason) (λ x i. subst (λ (r : RawItem). IsItem r x) w.in-HostWrong.is i)
+          (took-at item old out call.result call.new.self call.new.out w.in-HostWrong.place (λ n. HostWrong n reason) (λ x i. subst (λ (r : Item). IsItem r x) w.in-HostWrong.is i)
           (λ st n e h sound over. subst (λ (r : Refusal). OnOk call.result (Does st (mark_as st (Refuses r) None) old call.new.self out call.new.out)) (w.host_refusal.ensures.value n e) (call.ensures.ok st h))
           (λ st n e h sound. on-err call.result _ (refusal-gives st (refusal Host n reason) None)))
       | in-HostLeft w ↦
           let call = w.host_left-taken in
           rw (w.taken-is, w.self-is, w.out-is)
-          (took-end item old out call.result call.new.self call.new.out raw.HostLeft (λ x i. subst (λ (r : RawItem). IsItem r x) w.in-HostLeft.is i) call.ensures.ok call.ensures.wants)
+          (took-end item old out call.result call.new.self call.new.out HostLeft (λ x i. subst (λ (r : Item). IsItem r x) w.in-HostLeft.is i) call.ensures.ok call.ensures.wants)
     ])
 
 pub returns-in-Ok-clause-ok : goal.returns-in-Ok-clause-ok
