@@ -27,7 +27,7 @@ use crate::state::kept::Kept;
 use control_route::Route;
 use gate_history::{Note, Pipe, Request, Situation, Verdict};
 use gate_parts::{
-    Outputs, StreamIds, client_refusal, decide, draw, packet_count, row_of, wire_packet,
+    Outputs, StreamIds, client_refusal, decide, draw, packet_count, row_for, wire_packet,
     write_route, write_without_packets,
 };
 use redir_data::move_data;
@@ -171,7 +171,7 @@ impl Kept {
         let id = self.ask_route(&route, sent_ids.last, &mut out.to_host)?;
         let seqnum = request.number;
         out.notes.push(Note::Submitted { seqnum, id })?;
-        let live = row_of(request, LiveKind::Routed(route), id);
+        let live = row_for(request, LiveKind::Routed(route), id);
         self.open(live, id);
         self.drop_ended(&end);
         self.end_streams(route, sent_ids.stream_ids);

@@ -14,7 +14,7 @@ ghost use Rattle.gate_parts.specs.write.Outputs.{with_answers, HasSome};
 
 use crate::state::kept::Kept;
 use gate_history::{Note, Request};
-use gate_parts::{Outputs, row_of};
+use gate_parts::{Outputs, row_for};
 use stream_buffers::Up;
 use unlink_race::LiveKind;
 use usb_base::{EpRow, Memory};
@@ -59,7 +59,7 @@ impl Kept {
             ep,
             interface: up.row().interface,
         };
-        let live = row_of(request, kind, 0);
+        let live = row_for(request, kind, 0);
         self.lives.push(live);
         match self.fill(ep, up, out) {
             Ok(()) => Ok(()),
@@ -91,7 +91,7 @@ impl Kept {
         };
         self.streams.raise(self.alloc, ep, row);
         self.stream_ids = sent_ids.stream_ids;
-        let live = row_of(request, kind, 0);
+        let live = row_for(request, kind, 0);
         self.open(live, sent_ids.last);
         Ok(())
     }

@@ -34,18 +34,22 @@ kind_of (Routed r) ep = live_kind.Routed r
 kind_of (Stream row) ep = live_kind.Stream ep row.interface
 kind_of _ ep = live_kind.Stream ep 0
 
-abbrev pub row_of : Submission → Option ℕ → Live
-row_of s by = record {
-  seqnum = s.request.number;
-  id = s.id;
-  kind = kind_of s.verdict s.request.transfer.ep;
-  is_in = s.request.is_in;
-  wanted = s.request.transfer.wanted;
-  flags = s.request.flags;
-  packets = s.request.packets;
-  descs = s.request.descs;
-  unlinker = by;
+-- the row of a request that goes as one of this kind, under this id
+abbrev pub row_for : Request → LiveKind → ℕ → Live
+row_for r kind id = record {
+  seqnum = r.number;
+  id = id;
+  kind = kind;
+  is_in = r.is_in;
+  wanted = r.transfer.wanted;
+  flags = r.flags;
+  packets = r.packets;
+  descs = r.descs;
+  unlinker = None;
 }
+abbrev pub row_of : Submission → Option ℕ → Live
+row_of s by = record (row_for s.request (kind_of s.verdict s.request.transfer.ep) s.id) { unlinker = by }
+
 
 abbrev pub row : Pending → Live
 row p = row_of p.submit p.unlinker
@@ -117,20 +121,6 @@ cancel_bytes caps l = if is_cancelled_row l then sent_packet_bytes caps (l.id, P
 
 abbrev pub is_asked_back : Live → Bool
 is_asked_back l = not (is_none l.unlinker)
-
--- the row of a request that goes as one of this kind, under this id
-abbrev pub row_for : Request → LiveKind → ℕ → Live
-row_for r kind id = record {
-  seqnum = r.number;
-  id = id;
-  kind = kind;
-  is_in = r.is_in;
-  wanted = r.transfer.wanted;
-  flags = r.flags;
-  packets = r.packets;
-  descs = r.descs;
-  unlinker = None;
-}
 
 abbrev pub ended_bytes : StreamEnd → ℤ → Live → List ℕ
 ended_bytes end status l = if ended_by end l then spelling (without_packets (row_request l) status) else []

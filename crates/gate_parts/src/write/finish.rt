@@ -157,7 +157,7 @@ pub fn write_end_of(
 }
 
 /// The row of a request that goes as one of this kind, under this id.
-pub fn row_of(request: Request, kind: LiveKind, id: u64) -> Live
+pub fn row_for(request: Request, kind: LiveKind, id: u64) -> Live
     ensures { result ≡ row_for request kind id }
 {
     Live {

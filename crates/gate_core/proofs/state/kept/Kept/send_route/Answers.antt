@@ -67,7 +67,7 @@ returns-clause-ok c st h sound =
       stream_ids = c.in_ok-sent_ids.sent_ids.stream_ids;
       answered = capped (k.answered + length (filter (touched_by by) k.lives.live));
     }) c.open.ensures.opened.is
-    ∙ ap opened c.row_of-live.ensures
+    ∙ ap opened c.row_for-live.ensures
     ∙ (λ i. record old {
       lives = record { live = filter-append (λ x. not (touched_by by x)) old.lives.live (row ∷ []) i; abandoned = old.lives.abandoned };
       streams = lower (is_ended (Some by)) old.streams;

@@ -31,7 +31,7 @@ returns-clause-ok c st h sound =
     let drawn : ids_after old old.last (length starting) ≡ next_ids st (length all) = ids-are old st h starting all same in
     let asked : with_ids old old.last starting ≡ zip (next_ids st (length all)) all = asked-are old st h starting all same in
     let started = c.in_ok-sent_ids.ensures.sent_ids ∙ ap (λ (n : ℕ). after_starts old (sent_ids_of old) (starts_of old n row)) ep in
-    let live = c.row_of-live.ensures ∙ ap (λ (n : ℕ). row_for r (live_kind.Stream n row.interface) 0) ep in
+    let live = c.row_for-live.ensures ∙ ap (λ (n : ℕ). row_for r (live_kind.Stream n row.interface) 0) ep in
     let raised = c.raise.ensures ∙ ap (λ (n : ℕ). raise (record { ep = n; row = row; held = [] }) old.streams) ep in
     does-start st sound r row old c.open.new.self c.in_ok-sent_ids.sent_ids.stream_ids c.in_ok-sent_ids.sent_ids.last c.args.out.now c.write_start.new.to_host c.push.new.self h c.requires.kept
     c.requires.free.number_free c.requires.down
