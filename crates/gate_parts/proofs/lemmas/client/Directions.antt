@@ -5,8 +5,7 @@ use Rattle.std.specs.Prelude.{nat_lt, nat_le, FitsSigned}
 use Rattle.unlink_race.specs.Searches.{is_stream}
 use Rattle.std.specs.List.{find}
 use Rattle.std.specs.Option.{option_map_or}
-use Rattle.std.proofs.lemmas.Bool.{false≢true, true≢false, eqb-true, leb-false, not-false}
-use Rattle.std.proofs.lemmas.Bool.Decides.{eqb_tells}
+use Rattle.std.proofs.lemmas.Bool.{false≢true, eqb-true, leb-false, not-false}
 use Rattle.usb_base.specs.declared.setup.Setup.{Setup}
 use Rattle.usb_base.specs.declared.endpoint.EpKind.{EpKind}
 use Rattle.usb_base.specs.declared.endpoint.EpKind.TheVariants as kind

@@ -1,4 +1,4 @@
-use Rattle.std.proofs.Common.{◌≡◌, ◌∙◌, sym}
+use Rattle.std.proofs.Common.{◌∙◌, sym}
 use Rattle.gate_core.proofs.lemmas.step.Steady.{does-idle}
 use Rattle.gate_core.proofs.state.kept.Kept.answer_op.Goals.{in-ReqDevlist, in-ReqImport, in-RepDevlist, in-RepImport}
 use Rattle.gate_core.proofs.state.kept.Kept.answer_op.Goals as goal
