@@ -226,5 +226,5 @@ abbrev pub answers : {S : Type 0} → Meaning S → Direct S → Deed → List U
 answers m d (Submit r) = submit_answers d (record { request = r; verdict = made_of m d r })
 answers m d (Unlink by target) = unlink_answers d by target
 answers m d (Answer seqnum) = answers_of d (find (λ (l : Live). is_number seqnum l.load) d.live)
-answers m d Gone = map (λ (l : Live). lost_answer (as_submission l.load) l.unlinker) d.live
+answers m d Gone = map (λ (l : Live). lost_answer l.load.request l.unlinker) d.live
 answers m d _ = []

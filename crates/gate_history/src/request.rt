@@ -1,11 +1,11 @@
 //! What a submit asks for.
 
-ghost use Rattle.std.specs.Prelude.{◌≡◌, ◌≤◌, None, []};
+ghost use Rattle.std.specs.Prelude.{◌≡◌, ◌≤◌, None};
 ghost use Rattle.usbip_urb.specs.Ranges.{IsSubmit};
 ghost use Rattle.gate_history.specs.client.Requests.{address, request_of};
 ghost use Rattle.gate_history.specs.client.Carried.{IsRequest};
 ghost use Rattle.gate_history.specs.write.Answers.{fails_if_short};
-ghost use Rattle.gate_history.specs.write.Asked.{asked_view};
+ghost use Rattle.gate_history.specs.write.Asked.{answered_transfer, asked_view};
 
 use usb_base::{EpAddr, Setup, Transfer};
 use usbip_urb::{Descs, IsoDesc, Submit, USBIP_DIR_OUT};
@@ -120,7 +120,7 @@ impl<'a> AnsweredSubmit<'a> {
 impl Request {
     /// What its answer has of it.
     pub fn asked(&self) -> AnsweredSubmit<'_>
-        ensures { asked_view result ≡ record { number = self.now.number; is_in = self.now.is_in; flags = self.now.flags; packets = self.now.packets; descs = self.now.descs; transfer = record { ep = 0; setup = None; wanted = self.now.transfer.wanted; body = [] } } }
+        ensures { asked_view result ≡ record self.now { transfer = answered_transfer self.now.transfer.wanted } }
     {
         AnsweredSubmit {
             number: self.number,

@@ -28,7 +28,7 @@ use Rattle.gate_history.proofs.lemmas.Lists.{filter-none, Each-append}
 use Rattle.gate_history.proofs.lemmas.step.NoCancel.{none-cancelled, stays-uncancelled}
 use Rattle.direct_run.specs.Noted.{named}
 use Rattle.direct_run.specs.Moves.{World, GateReads, Made, move, quiet, gate_reads, gate_made}
-use Rattle.direct_device.specs.Direct.{Live, as_submission}
+use Rattle.direct_device.specs.Direct.{Live}
 use Rattle.direct_device.specs.Acting.{Deed, Gone, Answer}
 use Rattle.direct_proof.specs.Deeds.{as_deeds, when}
 use Rattle.direct_proof.specs.Shared.{Shared, lines, half_line, way_of, view}
@@ -83,7 +83,7 @@ module _ {S : Type 0} (m : Meaning S) (w : World S) (j : Shared) (place : ℕ) (
       go true h = absurd (early (rel.before h).back)
       go false h = refl
 
-  made-is : move as_deeds m w (GateReads place) ≡ record { world = lost_world; outs = map Urb (map (λ (p : Pending). lost_answer p.submit p.unlinker) st.live); told = when st.imported Gone }
+  made-is : move as_deeds m w (GateReads place) ≡ record { world = lost_world; outs = map Urb (map (λ (p : Pending). lost_answer p.submit.request p.unlinker) st.live); told = when st.imported Gone }
   made-is = ap (gate_reads as_deeds w place) rel.answers
       ∙ (λ i. cond (rel.sides.reads i) (quiet (record w { to_gate = [] })) (gate_made as_deeds (record w { to_gate = [] }) (mark_as st effect None)))
       ∙ (λ i. record {
@@ -96,15 +96,15 @@ module _ {S : Type 0} (m : Meaning S) (w : World S) (j : Shared) (place : ℕ) (
         outs = map Urb (told (st.live ++ []) i);
         told = (ap (λ (ps : List Pending). (map (λ (p : Pending). Answer p.submit.request.number) ps ++ when (st.imported && not st.lost) Gone) ++ []) (filter-none (present st effect)) ∙ append-nil (when (st.imported && not st.lost) Gone)) i;
       })
-      ∙ (λ i. record { world = lost_world; outs = map Urb (map (λ (p : Pending). lost_answer p.submit p.unlinker) (append-nil st.live i)); told = when ((ap (λ (b : Bool). st.imported && not b) there ∙ and-true st.imported) i) Gone })
+      ∙ (λ i. record { world = lost_world; outs = map Urb (map (λ (p : Pending). lost_answer p.submit.request p.unlinker) (append-nil st.live i)); told = when ((ap (λ (b : Bool). st.imported && not b) there ∙ and-true st.imported) i) Gone })
     where
       unnamed : (b : Bool) → w.submits ++ flat_map named ((notes.when b note.DeviceGone ++ []) ++ []) ≡ w.submits
       unnamed true = append-nil w.submits
       unnamed false = append-nil w.submits
 
-      told : (ps : List Pending) → flat_map (λ p. answers_at p.submit p.unlinker (ends effect p.submit)) ps ≡ map (λ (p : Pending). lost_answer p.submit p.unlinker) ps
+      told : (ps : List Pending) → flat_map (λ p. answers_at p.submit p.unlinker (ends effect p.submit)) ps ≡ map (λ (p : Pending). lost_answer p.submit.request p.unlinker) ps
       told [] = refl
-      told (p ∷ ps) = ap (λ (l : List UrbPacket). lost_answer p.submit p.unlinker ∷ l) (told ps)
+      told (p ∷ ps) = ap (λ (l : List UrbPacket). lost_answer p.submit.request p.unlinker ∷ l) (told ps)
 
   -- the acknowledgement is nothing that the host does
   acked : (b : Bool) → (lines (cond b ((0, Plain plain.DisconnectAck) ∷ []) []) ≡ []) × (Each (λ (p : ℕ × RedirPacket). IsAsking p.1) (cond b ((0, Plain plain.DisconnectAck) ∷ []) [])) × CancelsFit (j.held ++ j.coming) (cond b ((0, Plain plain.DisconnectAck) ∷ []) []) []
@@ -187,15 +187,15 @@ module _ {S : Type 0} (m : Meaning S) (w : World S) (j : Shared) (place : ℕ) (
       })
           (subst (λ (x : Made S Deed). Related m x.world (lost_shared true)) (sym made-is) (related true (λ h. refl)))
         where
-          same-answers : (ps : List Pending) → map (λ (p : Pending). lost_answer p.submit p.unlinker) ps ≡ map (λ (l : Live). lost_answer (as_submission l.load) l.unlinker) (map live_of ps)
+          same-answers : (ps : List Pending) → map (λ (p : Pending). lost_answer p.submit.request p.unlinker) ps ≡ map (λ (l : Live). lost_answer l.load.request l.unlinker) (map live_of ps)
           same-answers [] = refl
           same-answers (p ∷ ps) = λ i. one p.submit p.unlinker i ∷ same-answers ps i
             where
-              one : (s : Submission) (by : Option ℕ) → lost_answer s by ≡ lost_answer (as_submission (load_of s)) by
+              one : (s : Submission) (by : Option ℕ) → lost_answer s.request by ≡ lost_answer (load_of s).request by
               one s None = refl
               one s (Some x) = refl
       go false out = keeps-quiet m w (with_back j (Bye ∷ [])) (lost_shared j.gone) (move as_deeds m w (GateReads place)) lost_world
-          (made-is ∙ (λ i. record { world = lost_world; outs = map Urb (map (λ (p : Pending). lost_answer p.submit p.unlinker) (sound.gone out i)); told = when (out i) Gone }))
+          (made-is ∙ (λ i. record { world = lost_world; outs = map Urb (map (λ (p : Pending). lost_answer p.submit.request p.unlinker) (sound.gone out i)); told = when (out i) Gone }))
           (related j.gone (λ h. absurd (both_ways st.imported out h)))
           (λ i. record (view w (with_back j (Bye ∷ []))) {
             live = ap (map live_of) (sound.gone out) i;

@@ -16,11 +16,11 @@ ghost use Rattle.usb_base.specs.Status.{status_of};
 ghost use Rattle.gate_history.specs.state.Flight.{wide_ids};
 ghost use Rattle.gate_history.specs.client.Ends.{has_id as submit_has_id};
 ghost use Rattle.gate_history.specs.state.State.{State, submits};
-ghost use Rattle.gate_history.specs.host.Responses.{response_of};
+ghost use Rattle.gate_history.specs.host.Responses.{response_of, mismatch};
 ghost use Rattle.gate_history.specs.step.Meaning.{mark_as, fact_of, by_response, told_meaning};
 ghost use Rattle.gate_history.specs.state.Sound.{IsSound};
 ghost use Rattle.gate_history.specs.step.Wants.{GivesSome};
-ghost use Rattle.gate_parts.specs.host.Responses.{response_view, row_mismatch, IsAnswer, completes};
+ghost use Rattle.gate_parts.specs.host.Responses.{response_view, expected_by, IsAnswer, completes};
 ghost use Rattle.gate_core.specs.inner.Holds.{IsKept, Holds, Does, StopsShort};
 ghost use Rattle.gate_history.specs.step.Fits.{ResponseFits, ToldFits};
 
@@ -208,7 +208,7 @@ impl Kept {
         response: &Response,
     ) -> Option<Refusal>
         requires { at < length (in_flight self.now.lives) }
-        ensures value { (l : Live) → slice_get (in_flight self.now.lives) at ≡ Some l → result ≡ row_mismatch place (head_size (wide_ids self.now.caps)) l header.now.kind (response_view response.now) }
+        ensures value { (l : Live) → slice_get (in_flight self.now.lives) at ≡ Some l → result ≡ mismatch place (head_size (wide_ids self.now.caps)) (expected_by l) header.now.kind (response_view response.now) }
         ensures side { IfSome result (λ refusal. refusal.side ≡ Host) }
     {
         let live = self.lives.held_at(at);

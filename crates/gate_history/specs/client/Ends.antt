@@ -14,6 +14,7 @@ use Rattle.gate_history.specs.declared.verdict.Verdict.TheVariants.{Now, Routed,
 use Rattle.gate_history.specs.client.Verdict.{goes_by_id, is_wire}
 use Rattle.gate_history.specs.host.Fillings.{Given, Filling, given_to}
 use Rattle.gate_history.specs.write.Answers.{ret_unlink, without_packets, all_sent, with_outcome, with_given}
+use Rattle.gate_history.specs.declared.request.Request.{Request}
 use Rattle.gate_history.specs.step.Marks.{Submission, Effect, Opens, Waits, Arrives, Unlinks, Answers, StreamTold}
 use Rattle.gate_history.specs.state.Sides.{leaves, is_loss}
 
@@ -73,8 +74,8 @@ answers_by s o (Some by) =
     if is_wire s.verdict && is_cancelled o.status then ret_unlink by ECONNRESET ∷ []
     else with_outcome s.request o ∷ ret_unlink by (pos 0) ∷ []
 
-abbrev pub lost_answer : Submission → Option ℕ → UrbPacket
-lost_answer s unlinker = option_map_or (λ by. ret_unlink by ECONNRESET) unlinker (without_packets s.request ESHUTDOWN)
+abbrev pub lost_answer : Request → Option ℕ → UrbPacket
+lost_answer r unlinker = option_map_or (λ by. ret_unlink by ECONNRESET) unlinker (without_packets r ESHUTDOWN)
 
 -- ---- which end each item gives, and what each end answers
 
@@ -96,7 +97,7 @@ abbrev pub answers : Submission → Option ℕ → End → List UrbPacket
 answers s by (ByStatus status) = without_packets s.request status ∷ []
 answers s by Sent = all_sent s.request ∷ []
 answers s by ByClient = []
-answers s by ByLoss = lost_answer s by ∷ []
+answers s by ByLoss = lost_answer s.request by ∷ []
 answers s by (ByAnswer outcome) = answers_by s outcome by
 answers s by (ByUnlink other) = ret_unlink other ECONNRESET ∷ []
 answers s by (ByPackets given) = with_given s.request given ∷ []

@@ -19,5 +19,5 @@ pub record Loses (st : State) (x : Item) : Type 0 where
 -- nothing is live after it, each that was live gets one answer with it, and none that was accepted before is live later
 pub record EndsAll (first : ℕ) (items : List Item) (x : Item) : Type 0 where
   pub none : live (past first (x ∷ items)) ≡ []
-  pub answers : to_client (state_of first (past first items)) (mark_of (state_of first (past first items)) x) ≡ map (λ p. Urb (lost_answer p.submit p.unlinker)) (state_of first (past first items)).live
+  pub answers : to_client (state_of first (past first items)) (mark_of (state_of first (past first items)) x) ≡ map (λ p. Urb (lost_answer p.submit.request p.unlinker)) (state_of first (past first items)).live
   pub later : (more : List Item) → AllByRecursion (λ s. length (past first (x ∷ items)) ≤ s.place) (live (past first (more ++ x ∷ items)))

@@ -69,14 +69,23 @@ answer_kind _ = 0
 abbrev pub mismatched : ℕ → ℕ → ℕ → Refusal
 mismatched place expected came = record { side = Host; place = capped place; reason = Mismatch; kept = Some (expected, came) }
 
+-- what the answer of a request is to be: the number of its type, its endpoint, and its length at most
+pub record Expected : Type 0 where
+  pub kind : ℕ
+  pub ep : ℕ
+  pub wanted : ℕ
+
+abbrev pub expected_of : Submission → Expected
+expected_of s = record { kind = answer_kind s.verdict; ep = s.request.transfer.ep; wanted = s.request.transfer.wanted }
+
 -- the first that is wrong of its type, its endpoint and its length; the packet begins at `place`, and its header has
 -- `head` bytes
-abbrev pub mismatch : ℕ → ℕ → Submission → ℕ → Response → Option Refusal
-mismatch place head s kind (Status status value) = if kind == answer_kind s.verdict then None else Some (mismatched place (answer_kind s.verdict) kind)
-mismatch place head s kind (Data endpoint length_place o) =
-    if not (kind == answer_kind s.verdict) then Some (mismatched place (answer_kind s.verdict) kind)
-    else if not (endpoint == s.request.transfer.ep) then Some (mismatched (place + head) s.request.transfer.ep endpoint)
-    else if nat_lt s.request.transfer.wanted o.done then Some (mismatched (place + head + length_place) s.request.transfer.wanted o.done)
+abbrev pub mismatch : ℕ → ℕ → Expected → ℕ → Response → Option Refusal
+mismatch place head e kind (Status status value) = if kind == e.kind then None else Some (mismatched place e.kind kind)
+mismatch place head e kind (Data endpoint length_place o) =
+    if not (kind == e.kind) then Some (mismatched place e.kind kind)
+    else if not (endpoint == e.ep) then Some (mismatched (place + head) e.ep endpoint)
+    else if nat_lt e.wanted o.done then Some (mismatched (place + head + length_place) e.wanted o.done)
     else None
 
 -- ---- what came of the transfer

@@ -45,7 +45,7 @@ use Rattle.gate_history.specs.state.Flight.{wide_ids, wide_bulk}
 use Rattle.gate_history.specs.state.State.{State, submits, next_ids, has_number, change_waits}
 use Rattle.gate_history.specs.client.Replies.{list_reply, import_reply, failed_import, is_exported}
 use Rattle.gate_history.specs.write.Packets.{packets_of, asked_packets}
-use Rattle.gate_history.specs.host.Responses.{Response, response_of, mismatch, told_outcome}
+use Rattle.gate_history.specs.host.Responses.{Response, response_of, expected_of, mismatch, told_outcome}
 use Rattle.redir_wire.specs.EpTable.{table_of}
 
 abbrev pub refused : Side → ℕ → Reason → Effect
@@ -119,7 +119,7 @@ answered_as id o wrong = option_map_or Refuses wrong (Answers id o)
 -- an answer to nobody means nothing
 abbrev pub answer_to : State → ℕ → Header → Response → Option Submission → Effect
 answer_to st place h response asked =
-    option_map_or (λ s. answered_as h.id (told_outcome s.request s.verdict response) (mismatch place (head_size (wide_ids st.agreed)) s h.kind response)) asked Idle
+    option_map_or (λ s. answered_as h.id (told_outcome s.request s.verdict response) (mismatch place (head_size (wide_ids st.agreed)) (expected_of s) h.kind response)) asked Idle
 
 abbrev pub by_response : State → ℕ → Header → Option Response → Effect
 by_response st place h response = option_map_or (λ r. answer_to st place h r (find (has_id h.id) (submits st ++ st.abandoned))) response Idle

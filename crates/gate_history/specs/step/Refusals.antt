@@ -23,7 +23,7 @@ use Rattle.gate_history.specs.client.Ends.{has_id}
 use Rattle.gate_history.specs.state.Flight.{wide_ids}
 use Rattle.gate_history.specs.state.State.{State, state_of, submits, has_number}
 use Rattle.gate_history.specs.step.Past.{is_left_out, past}
-use Rattle.gate_history.specs.host.Responses.{response_of, mismatch}
+use Rattle.gate_history.specs.host.Responses.{response_of, expected_of, mismatch}
 use Rattle.gate_history.specs.write.Notes.{refusal_notes}
 
 -- ---- the rules of the gate
@@ -45,7 +45,7 @@ client_rule st place (Urb _) = None
 -- what the host answers by an id is of the type, the endpoint and the length of the request that waits with it
 abbrev pub host_rule : State → ℕ → Header → RedirPacket → Option Refusal
 host_rule st place h p =
-    option_and_then (λ response. option_and_then (λ s. mismatch place (head_size (wide_ids st.agreed)) s h.kind response) (find (has_id h.id) (submits st ++ st.abandoned))) (response_of p)
+    option_and_then (λ response. option_and_then (λ s. mismatch place (head_size (wide_ids st.agreed)) (expected_of s) h.kind response) (find (has_id h.id) (submits st ++ st.abandoned))) (response_of p)
 
 -- ---- of an item, and of all
 

@@ -1,6 +1,7 @@
 -- What the answer of a submit has of the submit, as the code has it.
 use Rattle.std.specs.Prelude.{◌≡◌, ℕ, ◌≤◌, Bool, IsTrue, List, length, None, []}
 use Rattle.usb_base.specs.declared.transfer.Outcome.{Outcome}
+use Rattle.usb_base.specs.declared.transfer.Transfer.{Transfer}
 use Rattle.usb_base.specs.declared.limits.TheConstants.{MAX_TRANSFER}
 use Rattle.usbip_urb.specs.declared.packet.IsoDesc.{IsoDesc}
 use Rattle.usbip_urb.specs.Sizes.{body_size, count_of}
@@ -9,6 +10,9 @@ use Rattle.gate_history.specs.declared.request.AnsweredSubmit.{AnsweredSubmit}
 use Rattle.gate_history.specs.declared.request.Request.{Request}
 
 -- an answer has nothing of a submit's endpoint, setup and body
+abbrev pub answered_transfer : ℕ → Transfer
+answered_transfer wanted = record { ep = 0; setup = None; wanted = wanted; body = [] }
+
 abbrev pub asked_view : AnsweredSubmit → Request
 asked_view a = record {
   number = a.number;
@@ -16,7 +20,7 @@ asked_view a = record {
   flags = a.flags;
   packets = a.packets;
   descs = a.descs.now;
-  transfer = record { ep = 0; setup = None; wanted = a.wanted; body = [] };
+  transfer = answered_transfer a.wanted;
 }
 
 -- as many isochronous packets as number_of_packets says

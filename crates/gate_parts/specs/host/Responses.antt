@@ -1,6 +1,5 @@
 -- Answers as the code has them, and what a request in flight makes of them by its row.
-use Rattle.std.specs.Prelude.{ℕ, ◌+◌, ◌==◌, nat_lt, not, Bool, true, false, if◌then◌else◌, List, [], ◌∷◌, length, filter, Option, Some, None, ◌≡◌}
-use Rattle.usb_base.specs.declared.refusal.Refusal.{Refusal}
+use Rattle.std.specs.Prelude.{ℕ, Bool, true, false, if◌then◌else◌, List, [], ◌∷◌, length, filter, Option, Some, None, ◌≡◌}
 use Rattle.usb_base.specs.declared.transfer.Outcome.{Outcome}
 use Rattle.usb_base.specs.declared.transfer.StreamPacket.{StreamPacket}
 use Rattle.usb_base.specs.Endpoint.{is_in_endpoint}
@@ -19,7 +18,7 @@ use Rattle.gate_parts.specs.declared.host.response.Response.{Response as RawResp
 use Rattle.gate_parts.specs.declared.host.response.Response.TheVariants as raw
 use Rattle.gate_parts.specs.declared.host.response.StreamIn.{StreamIn}
 use Rattle.gate_history.specs.step.Marks.{Submission, Effect, Idle, Answers}
-use Rattle.gate_history.specs.host.Responses.{Response, Data, Status, wire_answer, route_answer, route_gets, mismatched, got, told_outcome}
+use Rattle.gate_history.specs.host.Responses.{Response, Data, Status, wire_answer, route_answer, route_gets, Expected, got, told_outcome}
 use Rattle.gate_history.specs.write.All.{is_ret_submit, is_won_unlink}
 use Rattle.gate_history.specs.write.Asked.{IsMoved}
 
@@ -63,13 +62,8 @@ abbrev pub row_gets : LiveKind → Bool
 row_gets (live_kind.Routed route) = route_gets route
 row_gets _ = false
 
-abbrev pub row_mismatch : ℕ → ℕ → Live → ℕ → Response → Option Refusal
-row_mismatch place head l kind (Status status value) = if kind == row_answer l.kind then None else Some (mismatched place (row_answer l.kind) kind)
-row_mismatch place head l kind (Data endpoint length_place o) =
-    if not (kind == row_answer l.kind) then Some (mismatched place (row_answer l.kind) kind)
-    else if not (endpoint == row_ep l.kind) then Some (mismatched (place + head) (row_ep l.kind) endpoint)
-    else if nat_lt l.wanted o.done then Some (mismatched (place + head + length_place) l.wanted o.done)
-    else None
+abbrev pub expected_by : Live → Expected
+expected_by l = record { kind = row_answer l.kind; ep = row_ep l.kind; wanted = l.wanted }
 
 -- its data are those of the request
 abbrev pub IsAnswer : Live → Response → Type 0

@@ -1,5 +1,5 @@
 -- The rows of the requests in flight: what each keeps of its submit.
-use Rattle.std.specs.Prelude.{ℕ, Option, None, ◌≡◌, ◌⊎◌, ◌&&◌, not, ◌≤◌, Bool, IsTrue, true, false, if◌then◌else◌, List, [], Some, is_none, ℤ}
+use Rattle.std.specs.Prelude.{ℕ, Option, None, ◌≡◌, ◌⊎◌, ◌&&◌, not, ◌≤◌, Bool, IsTrue, true, false, if◌then◌else◌, List, [], is_none, ℤ}
 use Rattle.unlink_race.specs.declared.live.Live.{Live}
 use Rattle.unlink_race.specs.declared.live.LiveKind.{LiveKind}
 use Rattle.unlink_race.specs.declared.live.LiveKind.TheVariants as live_kind
@@ -8,9 +8,9 @@ use Rattle.gate_history.specs.declared.verdict.Verdict.TheVariants.{Wire, Routed
 use Rattle.gate_history.specs.client.Verdict.{pipe_kind, is_wire}
 use Rattle.gate_history.specs.step.Marks.{Submission}
 use Rattle.gate_history.specs.client.Submits.{Pending}
+use Rattle.gate_history.specs.client.Ends.{lost_answer}
 use Rattle.usb_base.specs.Endpoint.{is_in_endpoint}
 use Rattle.usb_base.specs.declared.limits.TheConstants.{MAX_TRANSFER}
-use Rattle.usbip_urb.specs.declared.packet.UrbPacket.{UrbPacket}
 use Rattle.usbip_urb.specs.Spelling.{spelling}
 use Rattle.redir_wire.specs.declared.packet.Caps.{Caps}
 use Rattle.redir_wire.specs.declared.packet.RedirControl.TheVariants as plain
@@ -18,13 +18,12 @@ use Rattle.redir_wire.specs.Header.{IdFits}
 use Rattle.redir_data.specs.declared.packet.RedirPacket.TheVariants.{Plain}
 use Rattle.usbip_urb.specs.Buffers.{laid}
 use Rattle.unlink_race.specs.Searches.{is_stream, ended_by}
-use Rattle.usb_base.specs.declared.errno.TheConstants.{ECONNRESET, ESHUTDOWN}
 use Rattle.gate_history.specs.declared.request.Request.{Request}
 use Rattle.gate_history.specs.state.Flight.{wide_ids}
 use Rattle.gate_history.specs.host.Responses.{route_gets}
-use Rattle.gate_history.specs.write.Answers.{without_packets, ret_unlink}
+use Rattle.gate_history.specs.write.Answers.{without_packets}
 use Rattle.redir_data.specs.Sent.{sent_packet_bytes}
-use Rattle.gate_history.specs.write.Asked.{HasItsPackets}
+use Rattle.gate_history.specs.write.Asked.{HasItsPackets, answered_transfer}
 use Rattle.unlink_race.specs.declared.live.StreamEnd.{StreamEnd}
 
 -- what is answered at once is never in flight
@@ -47,9 +46,9 @@ row_for r kind id = record {
   descs = r.descs;
   unlinker = None;
 }
+
 abbrev pub row_of : Submission → Option ℕ → Live
 row_of s by = record (row_for s.request (kind_of s.verdict s.request.transfer.ep) s.id) { unlinker = by }
-
 
 abbrev pub row : Pending → Live
 row p = row_of p.submit p.unlinker
@@ -101,16 +100,12 @@ row_request l = record {
   flags = l.flags;
   packets = l.packets;
   descs = l.descs;
-  transfer = record { ep = 0; setup = None; wanted = l.wanted; body = [] };
+  transfer = answered_transfer l.wanted;
 }
 
 -- where the device is lost
-abbrev pub lost_packet : Live → Option ℕ → UrbPacket
-lost_packet l None = without_packets (row_request l) ESHUTDOWN
-lost_packet l (Some by) = ret_unlink by ECONNRESET
-
 abbrev pub lost_bytes : Live → List ℕ
-lost_bytes l = spelling (lost_packet l l.unlinker)
+lost_bytes l = spelling (lost_answer (row_request l) l.unlinker)
 
 -- where the client is gone
 abbrev pub is_cancelled_row : Live → Bool

@@ -6,8 +6,8 @@ ghost use Rattle.usb_base.specs.declared.side.Side.TheVariants.{Host};
 ghost use Rattle.gate_history.specs.declared.request.Request.{Request};
 ghost use Rattle.gate_history.specs.declared.verdict.Verdict.{Verdict};
 ghost use Rattle.redir_data.specs.declared.packet.RedirPacket.TheVariants.{Plain, Carrying};
-ghost use Rattle.gate_history.specs.host.Responses.{Data, outcome, response_of, wire_answer, route_answer, mismatched, route_gets, gets as gets_value, told_outcome};
-ghost use Rattle.gate_parts.specs.host.Responses.{response_view, status_outcome, row_answer, row_ep, row_gets, row_mismatch, stream_in, packet_in};
+ghost use Rattle.gate_history.specs.host.Responses.{Data, outcome, response_of, wire_answer, route_answer, mismatch, mismatched, route_gets, gets as gets_value, told_outcome};
+ghost use Rattle.gate_parts.specs.host.Responses.{response_view, status_outcome, row_answer, row_ep, row_gets, expected_by, stream_in, packet_in};
 ghost use Rattle.redir_wire.specs.Header.{head_size};
 ghost use Rattle.gate_history.specs.state.Flight.{wide_ids};
 
@@ -152,7 +152,7 @@ pub fn mismatch(
     response: &Response,
 ) -> Option<Refusal>
     requires { head < 256 }
-    ensures value { result ≡ row_mismatch place head live.now kind (response_view response.now) }
+    ensures value { result ≡ mismatch place head (expected_by live.now) kind (response_view response.now) }
     ensures side { IfSome result (λ refusal. refusal.side ≡ Host) }
 {
     let expected = answer_kind(&live.kind);

@@ -40,7 +40,7 @@ use Rattle.gate_history.specs.state.Flight.{wide_ids}
 use Rattle.gate_history.specs.client.Submits.{Pending}
 use Rattle.gate_history.specs.client.Ends.{has_id, answers_by}
 use Rattle.gate_history.specs.state.State.{State, submits}
-use Rattle.gate_history.specs.host.Responses.{Response, response_of, mismatch, told_outcome}
+use Rattle.gate_history.specs.host.Responses.{Response, response_of, expected_of, mismatch, told_outcome}
 use Rattle.gate_history.specs.step.Meaning.{mark_as, answered_as, answer_to, by_response, told_meaning}
 use Rattle.gate_history.specs.state.Sound.{IsSound}
 use Rattle.gate_history.specs.write.Output.{cancels, cancel, to_client}
@@ -48,7 +48,7 @@ use Rattle.gate_history.specs.write.Notes.{answer_notes}
 use Rattle.gate_history.specs.write.All.{is_ret_submit, is_won_unlink}
 use Rattle.redir_data.specs.Sent.{sent_packet_bytes}
 use Rattle.gate_parts.specs.state.Rows.{row_of, row, unmarked, left_row}
-use Rattle.gate_parts.specs.host.Responses.{row_mismatch, completes, IsAnswer, has_won, IsCounted}
+use Rattle.gate_parts.specs.host.Responses.{expected_by, completes, IsAnswer, has_won, IsCounted}
 use Rattle.gate_parts.specs.write.Outputs.{with_answers}
 use Rattle.gate_parts.proofs.lemmas.write.Outputs.{with-none}
 use Rattle.gate_core.specs.inner.Holds.{IsRow, Holds, Does}
@@ -303,31 +303,31 @@ module _ (st : State) (id : ℕ) (response : Response) (sound : IsSound st) wher
 -- ---- what is wrong of an answer
 
 abbrev wrong_of : State → ℕ → Header → Response → Submission → Option Refusal
-wrong_of st at h response s = mismatch at (head_size (wide_ids st.agreed)) s h.kind response
+wrong_of st at h response s = mismatch at (head_size (wide_ids st.agreed)) (expected_of s) h.kind response
 
 -- by the row of the request that waits for it, and by its submit
 found-wrong : (old : Kept) (st : State) (at place : ℕ) (h : Header) (response : Response) → Holds old st → place ≡ capped at → ResponseFits h.kind (Some response) →
-    option_and_then (λ l. row_mismatch place (head_size (wide_ids old.caps)) l h.kind response) (option_or (find (has_row_id h.id) old.lives.live) (find (has_row_id h.id) old.lives.abandoned))
+    option_and_then (λ l. mismatch place (head_size (wide_ids old.caps)) (expected_by l) h.kind response) (option_or (find (has_row_id h.id) old.lives.live) (find (has_row_id h.id) old.lives.abandoned))
     ≡ option_and_then (wrong_of st at h response) (find (has_id h.id) (submits st ++ st.abandoned))
 found-wrong old st at place h response holds is fits =
-    (λ i. option_and_then (λ l. row_mismatch (is i) (head_size (wide_ids (holds.caps i))) l h.kind response) (option_or ((ap (find (has_row_id h.id)) holds.live ∙ find-rows h.id st.live) i) (find (has_row_id h.id) old.lives.abandoned)))
+    (λ i. option_and_then (λ l. mismatch (is i) (head_size (wide_ids (holds.caps i))) (expected_by l) h.kind response) (option_or ((ap (find (has_row_id h.id)) holds.live ∙ find-rows h.id st.live) i) (find (has_row_id h.id) old.lives.abandoned)))
     ∙ of (find (pending_has_id h.id) st.live) (find (has_row_id h.id) old.lives.abandoned) (find (has_id h.id) st.abandoned)
     (find-unmarked h.id old.lives.abandoned ∙ ap (find (has_row_id h.id)) holds.abandoned ∙ find-left h.id st.abandoned)
     ∙ ap (option_and_then (wrong_of st at h response)) (ap (λ (o : Option Submission). option_or o (find (has_id h.id) st.abandoned)) (sym (find-map (has_id h.id) (λ (p : Pending). p.submit) st.live)) ∙ sym (find-append (has_id h.id) (submits st) st.abandoned))
   where
-    one : (s : Submission) (by : Option ℕ) → row_mismatch (capped at) (head_size (wide_ids st.agreed)) (row_of s by) h.kind response ≡ wrong_of st at h response s
+    one : (s : Submission) (by : Option ℕ) → mismatch (capped at) (head_size (wide_ids st.agreed)) (expected_by (row_of s by)) h.kind response ≡ wrong_of st at h response s
     one s by = row-mismatch (capped at) (head_size (wide_ids st.agreed)) s by h.kind response fits ∙ mismatch-capped at (head_size (wide_ids st.agreed)) s h.kind response
 
     -- of abandoned ones, whose unlinkers don't matter
     left : (r : Option Live) (a : Option Submission) → option_map unmarked r ≡ option_map left_row a →
-        option_and_then (λ l. row_mismatch (capped at) (head_size (wide_ids st.agreed)) l h.kind response) r ≡ option_and_then (wrong_of st at h response) a
+        option_and_then (λ l. mismatch (capped at) (head_size (wide_ids st.agreed)) (expected_by l) h.kind response) r ≡ option_and_then (wrong_of st at h response) a
     left None None e = refl
-    left (Some l) (Some s) e = ap (λ (o : Option Live). option_and_then (λ l. row_mismatch (capped at) (head_size (wide_ids st.agreed)) l h.kind response) o) e ∙ one s None
+    left (Some l) (Some s) e = ap (λ (o : Option Live). option_and_then (λ l. mismatch (capped at) (head_size (wide_ids st.agreed)) (expected_by l) h.kind response) o) e ∙ one s None
     left None (Some s) e = absurd (false≢true (sym (ap is_none e)))
     left (Some l) None e = absurd (false≢true (ap is_none e))
 
     of : (p : Option Pending) (r : Option Live) (a : Option Submission) → option_map unmarked r ≡ option_map left_row a →
-        option_and_then (λ l. row_mismatch (capped at) (head_size (wide_ids st.agreed)) l h.kind response) (option_or (option_map row p) r)
+        option_and_then (λ l. mismatch (capped at) (head_size (wide_ids st.agreed)) (expected_by l) h.kind response) (option_or (option_map row p) r)
         ≡ option_and_then (wrong_of st at h response) (option_or (option_map (λ (q : Pending). q.submit) p) a)
     of (Some p) r a e = one p.submit p.unlinker
     of None r a e = left r a e
@@ -343,15 +343,15 @@ is-completed st at h response (Some s) e = ap (answered_as h.id (told_outcome s.
 -- by the row that is found
 wrong-at : (old : Kept) (st : State) (at place : ℕ) (h : Header) (response : Response) (l : Live) → Holds old st → place ≡ capped at → ResponseFits h.kind (Some response) →
     find (has_row_id h.id) (in_flight old.lives) ≡ Some l →
-    row_mismatch place (head_size (wide_ids old.caps)) l h.kind response ≡ option_and_then (wrong_of st at h response) (find (has_id h.id) (submits st ++ st.abandoned))
+    mismatch place (head_size (wide_ids old.caps)) (expected_by l) h.kind response ≡ option_and_then (wrong_of st at h response) (find (has_id h.id) (submits st ++ st.abandoned))
 wrong-at old st at place h response l holds is fits found =
-    ap (option_and_then (λ k. row_mismatch place (head_size (wide_ids old.caps)) k h.kind response)) (sym found ∙ find-append (has_row_id h.id) old.lives.live old.lives.abandoned)
+    ap (option_and_then (λ k. mismatch place (head_size (wide_ids old.caps)) (expected_by k) h.kind response)) (sym found ∙ find-append (has_row_id h.id) old.lives.live old.lives.abandoned)
     ∙ found-wrong old st at place h response holds is fits
 
 -- by the place of the request in flight, of which this is found to be wrong
 module _ (old : Kept) (st : State) (at place i : ℕ) (h : Header) (response : Response) (found : Option Refusal) (holds : Holds old st) (is : place ≡ capped at) (fits : ResponseFits h.kind (Some response))
     (there : position (has_row_id h.id) (in_flight old.lives) ≡ Some i)
-    (value : (l : Live) → slice_get (in_flight old.lives) i ≡ Some l → found ≡ row_mismatch place (head_size (wide_ids old.caps)) l h.kind response) where
+    (value : (l : Live) → slice_get (in_flight old.lives) i ≡ Some l → found ≡ mismatch place (head_size (wide_ids old.caps)) (expected_by l) h.kind response) where
   judged : option_and_then (wrong_of st at h response) (find (has_id h.id) (submits st ++ st.abandoned)) ≡ found
   judged = let one = is-there (has_row_id h.id) old.lives i there in sym (wrong-at old st at place h response one.live holds is fits one.found) ∙ sym (value one.live one.at)
 
@@ -363,7 +363,7 @@ module _ (old : Kept) (st : State) (at place i : ℕ) (h : Header) (response : R
 
 -- an answer of which nothing is wrong is that of the live request that waits for it
 pub found-answer : (caps : Caps) (place head kind i : ℕ) (response : Response) (rows left : List Live) (l : Live) → Each (IsRow caps) rows → ResponseFits kind (Some response) →
-    slice_get (rows ++ left) i ≡ Some l → row_mismatch place head l kind response ≡ None → IfSome (slice_get rows i) (λ k. IsAnswer k response)
+    slice_get (rows ++ left) i ≡ Some l → mismatch place head (expected_by l) kind response ≡ None → IfSome (slice_get rows i) (λ k. IsAnswer k response)
 found-answer caps place head kind i response rows left l sound fits at right = of (slice_get rows i) refl
   where
     of : (o : Option Live) → slice_get rows i ≡ o → IfSome o (λ k. IsAnswer k response)
@@ -371,7 +371,7 @@ found-answer caps place head kind i response rows left l sound fits at right = o
     of (Some k) is =
         let e : Some k ≡ Some l = sym (there-too rows left i k is) ∙ at in
         let same : k ≡ l = cc in
-        is-answer caps place head k kind response (each-at (IsRow caps) rows i k sound is).fine fits (ap (λ (x : Live). row_mismatch place head x kind response) same ∙ right)
+        is-answer caps place head k kind response (each-at (IsRow caps) rows i k sound is).fine fits (ap (λ (x : Live). mismatch place head (expected_by x) kind response) same ∙ right)
 
 -- where no row has its id nobody waits for it
 pub nobody : (old : Kept) (st : State) (id : ℕ) → Holds old st → position (has_row_id id) (in_flight old.lives) ≡ None → find (has_id id) (submits st ++ st.abandoned) ≡ None
@@ -396,7 +396,7 @@ closing r = elim (not (is_client r.side)) as (λ b. cond b true false ≡ b) [ t
 
 answer-closes : (st : State) (at : ℕ) (h : Header) (response : Response) (o : Option Submission) → turned closes_host (λ e. false) (answer_to st at h response o) false ≡ is_loss (answer_to st at h response o)
 answer-closes st at h response None = refl
-answer-closes st at h response (Some s) = of (mismatch at (head_size (wide_ids st.agreed)) s h.kind response)
+answer-closes st at h response (Some s) = of (mismatch at (head_size (wide_ids st.agreed)) (expected_of s) h.kind response)
   where
     of : (r : Option Refusal) → turned closes_host (λ e. false) (answered_as h.id (told_outcome s.request s.verdict response) r) false ≡ is_loss (answered_as h.id (told_outcome s.request s.verdict response) r)
     of None = refl

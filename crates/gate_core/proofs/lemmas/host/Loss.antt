@@ -31,7 +31,7 @@ use Rattle.gate_history.specs.write.Notes.{when, answer_notes, is_by_answer, ref
 use Rattle.gate_history.specs.write.All.{is_ret_submit, is_won_unlink}
 use Rattle.redir_data.specs.Sent.{sent_packet_bytes}
 use Rattle.gate_history.specs.step.Machine.{ask}
-use Rattle.gate_parts.specs.state.Rows.{row_of, row, left_row, lost_packet, lost_bytes, is_asked_back}
+use Rattle.gate_parts.specs.state.Rows.{row_of, row, left_row, row_request, lost_bytes, is_asked_back}
 use Rattle.gate_core.specs.inner.Holds.{Holds, Does, HasLost, lost_by}
 use Rattle.gate_history.proofs.lemmas.Lists.{every, filter-same, filter-none}
 use Rattle.gate_history.proofs.lemmas.host.Losses.{ends-lost, all-lost}
@@ -40,19 +40,19 @@ use Rattle.gate_core.proofs.lemmas.step.Quiet.{capped-same, does-step, is_quiet,
 
 -- ---- the answers, by the rows
 
-lost-packet : (s : Submission) (by : Option ℕ) → client_spelling (Urb (lost_answer s by)) ≡ spelling (lost_packet (row_of s by) by)
+lost-packet : (s : Submission) (by : Option ℕ) → client_spelling (Urb (lost_answer s.request by)) ≡ spelling (lost_answer (row_request (row_of s by)) by)
 lost-packet s None = refl
 lost-packet s (Some by) = refl
 
-lost-packets : (ps : List Pending) → flat_map client_spelling (map (λ p. Urb (lost_answer p.submit p.unlinker)) ps) ≡ flat_map lost_bytes (map row ps)
+lost-packets : (ps : List Pending) → flat_map client_spelling (map (λ p. Urb (lost_answer p.submit.request p.unlinker)) ps) ≡ flat_map lost_bytes (map row ps)
 lost-packets [] = refl
 lost-packets (p ∷ ps) = λ i. lost-packet p.submit p.unlinker i ++ lost-packets ps i
 
 -- ---- how many they are
 
 record Counted (ps : List Pending) : Type 0 where
-  won : length (filter is_won_unlink (map (λ p. Urb (lost_answer p.submit p.unlinker)) ps)) ≡ length (filter is_asked_back (map row ps))
-  all : length (filter is_ret_submit (map (λ p. Urb (lost_answer p.submit p.unlinker)) ps)) + length (filter is_asked_back (map row ps)) ≡ length (map row ps)
+  won : length (filter is_won_unlink (map (λ p. Urb (lost_answer p.submit.request p.unlinker)) ps)) ≡ length (filter is_asked_back (map row ps))
+  all : length (filter is_ret_submit (map (λ p. Urb (lost_answer p.submit.request p.unlinker)) ps)) + length (filter is_asked_back (map row ps)) ≡ length (map row ps)
 
 lost-counted : (ps : List Pending) → Counted ps
 lost-counted [] = record { won = refl; all = refl }

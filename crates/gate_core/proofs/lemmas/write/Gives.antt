@@ -115,7 +115,7 @@ module _ (st : State) (e : Effect) (told : Option Fact) where
 
   -- each request whose device is lost is answered
   pub by-lives : is_loss e ≡ true → 0 < length st.live → GivesSome st marked
-  by-lives loss some = by-client (omega (arith, some, ap length (all-lost st marked loss), length-map st.live (λ (p : Pending). Urb (lost_answer p.submit p.unlinker))))
+  by-lives loss some = by-client (omega (arith, some, ap length (all-lost st marked loss), length-map st.live (λ (p : Pending). Urb (lost_answer p.submit.request p.unlinker))))
 
   host-counted : length (to_host st marked) ≡ length (map cancel (filter (cancels e) st.live)) + length (asking st.streams marked) + length (acknowledgements st.agreed e)
   host-counted =

@@ -56,17 +56,17 @@ none-live first ms m w h =
     (every (λ s. is_none (ends m.what s) ≡ false) (λ s. ap is_none (ends-lost (state_of first ms) m.what s h)) (live ms ++ opened m.what))
     ∙ filter-none (live ms ++ opened m.what)
 
-pub all-lost : (st : State) (m : Mark) → is_loss m.what ≡ true → to_client st m ≡ map (λ p. Urb (lost_answer p.submit p.unlinker)) st.live
+pub all-lost : (st : State) (m : Mark) → is_loss m.what ≡ true → to_client st m ≡ map (λ p. Urb (lost_answer p.submit.request p.unlinker)) st.live
 all-lost st m h =
     let q = quiet st m.what h in
     (λ i. q.silent i ++ answered st m.what)
     ∙ ap (map Urb)
     (ap (λ (os : List Submission). flat_map (λ p. answers_at p.submit p.unlinker (ends m.what p.submit)) (st.live ++ map fresh os)) q.opens
     ∙ ap (flat_map (λ p. answers_at p.submit p.unlinker (ends m.what p.submit))) (append-nil st.live)
-    ∙ flat_map-same (λ p. answers_at p.submit p.unlinker (ends m.what p.submit)) (λ p. lost_answer p.submit p.unlinker ∷ []) st.live
-    (every (λ p. answers_at p.submit p.unlinker (ends m.what p.submit) ≡ lost_answer p.submit p.unlinker ∷ []) (λ p. ap (answers_at p.submit p.unlinker) (ends-lost st m.what p.submit h)) st.live)
-    ∙ flat_map_single (λ p. lost_answer p.submit p.unlinker) st.live)
-    ∙ map-map Urb (λ p. lost_answer p.submit p.unlinker) st.live
+    ∙ flat_map-same (λ p. answers_at p.submit p.unlinker (ends m.what p.submit)) (λ p. lost_answer p.submit.request p.unlinker ∷ []) st.live
+    (every (λ p. answers_at p.submit p.unlinker (ends m.what p.submit) ≡ lost_answer p.submit.request p.unlinker ∷ []) (λ p. ap (answers_at p.submit p.unlinker) (ends-lost st m.what p.submit h)) st.live)
+    ∙ flat_map_single (λ p. lost_answer p.submit.request p.unlinker) st.live)
+    ∙ map-map Urb (λ p. lost_answer p.submit.request p.unlinker) st.live
 
 -- ---- and later none comes back
 

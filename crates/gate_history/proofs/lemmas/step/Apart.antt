@@ -32,7 +32,7 @@ use Rattle.gate_history.specs.step.Marks.{Submission, Effect, Mark}
 use Rattle.gate_history.specs.state.Sides.{is_client, agrees, refuses_client, ends_client, closes_host, client_over, host_over, agreed}
 use Rattle.gate_history.specs.state.Ups.{Up, stream_at, stream_of}
 use Rattle.gate_history.specs.state.State.{State, state_of, has_number}
-use Rattle.gate_history.specs.host.Responses.{Response, Data, Status, response_of, answer_kind, mismatch}
+use Rattle.gate_history.specs.host.Responses.{Response, Data, Status, response_of, answer_kind, expected_of, mismatch}
 use Rattle.gate_history.specs.step.Meaning.{importable, imported_as, asked_meaning, verdict_of, drawn_for, submission, by_stream, accepted_as, accepts, answered_as, answer_to, by_response, arrives, told_meaning, meaning, mark_of}
 use Rattle.gate_history.specs.step.Past.{is_left_out, past}
 use Rattle.gate_history.proofs.lemmas.step.Aside.{by-test}
@@ -89,7 +89,7 @@ host-either : (b : Bool) (o p : Option Refusal) → OfHost o → OfHost p → Of
 host-either true o p h k = h
 host-either false o p h k = k
 
-host-mismatch : (place head : ℕ) (s : Submission) (kind : ℕ) (response : Response) → OfHost (mismatch place head s kind response)
+host-mismatch : (place head : ℕ) (s : Submission) (kind : ℕ) (response : Response) → OfHost (mismatch place head (expected_of s) kind response)
 host-mismatch place head s kind (Status status value) = host-either (kind == answer_kind s.verdict) _ _ tt refl
 host-mismatch place head s kind (Data endpoint length_place o) =
     host-either (not (kind == answer_kind s.verdict)) _ _ refl

@@ -38,7 +38,7 @@ use Rattle.gate_history.specs.state.Ups.{stream_of}
 use Rattle.gate_history.specs.state.Flight.{wide_ids}
 use Rattle.gate_history.specs.state.State.{State, state_of, submits, has_number}
 use Rattle.gate_history.specs.step.Meaning.{importable, imported_as, accepted_as, answered_as, answer_to, by_response, arrives, by_arrival, meaning, mark_of}
-use Rattle.gate_history.specs.host.Responses.{Response, Data, outcome, response_of, mismatch, told_outcome}
+use Rattle.gate_history.specs.host.Responses.{Response, Data, outcome, response_of, expected_of, mismatch, told_outcome}
 use Rattle.gate_history.specs.step.Past.{is_left_out, past}
 use Rattle.gate_history.specs.step.History.{client_split, host_split, client_items, host_items}
 use Rattle.gate_history.specs.write.Output.{present}
@@ -73,12 +73,12 @@ asked-so st place (Urb (urb.RetSubmit r)) = refl
 asked-so st place (Urb (urb.RetUnlink r)) = refl
 
 answered-so : (st : State) (place : ℕ) (h : Header) (response : Response) (o : Option Submission) →
-    refused_at (answer_to st place h response o) ≡ option_and_then (λ s. mismatch place (head_size (wide_ids st.agreed)) s h.kind response) o
+    refused_at (answer_to st place h response o) ≡ option_and_then (λ s. mismatch place (head_size (wide_ids st.agreed)) (expected_of s) h.kind response) o
 answered-so st place h response None = refl
-answered-so st place h response (Some s) = elim (mismatch place (head_size (wide_ids st.agreed)) s h.kind response) as (λ o. refused_at (answered_as h.id (told_outcome s.request s.verdict response) o) ≡ o) [ None ↦ refl | Some r ↦ refl ]
+answered-so st place h response (Some s) = elim (mismatch place (head_size (wide_ids st.agreed)) (expected_of s) h.kind response) as (λ o. refused_at (answered_as h.id (told_outcome s.request s.verdict response) o) ≡ o) [ None ↦ refl | Some r ↦ refl ]
 
 by-response : (st : State) (place : ℕ) (h : Header) (o : Option Response) →
-    refused_at (by_response st place h o) ≡ option_and_then (λ response. option_and_then (λ s. mismatch place (head_size (wide_ids st.agreed)) s h.kind response) (find (has_id h.id) (submits st ++ st.abandoned))) o
+    refused_at (by_response st place h o) ≡ option_and_then (λ response. option_and_then (λ s. mismatch place (head_size (wide_ids st.agreed)) (expected_of s) h.kind response) (find (has_id h.id) (submits st ++ st.abandoned))) o
 by-response st place h None = refl
 by-response st place h (Some response) = answered-so st place h response (find (has_id h.id) (submits st ++ st.abandoned))
 
@@ -87,7 +87,7 @@ arrives-all st ep kind status body = elim (stream_of st.streams ep) as (λ o. re
 
 streamed : (st : State) (place : ℕ) (h : Header) (ep status : ℕ) (body : List ℕ) (response : Response) (b : Bool) →
     refused_at (cond b (by_arrival st ep Interrupt status body) (by_response st place h (cond b None (Some response))))
-    ≡ option_and_then (λ r. option_and_then (λ s. mismatch place (head_size (wide_ids st.agreed)) s h.kind r) (find (has_id h.id) (submits st ++ st.abandoned))) (cond b None (Some response))
+    ≡ option_and_then (λ r. option_and_then (λ s. mismatch place (head_size (wide_ids st.agreed)) (expected_of s) h.kind r) (find (has_id h.id) (submits st ++ st.abandoned))) (cond b None (Some response))
 streamed st place h ep status body response true = arrives-all st ep Interrupt status body
 streamed st place h ep status body response false = by-response st place h (Some response)
 

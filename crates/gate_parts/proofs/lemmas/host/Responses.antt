@@ -30,12 +30,12 @@ use Rattle.gate_history.specs.declared.verdict.Pipe.TheVariants.{Control, Bulk, 
 use Rattle.gate_history.specs.declared.verdict.Verdict.{Verdict}
 use Rattle.gate_history.specs.declared.verdict.Verdict.TheVariants.{Now, Wire, Routed, IsoOut, Stream}
 use Rattle.gate_history.specs.step.Marks.{Submission}
-use Rattle.gate_history.specs.host.Responses.{Response, Data, Status, route_answer, answer_kind, mismatched, mismatch, gets, got, told_outcome}
+use Rattle.gate_history.specs.host.Responses.{Response, Data, Status, route_answer, answer_kind, mismatched, expected_of, mismatch, gets, got, told_outcome}
 use Rattle.gate_history.specs.write.Answers.{with_outcome}
 use Rattle.gate_history.specs.client.Ends.{answers_by}
 use Rattle.gate_history.specs.write.Asked.{IsMoved}
 use Rattle.gate_parts.specs.state.Rows.{IsRowOf, kind_of, row_of, row_request, IsRead, IsFine}
-use Rattle.gate_parts.specs.host.Responses.{row_answer, row_ep, row_gets, row_mismatch, IsAnswer, IsCounted}
+use Rattle.gate_parts.specs.host.Responses.{row_answer, row_ep, row_gets, expected_by, IsAnswer, IsCounted}
 use Rattle.gate_history.specs.step.Fits.{ResponseFits}
 use Rattle.gate_parts.proofs.lemmas.write.Answers.{by_ending, row-answers}
 use Rattle.gate_parts.proofs.lemmas.state.Rows.{by-verdict, wire-row}
@@ -73,12 +73,12 @@ route-small route.Bad = omega arith
 no-route : (kind : ℕ) (r : Route) → FIRST_DATA ≤ kind → eqb kind (plain_row (route_answer r)).number ≡ false
 no-route kind r h = let few = route-small r in ne_eqb kind (plain_row (route_answer r)).number (λ e. absurd (omega (arith, few, h, e)))
 
-pub row-mismatch : (place head : ℕ) (s : Submission) (by : Option ℕ) (kind : ℕ) (r : Response) → ResponseFits kind (Some r) → row_mismatch place head (row_of s by) kind r ≡ mismatch place head s kind r
+pub row-mismatch : (place head : ℕ) (s : Submission) (by : Option ℕ) (kind : ℕ) (r : Response) → ResponseFits kind (Some r) → mismatch place head (expected_by (row_of s by)) kind r ≡ mismatch place head (expected_of s) kind r
 row-mismatch place head s by kind (Status status value) h =
     ap (λ (n : ℕ). cond (eqb kind n) None (Some (mismatched place n kind))) (row-answer s.verdict s.request.transfer.ep)
 row-mismatch place head s by kind (Data endpoint length_place o) h = of s.verdict
   where
-    of : (v : Verdict) → row_mismatch place head (row_of (record s { verdict = v }) by) kind (Data endpoint length_place o) ≡ mismatch place head (record s { verdict = v }) kind (Data endpoint length_place o)
+    of : (v : Verdict) → mismatch place head (expected_by (row_of (record s { verdict = v }) by)) kind (Data endpoint length_place o) ≡ mismatch place head (expected_of (record s { verdict = v })) kind (Data endpoint length_place o)
     of (Now status) = refl
     of (Wire Control) = refl
     of (Wire Bulk) = refl
@@ -97,7 +97,7 @@ row-mismatch place head s by kind (Data endpoint length_place o) h = of s.verdic
 capped-more : (at more : ℕ) → capped (capped at + more) ≡ capped (at + more)
 capped-more at more = omega arith
 
-pub mismatch-capped : (at head : ℕ) (s : Submission) (kind : ℕ) (r : Response) → mismatch (capped at) head s kind r ≡ mismatch at head s kind r
+pub mismatch-capped : (at head : ℕ) (s : Submission) (kind : ℕ) (r : Response) → mismatch (capped at) head (expected_of s) kind r ≡ mismatch at head (expected_of s) kind r
 mismatch-capped at head s kind (Status status value) =
     ap (λ (p : ℕ). cond (eqb kind (answer_kind s.verdict)) None (Some (record { side = Host; place = p; reason = Mismatch; kept = Some (answer_kind s.verdict, kind) }))) (let e : capped (capped at) ≡ capped at = omega arith in e)
 mismatch-capped at head s kind (Data endpoint length_place o) =
@@ -134,7 +134,7 @@ moved is_in endpoint wanted done count few e (inl h) =
     neither false true = refl
     neither false false = refl
 
-pub is-answer : (caps : Caps) (place head : ℕ) (l : Live) (kind : ℕ) (r : Response) → IsFine caps l → ResponseFits kind (Some r) → row_mismatch place head l kind r ≡ None → IsAnswer l r
+pub is-answer : (caps : Caps) (place head : ℕ) (l : Live) (kind : ℕ) (r : Response) → IsFine caps l → ResponseFits kind (Some r) → mismatch place head (expected_by l) kind r ≡ None → IsAnswer l r
 is-answer caps place head l kind (Status status value) f h e = tt
 is-answer caps place head l kind (Data endpoint length_place o) f h e = of l.kind (eqb-true kind (row_answer l.kind) ok.kind) (eqb-true endpoint (row_ep l.kind) ok.endpoint) f.read
   where
