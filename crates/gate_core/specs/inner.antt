@@ -1,8 +1,5 @@
 -- What the code's own values are of the definitions.
-pub mod SentIds
-pub mod Holds
-pub mod Fill
-pub mod StreamEnd
-pub mod Unlink
-pub mod Steps
-pub mod Takers
+pub mod client
+pub mod host
+pub mod state
+pub mod step

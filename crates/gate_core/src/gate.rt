@@ -27,7 +27,7 @@ pub struct Gate {
 impl Model for Gate {
     ghost use Rattle.gate_core.specs.state.Kept.{GateKept};
     ghost use Rattle.gate_core.specs.step.Stands.{IsReady};
-    ghost use Rattle.gate_core.specs.inner.Steps.{kept_of};
+    ghost use Rattle.gate_core.specs.inner.step.Steps.{kept_of};
 
     ghost Value = { GateKept };
 

@@ -1,6 +1,5 @@
 -- What the proofs of functions cite, by subject.
 pub mod state
-pub mod Fronts
 pub mod client
 pub mod write
 pub mod host

@@ -6,3 +6,4 @@ pub mod Answer
 pub mod Fill
 pub mod FillItem
 pub mod Arrive
+pub mod Firsts

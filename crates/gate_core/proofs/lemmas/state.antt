@@ -1,3 +1,4 @@
 -- What is kept.
 pub mod RequestEnds
 pub mod Ids
+pub mod Held

@@ -9,7 +9,7 @@ ghost use Rattle.gate_history.specs.step.Marks.{Replies, Imports};
 ghost use Rattle.gate_history.specs.state.State.{State};
 ghost use Rattle.gate_history.specs.client.Replies.{import_reply as import_of};
 ghost use Rattle.gate_history.specs.step.Meaning.{mark_as, asked_meaning, importable as importable_in};
-ghost use Rattle.gate_core.specs.inner.Holds.{IsKept, Holds, Does, StopsShort};
+ghost use Rattle.gate_core.specs.inner.state.Holds.{IsKept, Holds, Does, StopsShort};
 
 use crate::state::kept::Kept;
 use gate_history::Note;

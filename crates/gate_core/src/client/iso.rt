@@ -11,8 +11,8 @@ ghost use Rattle.gate_history.specs.step.Meaning.{mark_as, submission};
 ghost use Rattle.gate_history.specs.state.Sound.{IsSound};
 ghost use Rattle.gate_history.specs.write.Asked.{HasItsPackets};
 ghost use Rattle.gate_history.specs.client.Carried.{IsLaid};
-ghost use Rattle.gate_core.specs.inner.SentIds.{ids_after, starts_of, sent_ids_of, after_starts, bytes_of};
-ghost use Rattle.gate_core.specs.inner.Holds.{IsKept, Holds, Does, StopsShort};
+ghost use Rattle.gate_core.specs.inner.state.SentIds.{ids_after, starts_of, sent_ids_of, after_starts, bytes_of};
+ghost use Rattle.gate_core.specs.inner.state.Holds.{IsKept, Holds, Does, StopsShort};
 ghost use Rattle.packet_stream.specs.Writes.{Begins};
 
 use crate::state::kept::Kept;

@@ -18,10 +18,10 @@ ghost use Rattle.gate_history.specs.state.State.{State, next_ids};
 ghost use Rattle.gate_history.specs.step.Meaning.{mark_as, submission, drawn_for, verdict_of, asked_meaning};
 ghost use Rattle.gate_history.specs.state.Sound.{IsSound};
 ghost use Rattle.gate_history.specs.write.Asked.{HasItsPackets};
-ghost use Rattle.gate_core.specs.inner.SentIds.{flying_in, ids_after, bytes_of};
+ghost use Rattle.gate_core.specs.inner.state.SentIds.{flying_in, ids_after, bytes_of};
 ghost use Rattle.gate_history.specs.client.Carried.{IsRequest, IsSent, IsCarried};
 ghost use Rattle.gate_parts.specs.state.Rows.{kind_of};
-ghost use Rattle.gate_core.specs.inner.Holds.{IsRow, IsKept, Holds, Does, StopsShort, IsFree, CanAnswer, CanGo, HasOpened};
+ghost use Rattle.gate_core.specs.inner.state.Holds.{IsRow, IsKept, Holds, Does, StopsShort, IsFree, CanAnswer, CanGo, HasOpened};
 
 use crate::state::kept::Kept;
 use control_route::Route;

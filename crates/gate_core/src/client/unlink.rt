@@ -11,8 +11,8 @@ ghost use Rattle.gate_history.specs.step.Marks.{Unlinks};
 ghost use Rattle.gate_history.specs.state.State.{State};
 ghost use Rattle.gate_history.specs.step.Meaning.{mark_as, asked_meaning};
 ghost use Rattle.gate_history.specs.state.Sound.{IsSound};
-ghost use Rattle.gate_core.specs.inner.Unlink.{HasMarked, HasTakenBack};
-ghost use Rattle.gate_core.specs.inner.Holds.{IsKept, Holds, Does, StopsShort};
+ghost use Rattle.gate_core.specs.inner.client.Unlink.{HasMarked, HasTakenBack};
+ghost use Rattle.gate_core.specs.inner.state.Holds.{IsKept, Holds, Does, StopsShort};
 
 use crate::state::kept::Kept;
 use gate_history::Note;

@@ -8,8 +8,8 @@ ghost use Rattle.gate_history.specs.state.State.{State};
 ghost use Rattle.gate_history.specs.state.Sound.{IsSound};
 ghost use Rattle.gate_history.specs.step.Wants.{GivesSome};
 ghost use Rattle.gate_parts.specs.host.Fill.{up_fill, up_bytes, filled_notes};
-ghost use Rattle.gate_core.specs.inner.Fill.{HasEnded, HasReceived, received_bytes, received_notes};
-ghost use Rattle.gate_core.specs.inner.Holds.{IsKept, Holds, Does, StopsShort};
+ghost use Rattle.gate_core.specs.inner.host.Fill.{HasEnded, HasReceived, received_bytes, received_notes};
+ghost use Rattle.gate_core.specs.inner.state.Holds.{IsKept, Holds, Does, StopsShort};
 ghost use Rattle.gate_parts.specs.write.Outputs.{with_answers, HasSome};
 
 use crate::state::kept::Kept;

@@ -4,8 +4,8 @@ ghost use Rattle.std.specs.Prelude.{◌≡◌, ◌<◌, ◌++◌, length, filter
 ghost use Rattle.std.specs.List.{flat_map};
 ghost use Rattle.unlink_race.specs.Searches.{ended_by};
 ghost use Rattle.gate_parts.specs.state.Rows.{ended_bytes};
-ghost use Rattle.gate_core.specs.inner.StreamEnd.{HasDropped, is_told, status_bytes, HasStreamEnd};
-ghost use Rattle.gate_core.specs.inner.Holds.{IsKept};
+ghost use Rattle.gate_core.specs.inner.host.StreamEnd.{HasDropped, is_told, status_bytes, HasStreamEnd};
+ghost use Rattle.gate_core.specs.inner.state.Holds.{IsKept};
 ghost use Rattle.packet_stream.specs.Writes.{Begins};
 
 use crate::state::kept::Kept;

@@ -21,7 +21,7 @@ ghost use Rattle.gate_history.specs.step.Meaning.{mark_as, fact_of, by_response,
 ghost use Rattle.gate_history.specs.state.Sound.{IsSound};
 ghost use Rattle.gate_history.specs.step.Wants.{GivesSome};
 ghost use Rattle.gate_parts.specs.host.Responses.{response_view, expected_by, IsAnswer, completes};
-ghost use Rattle.gate_core.specs.inner.Holds.{IsKept, Holds, Does, StopsShort};
+ghost use Rattle.gate_core.specs.inner.state.Holds.{IsKept, Holds, Does, StopsShort};
 ghost use Rattle.gate_history.specs.step.Fits.{ResponseFits, ToldFits};
 
 use crate::state::kept::Kept;

@@ -1,7 +1,7 @@
 //! What is kept of the items that have come.
 
 ghost use Rattle.std.specs.Prelude.{◌≤◌, IfOk};
-ghost use Rattle.gate_core.specs.inner.Holds.{IsFirst, IsKept};
+ghost use Rattle.gate_core.specs.inner.state.Holds.{IsFirst, IsKept};
 
 use gate_history::Facts;
 use gate_parts::{StreamIds, Streams};

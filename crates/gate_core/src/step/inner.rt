@@ -3,7 +3,7 @@
 ghost use Rattle.std.specs.Prelude.{◌≡◌, ◌≤◌, [], IfOk};
 ghost use Rattle.gate_history.specs.step.Events.{ClientPiece, ClientEnd, HostPiece, HostEnd};
 ghost use Rattle.gate_core.specs.step.Stands.{HasPast, Stands};
-ghost use Rattle.gate_core.specs.inner.Steps.{TakesEvent, kept_of};
+ghost use Rattle.gate_core.specs.inner.step.Steps.{TakesEvent, kept_of};
 
 use crate::step::taker::ItemTaker;
 use crate::step::translator::Translator;

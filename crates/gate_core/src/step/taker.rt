@@ -2,7 +2,7 @@
 
 ghost use Rattle.gate_history.specs.declared.item.Item.TheVariants.{Asked, ClientWrong, HostWrong};
 ghost use Rattle.gate_history.specs.step.Fits.{ItemFits};
-ghost use Rattle.gate_core.specs.inner.Steps.{told_item};
+ghost use Rattle.gate_core.specs.inner.step.Steps.{told_item};
 
 use crate::step::translator::Translator;
 use gate_history::Item;
@@ -21,7 +21,7 @@ pub struct ItemTaker<'a> {
 }
 
 impl<'a> PacketTaker<ClientFormat> for ItemTaker<'a> {
-    ghost use Rattle.gate_core.specs.inner.Takers.{TakerTakes};
+    ghost use Rattle.gate_core.specs.inner.step.Takers.{TakerTakes};
 
     ghost CanTake = { λ taker place packet. ItemFits taker.translator.now.caps (Asked place packet) };
 
@@ -45,7 +45,7 @@ impl<'a> PacketTaker<ClientFormat> for ItemTaker<'a> {
 }
 
 impl<'a> PacketTaker<FromHost> for ItemTaker<'a> {
-    ghost use Rattle.gate_core.specs.inner.Takers.{TakerTakes};
+    ghost use Rattle.gate_core.specs.inner.step.Takers.{TakerTakes};
 
     ghost CanTake = { λ taker place packet. ItemFits taker.translator.now.caps (told_item place packet) };
 

@@ -7,7 +7,7 @@ ghost use Rattle.gate_history.specs.step.Meaning.{mark_of};
 ghost use Rattle.gate_history.specs.step.Past.{is_left_out};
 ghost use Rattle.gate_history.specs.state.Sound.{IsSound};
 ghost use Rattle.gate_history.specs.step.Wants.{GivesSome};
-ghost use Rattle.gate_core.specs.inner.Holds.{Holds, IsFirst, IsKept, Does, DoesNothing};
+ghost use Rattle.gate_core.specs.inner.state.Holds.{Holds, IsFirst, IsKept, Does, DoesNothing};
 ghost use Rattle.gate_history.specs.step.Fits.{IsItem, ItemFits};
 
 use crate::state::kept::Kept;
@@ -27,7 +27,7 @@ pub struct Translator {
 
 impl Model for Translator {
     ghost use Rattle.gate_core.specs.declared.state.kept.Kept.{Kept};
-    ghost use Rattle.gate_core.specs.inner.Holds.{IsKept};
+    ghost use Rattle.gate_core.specs.inner.state.Holds.{IsKept};
 
     ghost Value = { Kept };
 

@@ -2,3 +2,4 @@
 pub mod Rows
 pub mod Ids
 pub mod Places
+pub mod Fronts

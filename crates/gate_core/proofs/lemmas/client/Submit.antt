@@ -28,7 +28,7 @@ use Rattle.gate_history.specs.write.Notes.{is_by_answer, is_by_client}
 use Rattle.gate_history.specs.write.All.{is_ret_submit, is_won_unlink}
 use Rattle.redir_data.specs.Sent.{sent_packet_bytes}
 use Rattle.gate_parts.specs.state.Rows.{row}
-use Rattle.gate_core.specs.inner.Holds.{Holds, Does}
+use Rattle.gate_core.specs.inner.state.Holds.{Holds, Does}
 use Rattle.gate_history.proofs.lemmas.Lists.{Each, Each-weaker}
 use Rattle.gate_core.proofs.lemmas.step.Quiet.{capped-same, moved, does-quiet, none-answered}
 use Rattle.gate_history.proofs.lemmas.step.Effects.{opening-left, opening-answered, opening-noted, opening-dropped}

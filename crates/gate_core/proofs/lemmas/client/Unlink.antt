@@ -34,7 +34,7 @@ use Rattle.redir_data.specs.Sent.{sent_packet_bytes}
 use Rattle.gate_history.specs.step.Machine.{ask}
 use Rattle.gate_parts.specs.state.Rows.{row, row_of}
 use Rattle.gate_core.proofs.lemmas.client.AskedRows.{asked_row, is_taken_row, cancel_row, asked_rows, is_late, taken_count, taken_bytes, asked_bytes}
-use Rattle.gate_core.specs.inner.Holds.{Holds, Does}
+use Rattle.gate_core.specs.inner.state.Holds.{Holds, Does}
 use Rattle.gate_history.proofs.lemmas.Lists.{Each, Each-weaker, filter-map}
 use Rattle.gate_parts.proofs.lemmas.state.Rows.{wire-row, by_id-row}
 use Rattle.gate_core.proofs.lemmas.step.Quiet.{capped-same, IsSilent}

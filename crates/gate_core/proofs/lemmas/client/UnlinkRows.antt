@@ -24,7 +24,7 @@ use Rattle.gate_history.proofs.lemmas.step.NoCancel.{or_else-none}
 use Rattle.usbip_urb.specs.Spelling.{spelling}
 use Rattle.usb_base.specs.declared.errno.TheConstants.{ECONNRESET}
 use Rattle.gate_history.specs.write.Answers.{ret_unlink}
-use Rattle.gate_core.specs.inner.Holds.{IsRow}
+use Rattle.gate_core.specs.inner.state.Holds.{IsRow}
 use Rattle.gate_core.proofs.lemmas.client.AskedRows.{asked_row, is_target_row, is_taken_row, cancel_row, asked_rows, is_late, taken_count, taken_bytes, asked_bytes}
 
 module _ (caps : Caps) (target by : ℕ) where

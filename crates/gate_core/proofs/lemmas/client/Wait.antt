@@ -37,8 +37,8 @@ use Rattle.redir_data.specs.Sent.{sent_packet_bytes}
 use Rattle.gate_parts.specs.state.Rows.{row, row_for}
 use Rattle.gate_parts.specs.host.Fill.{filled_notes, waiting_rows, without_firsts, up_fill, up_bytes}
 use Rattle.gate_parts.specs.write.Outputs.{with_answers}
-use Rattle.gate_core.specs.inner.Fill.{joining_row, with_row, HasJoined}
-use Rattle.gate_core.specs.inner.Holds.{IsKept, Holds, Does}
+use Rattle.gate_core.specs.inner.host.Fill.{joining_row, with_row, HasJoined}
+use Rattle.gate_core.specs.inner.state.Holds.{IsKept, Holds, Does}
 use Rattle.gate_history.proofs.lemmas.Lists.{Each, Each-append}
 use Rattle.gate_core.proofs.lemmas.client.WaitRows.{IsGoing, all-going}
 use Rattle.gate_core.proofs.lemmas.step.Quiet.{capped-same}

@@ -51,12 +51,12 @@ use Rattle.gate_parts.specs.state.Rows.{row_of, row, unmarked, left_row}
 use Rattle.gate_parts.specs.host.Responses.{expected_by, completes, IsAnswer, has_won, IsCounted}
 use Rattle.gate_parts.specs.write.Outputs.{with_answers}
 use Rattle.gate_parts.proofs.lemmas.write.Outputs.{with-none}
-use Rattle.gate_core.specs.inner.Holds.{IsRow, Holds, Does}
+use Rattle.gate_core.specs.inner.state.Holds.{IsRow, Holds, Does}
 use Rattle.gate_history.specs.step.Fits.{ResponseFits}
 use Rattle.gate_history.proofs.lemmas.Lists.{Each, every, filter-same, filter-map, flat_map-map}
 use Rattle.gate_history.proofs.lemmas.step.Effects.{answer-left, answer-sent, answer-noted, answer-dropped}
-use Rattle.gate_core.proofs.lemmas.Firsts.{without-first, find-first}
-use Rattle.gate_core.proofs.lemmas.Held.{is-there, there-too, each-at}
+use Rattle.gate_core.proofs.lemmas.host.Firsts.{without-first, find-first}
+use Rattle.gate_core.proofs.lemmas.state.Held.{is-there, there-too, each-at}
 use Rattle.gate_core.proofs.lemmas.step.Quiet.{capped-same, does-quiet, silent-is}
 use Rattle.gate_parts.proofs.lemmas.state.Rows.{by_id-row}
 use Rattle.gate_history.specs.step.Wants.{GivesSome}

@@ -22,8 +22,8 @@ use Rattle.gate_history.specs.step.Meaning.{mark_as, arrives, waiting, is_held}
 use Rattle.gate_history.specs.write.Output.{present}
 use Rattle.gate_parts.specs.state.Rows.{row}
 use Rattle.gate_parts.specs.host.Fill.{up_fill, up_bytes, filled_notes}
-use Rattle.gate_core.specs.inner.Fill.{with_packet, received_bytes, received_notes, HasEnded, HasReceivedIf, HasReceived}
-use Rattle.gate_core.specs.inner.Holds.{IsKept, Holds, Does, StopsShort}
+use Rattle.gate_core.specs.inner.host.Fill.{with_packet, received_bytes, received_notes, HasEnded, HasReceivedIf, HasReceived}
+use Rattle.gate_core.specs.inner.state.Holds.{IsKept, Holds, Does, StopsShort}
 use Rattle.gate_parts.specs.write.Outputs.{with_answers, HasSome}
 use Rattle.gate_history.proofs.lemmas.Lists.{Each, filter-map, map-map}
 use Rattle.gate_core.proofs.lemmas.client.WaitRows.{IsGoing, all-going}

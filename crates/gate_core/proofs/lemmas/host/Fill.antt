@@ -25,8 +25,8 @@ use Rattle.gate_parts.specs.host.Fill.{rows_fill, filled_bytes, filled_notes, by
 use Rattle.gate_history.proofs.lemmas.Lists.{Each, Each-weaker, Each-filter, every, both, filter-same, filter-none, filter-twice, flat_map-same, flat_map-filter, flat_map-none}
 use Rattle.unlink_race.specs.Requests.{Requests}
 use Rattle.gate_core.specs.declared.state.kept.Kept.{Kept}
-use Rattle.gate_core.proofs.lemmas.Held.{with-requests}
-use Rattle.gate_core.specs.inner.Holds.{IsRow, IsKept}
+use Rattle.gate_core.proofs.lemmas.state.Held.{with-requests}
+use Rattle.gate_core.specs.inner.state.Holds.{IsRow, IsKept}
 use Rattle.gate_core.proofs.lemmas.host.Answer.{Each-without, length-without}
 use Rattle.gate_core.proofs.lemmas.client.WaitRows.{IsGoing, waits-row, waits-rows}
 

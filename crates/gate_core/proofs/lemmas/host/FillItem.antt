@@ -38,8 +38,8 @@ use Rattle.gate_history.specs.step.Machine.{live_after}
 use Rattle.gate_parts.specs.state.Rows.{row}
 use Rattle.gate_parts.specs.host.Fill.{rows_fill, filled_bytes, filled_notes, waiting_rows, without_firsts, up_fill, up_bytes}
 use Rattle.gate_parts.specs.write.Outputs.{with_answers}
-use Rattle.gate_core.specs.inner.Fill.{HasEnded}
-use Rattle.gate_core.specs.inner.Holds.{Holds, Does}
+use Rattle.gate_core.specs.inner.host.Fill.{HasEnded}
+use Rattle.gate_core.specs.inner.state.Holds.{Holds, Does}
 use Rattle.gate_history.proofs.lemmas.step.NoCancel.{none-cancelled, stays-uncancelled}
 use Rattle.gate_core.proofs.lemmas.step.Quiet.{capped-same, is_quiet, does-quiet, none-answered}
 use Rattle.gate_history.proofs.lemmas.step.Effects.{filled-left, filled-answered, filled-noted, filled-dropped}

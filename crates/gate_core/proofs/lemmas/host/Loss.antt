@@ -32,7 +32,7 @@ use Rattle.gate_history.specs.write.All.{is_ret_submit, is_won_unlink}
 use Rattle.redir_data.specs.Sent.{sent_packet_bytes}
 use Rattle.gate_history.specs.step.Machine.{ask}
 use Rattle.gate_parts.specs.state.Rows.{row_of, row, left_row, row_request, lost_bytes, is_asked_back}
-use Rattle.gate_core.specs.inner.Holds.{Holds, Does, HasLost, lost_by}
+use Rattle.gate_core.specs.inner.state.Holds.{Holds, Does, HasLost, lost_by}
 use Rattle.gate_history.proofs.lemmas.Lists.{every, filter-same, filter-none}
 use Rattle.gate_history.proofs.lemmas.host.Losses.{ends-lost, all-lost}
 use Rattle.gate_history.proofs.lemmas.step.NoCancel.{stays-uncancelled}

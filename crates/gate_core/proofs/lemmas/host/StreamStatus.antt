@@ -25,8 +25,8 @@ use Rattle.gate_history.specs.write.Output.{to_client}
 use Rattle.gate_history.specs.write.All.{is_ret_submit, is_won_unlink}
 use Rattle.gate_history.specs.step.Wants.{GivesSome}
 use Rattle.gate_parts.specs.state.Rows.{row, row_request}
-use Rattle.gate_core.specs.inner.StreamEnd.{is_told, status_bytes, HasStreamEnd}
-use Rattle.gate_core.specs.inner.Holds.{Holds, Does}
+use Rattle.gate_core.specs.inner.host.StreamEnd.{is_told, status_bytes, HasStreamEnd}
+use Rattle.gate_core.specs.inner.state.Holds.{Holds, Does}
 use Rattle.gate_history.proofs.lemmas.Lists.{Each, Each-weaker, filter-all}
 use Rattle.gate_core.proofs.lemmas.step.Quiet.{capped-same, silent-is}
 use Rattle.gate_history.proofs.lemmas.step.NoCancel.{asks-none, stays-uncancelled}

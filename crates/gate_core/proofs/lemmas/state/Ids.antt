@@ -21,10 +21,10 @@ use Rattle.gate_history.specs.state.StreamIds.{stream_ids_after, ids_of_streams}
 use Rattle.gate_history.specs.step.Meaning.{drawn_by}
 use Rattle.gate_history.specs.state.State.{State, flying, next_ids, is_number}
 use Rattle.gate_parts.specs.state.Ids.{row_ids}
-use Rattle.gate_core.specs.inner.SentIds.{flying_in, ids_after, with_ids, stops_of, sent_ids_of, after_stops, bytes_of, HasParted}
+use Rattle.gate_core.specs.inner.state.SentIds.{flying_in, ids_after, with_ids, stops_of, sent_ids_of, after_stops, bytes_of, HasParted}
 use Rattle.redir_data.specs.Sent.{sent_packet_bytes}
 use Rattle.gate_parts.specs.state.Rows.{kind_of, row, unmarked, left_row, cancel_bytes}
-use Rattle.gate_core.specs.inner.Holds.{Holds}
+use Rattle.gate_core.specs.inner.state.Holds.{Holds}
 use Rattle.gate_parts.proofs.lemmas.state.Rows.{by-verdict, by_id-row}
 
 one : (b : Bool) (l : Live) (s : Submission) (ls : List Live) (ss : List Submission) → l.id ≡ s.id → map (λ (r : Live). r.id) ls ≡ map (λ (t : Submission). t.id) ss →

@@ -24,7 +24,7 @@ use Rattle.gate_history.specs.write.All.{is_ret_submit, is_won_unlink}
 use Rattle.redir_data.specs.Sent.{sent_packet_bytes}
 use Rattle.gate_history.specs.step.Machine.{ask}
 use Rattle.gate_parts.specs.state.Rows.{row}
-use Rattle.gate_core.specs.inner.Holds.{Holds, Does}
+use Rattle.gate_core.specs.inner.state.Holds.{Holds, Does}
 use Rattle.gate_history.proofs.lemmas.Lists.{Each, Each-weaker, filter-same, filter-none, filter-map}
 use Rattle.gate_core.proofs.lemmas.step.Quiet.{is_quiet, IsSilent, moved_alone, none-opened, does-silent}
 

@@ -13,7 +13,7 @@ use Rattle.usbip_urb.specs.Sound.ClientPackets.{client_packets_sound}
 use Rattle.usbip_urb.specs.ClientPackets.{client_packets}
 use Rattle.gate_parts.specs.declared.write.outputs.Outputs.{Outputs}
 use Rattle.gate_core.specs.declared.step.inner.Inner.{Inner}
-use Rattle.gate_core.specs.declared.state.kept.Kept.{Kept as Translator}
+use Rattle.gate_core.specs.declared.state.kept.Kept.{Kept}
 use Rattle.gate_history.specs.declared.item.Item.TheVariants.{ClientLeft, HostLeft}
 use Rattle.gate_history.specs.step.Events.{Event, ClientEnd, HostEnd, client_bytes, host_bytes}
 use Rattle.gate_history.specs.state.Sides.{client_over, host_over}
@@ -24,13 +24,13 @@ use Rattle.gate_history.specs.step.History.{brought, arrivals}
 use Rattle.gate_history.specs.step.Came.{asked, told}
 use Rattle.gate_core.specs.step.Stands.{HasAll, Stands, Stops}
 use Rattle.gate_history.specs.step.Wants.{FirstWants}
-use Rattle.gate_core.specs.inner.Holds.{IsFirst, DoesNothing}
-use Rattle.gate_core.specs.inner.Steps.{kept_of, TakesOn}
+use Rattle.gate_core.specs.inner.state.Holds.{IsFirst, DoesNothing}
+use Rattle.gate_core.specs.inner.step.Steps.{kept_of, TakesOn}
 use Rattle.gate_history.proofs.lemmas.state.Sound.{state-sound}
 use Rattle.gate_history.proofs.lemmas.step.Apart.{left-host, left-client}
 use Rattle.gate_history.proofs.lemmas.step.Capabilities.{left-over}
 use Rattle.gate_core.proofs.lemmas.step.Translator.{sends-none, translates-past, sends-past, past-skipped, translates-item, sends-item}
-use Rattle.gate_core.specs.inner.Takers.{TakesItem}
+use Rattle.gate_core.specs.inner.step.Takers.{TakesItem}
 use Rattle.gate_core.proofs.lemmas.step.Event.{all-same, stops-before, stops-still, stands-for}
 use Rattle.gate_history.proofs.lemmas.step.Empty.{split-empty}
 
@@ -79,7 +79,7 @@ stands-first first g works translator client host = record {
 
 -- ---- a client's end
 
-pub ends-client : (first : ℕ) (old : Inner) (t : Translator) (kept : StreamView (Unit {0})) (events : List Event) (out_old out_new : Outputs) → Stands first (kept_of old) events →
+pub ends-client : (first : ℕ) (old : Inner) (t : Kept) (kept : StreamView (Unit {0})) (events : List Event) (out_old out_new : Outputs) → Stands first (kept_of old) events →
     TakesItem old.translator t ClientLeft out_old out_new → kept ≡ record { state = tt; rest = []; place = 0; held = []; at = 0; over = false } →
     TakesOn first (record old { client = kept; translator = t }) events ClientEnd out_old out_new
 ends-client first old t kept events out_old out_new stands takes is =
@@ -114,7 +114,7 @@ ends-again first g events out stands over =
       sends = sends-past first out out xs xs (HostLeft ∷ xs) same (sends-none first out xs);
     }
 
-pub ends-host : (first : ℕ) (old : Inner) (t : Translator) (kept : StreamView RedirState) (events : List Event) (out_old out_new : Outputs) → Stands first (kept_of old) events →
+pub ends-host : (first : ℕ) (old : Inner) (t : Kept) (kept : StreamView RedirState) (events : List Event) (out_old out_new : Outputs) → Stands first (kept_of old) events →
     old.host.over ≡ false → TakesItem old.translator t HostLeft out_old out_new → kept ≡ ended old.host →
     TakesOn first (record old { host = kept; translator = t }) events HostEnd out_old out_new
 ends-host first old t kept events out_old out_new stands runs takes is =
@@ -143,7 +143,7 @@ ends-host first old t kept events out_old out_new stands runs takes is =
 
 -- ---- memory ran out for an end
 
-pub stops-end : (first : ℕ) (old : Inner) (t : Translator) (events : List Event) (e : Event) (out_old out_new : Outputs) → Stands first (kept_of old) events →
+pub stops-end : (first : ℕ) (old : Inner) (t : Kept) (events : List Event) (e : Event) (out_old out_new : Outputs) → Stands first (kept_of old) events →
     DoesNothing old.translator t out_old out_new → FirstWants first (arrivals events) (brought events e) → Stops first (kept_of (record old { translator = t })) events e out_old.to_client out_new.to_client out_old.to_host out_new.to_host
 stops-end first old t events e out_old out_new stands nothing wants =
     stops-still first old t events e out_old out_new nothing (stops-before first old events e out_old.to_client out_old.to_host (stands-for first old events stands) (inr wants))

@@ -14,7 +14,7 @@ use Rattle.packet_stream.proofs.Pieces.{items}
 use Rattle.redir_data.specs.declared.state.RedirState.{RedirState}
 use Rattle.gate_parts.specs.declared.write.outputs.Outputs.{Outputs}
 use Rattle.gate_core.specs.declared.step.inner.Inner.{Inner}
-use Rattle.gate_core.specs.declared.state.kept.Kept.{Kept as Translator}
+use Rattle.gate_core.specs.declared.state.kept.Kept.{Kept}
 use Rattle.gate_history.specs.step.Events.{Event, ClientPiece, HostPiece, client_bytes, host_bytes}
 use Rattle.gate_history.specs.declared.item.Item.{Item}
 use Rattle.gate_history.specs.state.Sides.{client_over, host_over}
@@ -24,8 +24,8 @@ use Rattle.gate_history.specs.step.History.{brought, arrivals, history}
 use Rattle.gate_history.specs.step.Came.{asked, told}
 use Rattle.gate_core.specs.step.Stands.{IsLeftBy, StreamStands, StandsFor, HasAll, Stands, Stops, HasPast}
 use Rattle.gate_history.specs.step.Wants.{IsHeld, FirstWants}
-use Rattle.gate_core.specs.inner.Holds.{DoesNothing}
-use Rattle.gate_core.specs.inner.Steps.{kept_of, TakesEvent}
+use Rattle.gate_core.specs.inner.state.Holds.{DoesNothing}
+use Rattle.gate_core.specs.inner.step.Steps.{kept_of, TakesEvent}
 use Rattle.gate_core.proofs.lemmas.step.Halves.{Packets, Half, IsAt, Halted, TakesPiece, client_half, host_half}
 use Rattle.gate_core.proofs.lemmas.step.Take.{follows-all, all-passed}
 use Rattle.gate_core.proofs.lemmas.step.Translator.{gains-none}
@@ -83,11 +83,11 @@ stands-for first g events stands = record {
 }
 
 -- for want of memory the translator has changed nothing
-pub stops-still : (first : ℕ) (old : Inner) (t : Translator) (events : List Event) (e : Event) (out_old out_new : Outputs) →
+pub stops-still : (first : ℕ) (old : Inner) (t : Kept) (events : List Event) (e : Event) (out_old out_new : Outputs) →
     DoesNothing old.translator t out_old out_new → Stops first (kept_of old) events e out_old.to_client out_old.to_client out_old.to_host out_old.to_host →
     Stops first (kept_of (record old { translator = t })) events e out_old.to_client out_new.to_client out_old.to_host out_new.to_host
 stops-still first old t events e out_old out_new nothing stops =
-    subst (λ (x : Translator). Stops first (kept_of (record old { translator = x })) events e out_old.to_client out_new.to_client out_old.to_host out_new.to_host) (sym nothing.same)
+    subst (λ (x : Kept). Stops first (kept_of (record old { translator = x })) events e out_old.to_client out_new.to_client out_old.to_host out_new.to_host) (sym nothing.same)
     (subst (λ (o : Outputs). Stops first (kept_of old) events e out_old.to_client o.to_client out_old.to_host o.to_host) (sym nothing.outputs) stops)
 
 -- ---- a piece of either side
@@ -123,11 +123,11 @@ module _ {S P T Q : Type 0} (first : ℕ) (own : Half S P) (other : Half T Q) (s
     other_stands = theirs-stand (arrivals events) refl refl;
   }
 
-  halted-both : (new : StreamView S) (t : Translator) (piece : List ℕ) (out_old out_new : Outputs) (h : Halted first own new t bytes piece (arrivals events) out_old out_new) → Both own other new theirs (bytes ++ piece) their_bytes (onto h.taken (arrivals events))
+  halted-both : (new : StreamView S) (t : Kept) (piece : List ℕ) (out_old out_new : Outputs) (h : Halted first own new t bytes piece (arrivals events) out_old out_new) → Both own other new theirs (bytes ++ piece) their_bytes (onto h.taken (arrivals events))
   halted-both new t piece out_old out_new h = record { own_stands = h.stands; other_stands = theirs-stand (onto h.taken (arrivals events)) h.others_are h.other_over }
 
 -- the event was taken up to an item that memory ran out for
-halted-event : {S P : Type 0} (first : ℕ) (own : Half S P) (new : StreamView S) (t : Translator) (g : Inner) (events : List Event) (e : Event) (bytes piece : List ℕ) (out_old out_new : Outputs) → brought events e ≡ added (items own.stream) bytes piece →
+halted-event : {S P : Type 0} (first : ℕ) (own : Half S P) (new : StreamView S) (t : Kept) (g : Inner) (events : List Event) (e : Event) (bytes piece : List ℕ) (out_old out_new : Outputs) → brought events e ≡ added (items own.stream) bytes piece →
     (h : Halted first own new t bytes piece (arrivals events) out_old out_new) → StandsFor first (kept_of g) (e ∷ events) (onto h.taken (arrivals events)) → Stops first (kept_of g) events e out_old.to_client out_new.to_client out_old.to_host out_new.to_host
 halted-event first own new t g events e bytes piece out_old out_new brings h stands = record {
   taken = h.taken;
@@ -146,7 +146,7 @@ halted-event first own new t g events e bytes piece out_old out_new brings h sta
 client-sees : (first : ℕ) → Sees (client_half first) (host_half first)
 client-sees first = record { steady = client-steady; other_steady = host-steady; came = λ xs ys e. ap (λ (p : Packets). p.1) e; over = λ xs. refl }
 
-pub took-asked : (r : Result (Unit {0}) Memory) (old : Inner) (kept : StreamView (Unit {0})) (t : Translator) (piece : List ℕ) (out_old out_new : Outputs) →
+pub took-asked : (r : Result (Unit {0}) Memory) (old : Inner) (kept : StreamView (Unit {0})) (t : Kept) (piece : List ℕ) (out_old out_new : Outputs) →
     TakesPiece r client_half old.client kept old.translator t piece out_old out_new →
     TakesEvent r old (record old { client = kept; translator = t }) (ClientPiece piece) out_old out_new
 took-asked (Ok v) old kept t piece out_old out_new takes = λ first events stands.
@@ -173,7 +173,7 @@ asked-past old has = ∥∥₁_map has (λ w. (w.0, (client_bytes w.1.0, (arriva
 host-sees : (first : ℕ) → Sees (host_half first) (client_half first)
 host-sees first = record { steady = host-steady; other_steady = client-steady; came = λ xs ys e. ap (λ (p : Packets). p.0) e; over = λ xs. refl }
 
-pub took-told : (r : Result (Unit {0}) Memory) (old : Inner) (kept : StreamView RedirState) (t : Translator) (piece : List ℕ) (out_old out_new : Outputs) →
+pub took-told : (r : Result (Unit {0}) Memory) (old : Inner) (kept : StreamView RedirState) (t : Kept) (piece : List ℕ) (out_old out_new : Outputs) →
     TakesPiece r host_half old.host kept old.translator t piece out_old out_new →
     TakesEvent r old (record old { host = kept; translator = t }) (HostPiece piece) out_old out_new
 took-told (Ok v) old kept t piece out_old out_new takes = λ first events stands.

@@ -19,10 +19,10 @@ use Rattle.gate_history.specs.state.Sides.{client_over, host_over}
 use Rattle.gate_history.specs.state.State.{state_of}
 use Rattle.gate_history.proofs.lemmas.step.Piece.{client_stream, host_stream}
 use Rattle.gate_parts.specs.declared.write.outputs.Outputs.{Outputs}
-use Rattle.gate_core.specs.declared.state.kept.Kept.{Kept as Translator}
+use Rattle.gate_core.specs.declared.state.kept.Kept.{Kept}
 use Rattle.gate_core.specs.step.Stands.{Translates, StreamStands, HasAll}
-use Rattle.gate_core.specs.inner.Holds.{DoesNothing}
-use Rattle.gate_core.specs.inner.Steps.{SendsItems}
+use Rattle.gate_core.specs.inner.state.Holds.{DoesNothing}
+use Rattle.gate_core.specs.inner.step.Steps.{SendsItems}
 
 -- ---- what a side is
 
@@ -56,12 +56,12 @@ host_half first = record {
 }
 
 -- so it is with what the code has of it: how its stream is read, which packets take memory, and its items
-pub record IsSide {S P : Type 0} (first : ℕ) (h : Half S P) (r : Reader S P Reason) (takes : P → Bool) (over_in : Translator → Bool) (packet : ℕ → P → Item) (wrong : ℕ → Reason → Item) : Type 0 where
+pub record IsSide {S P : Type 0} (first : ℕ) (h : Half S P) (r : Reader S P Reason) (takes : P → Bool) (over_in : Kept → Bool) (packet : ℕ → P → Item) (wrong : ℕ → Reason → Item) : Type 0 where
   pub reader : h.stream.reader ≡ r
   pub takes_is : (n : ℕ) (p : P) → takes p ≡ takes_memory (h.stream.packet n p)
   pub over_past : (xs ys : List Item) → past first xs ≡ past first ys → h.over xs ≡ h.over ys
   pub other_past : (xs ys : List Item) → past first xs ≡ past first ys → h.other_over xs ≡ h.other_over ys
-  pub over_is : (t : Translator) (xs : List Item) → Translates first t xs → over_in t ≡ h.over xs
+  pub over_is : (t : Kept) (xs : List Item) → Translates first t xs → over_in t ≡ h.over xs
   pub came_packet : (xs : List Item) (n : ℕ) (p : P) → h.came (h.stream.packet n p ∷ xs) ≡ h.came xs ++ (n, p) ∷ []
   -- its items are left out where it is over
   pub out_packet : (xs : List Item) (n : ℕ) (p : P) → is_left_out (state_of first (past first xs)) (h.stream.packet n p) ≡ h.over xs
@@ -78,12 +78,12 @@ pub record IsSide {S P : Type 0} (first : ℕ) (h : Half S P) (r : Reader S P Re
 -- ---- where its stream stands
 
 -- behind these items, which its bytes have brought
-pub record IsAt {S P : Type 0} (first : ℕ) (h : Half S P) (kept : StreamView S) (t : Translator) (bytes : List ℕ) (before : List Item) : Type 0 where
+pub record IsAt {S P : Type 0} (first : ℕ) (h : Half S P) (kept : StreamView S) (t : Kept) (bytes : List ℕ) (before : List Item) : Type 0 where
   pub all : HasAll h.stream.reader h.stream.start kept bytes (h.came before) (h.over before)
   pub translates : Translates first t before
 
 -- behind some items, and it goes on
-pub record GoesOn {S P : Type 0} (first : ℕ) (h : Half S P) (kept : StreamView S) (t : Translator) : Type 0 where
+pub record GoesOn {S P : Type 0} (first : ℕ) (h : Half S P) (kept : StreamView S) (t : Kept) : Type 0 where
   pub items : List Item
   pub bytes : List ℕ
   pub follows : Follows h.stream.reader h.stream.start kept bytes (h.came items)
@@ -93,13 +93,13 @@ pub record GoesOn {S P : Type 0} (first : ℕ) (h : Half S P) (kept : StreamView
 -- a packet that comes next, wherever it stands, is an item that the translator can take
 abbrev pub FitsNext : {S P : Type 0} → (ℕ → Half S P) → Reader S P Reason → (P → Bool) → (ℕ → P → Item) → Type 0
 FitsNext {S = S} {P = P} half r takes packet =
-    (kept new : StreamView S) (t : Translator) (i : ℕ × P) → (kept.over ≡ false → ∥ ((first : ℕ) × GoesOn first (half first) kept t) ∥₁) →
+    (kept new : StreamView S) (t : Kept) (i : ℕ × P) → (kept.over ≡ false → ∥ ((first : ℕ) × GoesOn first (half first) kept t) ∥₁) →
     Changes (Ok (Some i)) kept new → Nexts r takes (Ok (Some i)) kept new → ItemFits t.caps (packet i.0 i.1)
 
 -- ---- a piece of it
 
 -- all that the piece brought was taken or is left out
-pub record Finished {S P : Type 0} (first : ℕ) (h : Half S P) (kept : StreamView S) (t : Translator) (bytes piece : List ℕ) (before : List Item) (out_old out_new : Outputs) : Type 0 where
+pub record Finished {S P : Type 0} (first : ℕ) (h : Half S P) (kept : StreamView S) (t : Kept) (bytes piece : List ℕ) (before : List Item) (out_old out_new : Outputs) : Type 0 where
   pub all : HasAll h.stream.reader h.stream.start kept (bytes ++ piece) (h.came (onto (added (items h.stream) bytes piece) before)) (h.over (onto (added (items h.stream) bytes piece) before))
   pub translates : Translates first t (onto (added (items h.stream) bytes piece) before)
   pub sends : SendsItems first out_old out_new before (onto (added (items h.stream) bytes piece) before)
@@ -107,7 +107,7 @@ pub record Finished {S P : Type 0} (first : ℕ) (h : Half S P) (kept : StreamVi
   pub other_over : h.other_over (onto (added (items h.stream) bytes piece) before) ≡ h.other_over before
 
 -- memory ran out for one of the items that the piece brought: those before it were taken
-pub record Halted {S P : Type 0} (first : ℕ) (h : Half S P) (kept : StreamView S) (t : Translator) (bytes piece : List ℕ) (before : List Item) (out_old out_new : Outputs) : Type 0 where
+pub record Halted {S P : Type 0} (first : ℕ) (h : Half S P) (kept : StreamView S) (t : Kept) (bytes piece : List ℕ) (before : List Item) (out_old out_new : Outputs) : Type 0 where
   pub taken : List Item
   pub next : Item
   pub behind : List Item
@@ -120,13 +120,13 @@ pub record Halted {S P : Type 0} (first : ℕ) (h : Half S P) (kept : StreamView
   pub other_over : h.other_over (onto taken before) ≡ h.other_over before
 
 -- memory ran out for the piece itself, which hasn't come
-pub record IsUnput {S : Type 0} (old new : StreamView S) (t u : Translator) (piece : List ℕ) (out_old out_new : Outputs) : Type 0 where
+pub record IsUnput {S : Type 0} (old new : StreamView S) (t u : Kept) (piece : List ℕ) (out_old out_new : Outputs) : Type 0 where
   pub kept : new ≡ passed old
   pub some : (0 < length piece) × (old.over ≡ false)
   pub nothing : DoesNothing t u out_old out_new
 
 -- wherever the stream stood: the piece was taken, or memory ran out
-abbrev pub TakesPiece : {S P : Type 0} → Result (Unit {0}) Memory → (ℕ → Half S P) → StreamView S → StreamView S → Translator → Translator → List ℕ → Outputs → Outputs → Type 0
+abbrev pub TakesPiece : {S P : Type 0} → Result (Unit {0}) Memory → (ℕ → Half S P) → StreamView S → StreamView S → Kept → Kept → List ℕ → Outputs → Outputs → Type 0
 TakesPiece (Ok v) half old new t u piece out_old out_new =
     (first : ℕ) (bytes : List ℕ) (before : List Item) → IsAt first (half first) old t bytes before →
     Finished first (half first) new u bytes piece before out_old out_new

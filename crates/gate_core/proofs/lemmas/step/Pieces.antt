@@ -18,16 +18,16 @@ use Rattle.packet_stream.proofs.Pieces.{packets, wrongs, items, onto-append}
 use Rattle.packet_stream.proofs.Takers.{reaches-keeps, piece-keeps}
 use Rattle.gate_history.specs.declared.item.Item.{Item}
 use Rattle.gate_parts.specs.declared.write.outputs.Outputs.{Outputs}
-use Rattle.gate_core.specs.declared.state.kept.Kept.{Kept as Translator}
+use Rattle.gate_core.specs.declared.state.kept.Kept.{Kept}
 use Rattle.gate_history.specs.state.State.{state_of}
 use Rattle.gate_history.specs.step.Past.{is_left_out, past}
 use Rattle.gate_history.specs.step.Wants.{Wants}
 use Rattle.gate_core.specs.step.Stands.{Translates, HasAll, IsLeftBy}
-use Rattle.gate_core.specs.inner.Holds.{DoesNothing}
+use Rattle.gate_core.specs.inner.state.Holds.{DoesNothing}
 use Rattle.gate_history.specs.step.Fits.{IsItem, ItemFits}
 use Rattle.gate_core.specs.declared.step.taker.ItemTaker.{ItemTaker}
-use Rattle.gate_core.specs.inner.Steps.{SendsItems}
-use Rattle.gate_core.specs.inner.Takers.{Borrows, TakesItem, TakerTakes}
+use Rattle.gate_core.specs.inner.step.Steps.{SendsItems}
+use Rattle.gate_core.specs.inner.step.Takers.{Borrows, TakesItem, TakerTakes}
 use Rattle.gate_history.proofs.lemmas.Lists.{Each, Each-append}
 use Rattle.gate_history.proofs.lemmas.state.Sound.{state-sound}
 use Rattle.gate_core.proofs.lemmas.step.Take.{Taken, over-put, taken-put, taken-packet, taken-wrong, taken-ended, taken-all, cut-passed, IsMore, IsNextBy, taken-stuck}
@@ -90,7 +90,7 @@ skip-all first d (x ∷ later) xs over e =
 
 -- ---- within the piece
 
-pub record Taking {S P : Type 0} (first : ℕ) (h : Half S P) (kept : StreamView S) (t : Translator) (bytes piece : List ℕ) (before : List Item) (out_old out_new : Outputs) : Type 0 where
+pub record Taking {S P : Type 0} (first : ℕ) (h : Half S P) (kept : StreamView S) (t : Kept) (bytes piece : List ℕ) (before : List Item) (out_old out_new : Outputs) : Type 0 where
   pub taken : List Item
   pub stream : Taken h.stream kept bytes piece (h.came before) taken
   pub over_is : kept.over ≡ h.over (onto taken before)
@@ -99,7 +99,7 @@ pub record Taking {S P : Type 0} (first : ℕ) (h : Half S P) (kept : StreamView
   pub others_are : h.others (onto taken before) ≡ h.others before
   pub other_over : h.other_over (onto taken before) ≡ h.other_over before
 
-pub taking-first : {S P : Type 0} (first : ℕ) (d : Side S P first) (old new : StreamView S) (t : Translator) (bytes piece : List ℕ) (before : List Item) (out : Outputs) → AreBytes piece →
+pub taking-first : {S P : Type 0} (first : ℕ) (d : Side S P first) (old new : StreamView S) (t : Kept) (bytes piece : List ℕ) (before : List Item) (out : Outputs) → AreBytes piece →
     HasAll d.half.stream.reader d.half.stream.start old bytes (d.half.came before) (d.half.over before) → Translates first t before → new ≡ after_piece old piece → Puts d.half.stream.reader piece old new →
     Taking first d.half new t bytes piece before out out
 taking-first first d old new t bytes piece before out are all translates is puts = record {
@@ -113,7 +113,7 @@ taking-first first d old new t bytes piece before out are all translates is puts
 }
 
 -- the stream goes on behind what was taken
-pub goes-on : {S P : Type 0} (first : ℕ) (d : Side S P first) (kept : StreamView S) (t : Translator) (bytes piece : List ℕ) (before : List Item) (out_old out_new : Outputs) →
+pub goes-on : {S P : Type 0} (first : ℕ) (d : Side S P first) (kept : StreamView S) (t : Kept) (bytes piece : List ℕ) (before : List Item) (out_old out_new : Outputs) →
     Taking first d.half kept t bytes piece before out_old out_new → kept.over ≡ false → GoesOn first d.half kept t
 goes-on {P = P} first d kept t bytes piece before out_old out_new k runs =
     let g = k.stream.going runs in
@@ -130,7 +130,7 @@ ended-over : {S : Type 0} (kept : StreamView S) (flag over : Bool) → flag ≡ 
 ended-over kept true over e going = e
 ended-over kept false over e going = going (sym e) ∙ e
 
-taking-one : {S P : Type 0} (first : ℕ) (d : Side S P first) (old new : StreamView S) (t u : Translator) (bytes piece : List ℕ) (before : List Item) (out_old out out_new : Outputs) (item : Item) (x : Item) →
+taking-one : {S P : Type 0} (first : ℕ) (d : Side S P first) (old new : StreamView S) (t u : Kept) (bytes piece : List ℕ) (before : List Item) (out_old out out_new : Outputs) (item : Item) (x : Item) →
     (k : Taking first d.half old t bytes piece before out_old out) → old.over ≡ false → Taken d.half.stream new bytes piece (d.half.came before) (k.taken ++ x ∷ []) → IsItem item x →
     ((xs : List Item) → is_left_out (state_of first (past first xs)) x ≡ d.half.over xs) → ((xs : List Item) → d.half.others (x ∷ xs) ≡ d.half.others xs) → ((xs : List Item) → d.half.other_over (x ∷ xs) ≡ d.half.other_over xs) →
     ((xs : List Item) → d.half.over (x ∷ xs) ≡ false → new.over ≡ false) →
@@ -154,7 +154,7 @@ taking-one first d old new t u bytes piece before out_old out out_new item x k r
     }
 
 -- how a side's stream is taken
-abbrev pub taking_by : {S P : Type 0} → Reader S P Reason → (P → Bool) → (Translator → Bool) → (ℕ → P → Item) → (ℕ → Reason → Item) → TakenBy S P ItemTaker
+abbrev pub taking_by : {S P : Type 0} → Reader S P Reason → (P → Bool) → (Kept → Bool) → (ℕ → P → Item) → (ℕ → Reason → Item) → TakenBy S P ItemTaker
 taking_by r takes flag packet wrong = record { reader = r; takes_memory = takes; Takes = TakerTakes packet wrong; is_over = λ t. flag t.translator.now }
 
 abbrev pub taking_of : {S P : Type 0} {first : ℕ} → Side S P first → TakenBy S P ItemTaker
@@ -176,7 +176,7 @@ taking-item first d old new a b bytes piece before out_old (Err (OutOfMemory mem
 
 -- ---- nothing more is there
 
-finished-going : {S P : Type 0} (first : ℕ) (d : Side S P first) (takes : P → Bool) (old new : StreamView S) (t : Translator) (bytes piece : List ℕ) (before : List Item) (out_old out_new : Outputs) →
+finished-going : {S P : Type 0} (first : ℕ) (d : Side S P first) (takes : P → Bool) (old new : StreamView S) (t : Kept) (bytes piece : List ℕ) (before : List Item) (out_old out_new : Outputs) →
     Changes {P = P} (Ok None) old new → Nexts d.half.stream.reader takes (Ok None) old new → Taking first d.half old t bytes piece before out_old out_new → old.over ≡ false →
     Finished first d.half new t bytes piece before out_old out_new
 finished-going {S = S} {P = P} first d takes old new t bytes piece before out_old out_new changes nexts k runs =
@@ -196,7 +196,7 @@ finished-going {S = S} {P = P} first d takes old new t bytes piece before out_ol
       other_over = ap d.half.other_over same ∙ k.other_over;
     }
 
-finished-over : {S P : Type 0} (first : ℕ) (d : Side S P first) (old new : StreamView S) (t : Translator) (bytes piece : List ℕ) (before : List Item) (out_old out_new : Outputs) →
+finished-over : {S P : Type 0} (first : ℕ) (d : Side S P first) (old new : StreamView S) (t : Kept) (bytes piece : List ℕ) (before : List Item) (out_old out_new : Outputs) →
     AreBytes bytes → AreBytes piece → new ≡ passed old → Taking first d.half old t bytes piece before out_old out_new → old.over ≡ true →
     Finished first d.half new t bytes piece before out_old out_new
 finished-over {S = S} first d old new t bytes piece before out_old out_new are more is k ends =
@@ -224,7 +224,7 @@ finished-over {S = S} first d old new t bytes piece before out_old out_new are m
       other_over = d.laws.other_past ys xs past-is ∙ k.other_over;
     }
 
-finished-by : {S P : Type 0} (first : ℕ) (d : Side S P first) (takes : P → Bool) (old new : StreamView S) (t : Translator) (bytes piece : List ℕ) (before : List Item) (out_old out_new : Outputs) →
+finished-by : {S P : Type 0} (first : ℕ) (d : Side S P first) (takes : P → Bool) (old new : StreamView S) (t : Kept) (bytes piece : List ℕ) (before : List Item) (out_old out_new : Outputs) →
     AreBytes bytes → AreBytes piece → Changes {P = P} (Ok None) old new → Nexts d.half.stream.reader takes (Ok None) old new → Taking first d.half old t bytes piece before out_old out_new →
     (over : Bool) → old.over ≡ over → Finished first d.half new t bytes piece before out_old out_new
 finished-by first d takes old new t bytes piece before out_old out_new are more changes nexts k false runs =
@@ -240,7 +240,7 @@ more-runs old new (Ok (Some i)) more changes = changes.1
 more-runs old new (Err (Refused place why)) more changes = changes.0
 more-runs old new (Err (OutOfMemory memory)) more changes = changes.0
 
-pub nothing-done : (t : Translator) (out : Outputs) → DoesNothing t t out out
+pub nothing-done : (t : Kept) (out : Outputs) → DoesNothing t t out out
 nothing-done t out = record { same = refl; outputs = refl }
 
 -- the taker did nothing with it, and more is there
@@ -296,7 +296,7 @@ halted {S = S} {P = P} first d old new memory a b bytes piece before out_old ans
         ended = λ ends. absurd (true≢false (sym ends ∙ over));
         none = stuck.none;
       };
-      translates = subst (λ (t : Translator). Translates first t xs) (sym nothing.same) k.translates;
+      translates = subst (λ (t : Kept). Translates first t xs) (sym nothing.same) k.translates;
       sends = subst (λ (o : Outputs). SendsItems first out_old o before xs) (sym nothing.outputs) k.sends;
       others_are = k.others_are;
       other_over = k.other_over;
@@ -364,10 +364,10 @@ takes-by s (Ok v) old new piece are takes = finished s old takes.0 new piece are
 takes-by s (Err memory) old new piece are takes = stopped s memory old new piece are takes
 
 -- the translator and the outputs are what the taker leaves behind them
-pub takes-piece : {S P : Type 0} (s : TakenSide S P) (r : Result (Unit {0}) Memory) (old new : TakenStream S ItemTaker) (t : Translator) (piece : List ℕ) (out : Outputs) → AreBytes piece → t ≡ new.taker.translator.now → out ≡ new.taker.out.now →
+pub takes-piece : {S P : Type 0} (s : TakenSide S P) (r : Result (Unit {0}) Memory) (old new : TakenStream S ItemTaker) (t : Kept) (piece : List ℕ) (out : Outputs) → AreBytes piece → t ≡ new.taker.translator.now → out ≡ new.taker.out.now →
     TakesBytes (taken_side s) r old piece new → TakesPiece r s.half old.stream new.stream old.taker.translator.now t piece old.taker.out.now out
 takes-piece s r old new t piece out are is sends takes =
-    subst (λ (x : Translator). TakesPiece r s.half old.stream new.stream old.taker.translator.now x piece old.taker.out.now out) (sym is)
+    subst (λ (x : Kept). TakesPiece r s.half old.stream new.stream old.taker.translator.now x piece old.taker.out.now out) (sym is)
     (subst (λ (o : Outputs). TakesPiece r s.half old.stream new.stream old.taker.translator.now new.taker.translator.now piece old.taker.out.now o) (sym sends) (takes-by s r old new piece are takes))
 
 -- ---- what is borrowed, which is the same at the end

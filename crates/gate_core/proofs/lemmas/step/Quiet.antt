@@ -33,7 +33,7 @@ use Rattle.redir_data.specs.Sent.{sent_packet_bytes}
 use Rattle.gate_history.specs.write.Bytes.{client_bytes_of, host_bytes_of}
 use Rattle.gate_history.specs.step.Machine.{live_after}
 use Rattle.gate_parts.specs.state.Rows.{row, unmarked, left_row}
-use Rattle.gate_core.specs.inner.Holds.{Holds, Does}
+use Rattle.gate_core.specs.inner.state.Holds.{Holds, Does}
 use Rattle.gate_history.proofs.lemmas.Lists.{every, filter-same, filter-all}
 
 pub capped-same : (n : ℕ) → n ≤ 2 ^ 64 - 1 → n ≡ capped (n + 0)

@@ -14,7 +14,7 @@ use Rattle.usbip_urb.specs.ClientPackets.{takes_memory as asked_takes_memory, cl
 use Rattle.redir_data.specs.Packets.{takes_memory as told_takes_memory}
 use Rattle.usbip_urb.specs.Sound.ClientPackets.{client_packets_sound}
 use Rattle.gate_history.specs.declared.item.Item.{Item}
-use Rattle.gate_core.specs.declared.state.kept.Kept.{Kept as Translator}
+use Rattle.gate_core.specs.declared.state.kept.Kept.{Kept}
 use Rattle.gate_history.specs.declared.item.Item.TheVariants.{Asked, ClientWrong, HostWrong}
 use Rattle.gate_history.specs.step.Marks.{Mark}
 use Rattle.gate_history.specs.state.Sides.{client_over, host_over}
@@ -22,7 +22,7 @@ use Rattle.gate_history.specs.state.State.{state_of}
 use Rattle.gate_history.specs.step.Meaning.{mark_of}
 use Rattle.gate_history.specs.step.Past.{past}
 use Rattle.gate_history.specs.step.Streams.{client_reader, host_reader}
-use Rattle.gate_core.specs.inner.Steps.{told_item}
+use Rattle.gate_core.specs.inner.step.Steps.{told_item}
 use Rattle.gate_core.proofs.lemmas.step.Halves.{Half, IsSide, client_half, host_half}
 use Rattle.gate_history.proofs.lemmas.step.Apart.{asked-host, wrong-host, told-client, wrong-client}
 use Rattle.gate_history.proofs.lemmas.step.Capabilities.{wrong-over}
@@ -31,13 +31,13 @@ use Rattle.gate_history.proofs.lemmas.step.Capabilities.{wrong-over}
 pub record Side (S P : Type 0) (first : ℕ) : Type 0 where
   pub half : Half S P
   pub takes : P → Bool
-  pub flag : Translator → Bool
+  pub flag : Kept → Bool
   pub packet : ℕ → P → Item
   pub wrong : ℕ → Reason → Item
   pub steady : IsSteady half.stream.reader
   pub laws : IsSide first half half.stream.reader takes flag packet wrong
 
-abbrev pub side-of : {S P : Type 0} {first : ℕ} {half : Half S P} {reader : Reader S P Reason} {takes : P → Bool} {flag : Translator → Bool} {packet : ℕ → P → Item} {wrong : ℕ → Reason → Item} →
+abbrev pub side-of : {S P : Type 0} {first : ℕ} {half : Half S P} {reader : Reader S P Reason} {takes : P → Bool} {flag : Kept → Bool} {packet : ℕ → P → Item} {wrong : ℕ → Reason → Item} →
     IsSteady reader → IsSide first half reader takes flag packet wrong → Side S P first
 side-of {S = S} {P = P} {first = first} {half = half} {takes = takes} {flag = flag} {packet = packet} {wrong = wrong} steady laws = record {
   half = half;
@@ -107,7 +107,7 @@ pub record TakenSide (S P : Type 0) : Type 0 where
   pub reader : Reader S P Reason
   pub steady : IsSteady reader
   pub takes : P → Bool
-  pub flag : Translator → Bool
+  pub flag : Kept → Bool
   pub packet : ℕ → P → Item
   pub wrong : ℕ → Reason → Item
   pub laws : (first : ℕ) → IsSide first (half first) reader takes flag packet wrong

@@ -15,12 +15,12 @@ use Rattle.redir_data.specs.Packets.{takes_memory as told_takes_memory}
 use Rattle.usbip_urb.specs.ClientPackets.{takes_memory as asked_takes_memory, client_packets}
 use Rattle.usbip_urb.specs.Sound.ClientPackets.{client_packets_sound}
 use Rattle.gate_history.specs.declared.item.Item.TheVariants.{Asked}
-use Rattle.gate_core.specs.declared.state.kept.Kept.{Kept as Translator}
+use Rattle.gate_core.specs.declared.state.kept.Kept.{Kept}
 use Rattle.redir_data.specs.Streams.{stream_start}
 use Rattle.gate_history.specs.step.Streams.{client_reader, host_reader}
 use Rattle.gate_history.specs.step.Came.{told}
 use Rattle.gate_history.specs.step.Fits.{ToldFits}
-use Rattle.gate_core.specs.inner.Steps.{told_item}
+use Rattle.gate_core.specs.inner.step.Steps.{told_item}
 use Rattle.gate_core.proofs.lemmas.step.Halves.{Half, GoesOn, FitsNext, client_half, host_half}
 use Rattle.gate_history.proofs.lemmas.step.Capabilities.{told-fits, told_fits-prop}
 use Rattle.gate_core.proofs.lemmas.step.NextPacket.{IsReadable, fits-next}
@@ -37,7 +37,7 @@ left-by : {S P : Type 0} (r : Reader S P Reason) (kept : StreamView S) (x : Spli
 left-by r kept x given false e f = f
 left-by r kept x given true e f = absurd cc
 
-readable : {S P : Type 0} (first : ℕ) (h : Half S P) (kept : StreamView S) (t : Translator) → GoesOn first h kept t → kept.over ≡ false → AreBytes kept.rest × (kept.place ≡ capped kept.place)
+readable : {S P : Type 0} (first : ℕ) (h : Half S P) (kept : StreamView S) (t : Kept) → GoesOn first h kept t → kept.over ≡ false → AreBytes kept.rest × (kept.place ≡ capped kept.place)
 readable first h kept t g runs =
     let left = left-by h.stream.reader kept (split h.stream.reader h.stream.start g.bytes) (h.came g.items) kept.over runs g.follows.follows in
     (left.fits, capped-again kept.place left.at.place left.place)
@@ -49,7 +49,7 @@ asked-fits kept new t i goes changes nexts =
 
 -- ---- the host's
 
-told-next : (first : ℕ) (kept new : StreamView RedirState) (t : Translator) (i : ℕ × (Header × RedirPacket)) → Nexts host_reader told_takes_memory (Ok (Some i)) kept new → GoesOn first (host_half first) kept t → ToldFits t.caps i.1.0 i.1.1
+told-next : (first : ℕ) (kept new : StreamView RedirState) (t : Kept) (i : ℕ × (Header × RedirPacket)) → Nexts host_reader told_takes_memory (Ok (Some i)) kept new → GoesOn first (host_half first) kept t → ToldFits t.caps i.1.0 i.1.1
 told-next first kept new t i nexts g =
     let given = told g.items in
     let n = nexts stream_start g.bytes given g.follows in

@@ -6,7 +6,7 @@ use Rattle.std.proofs.lemmas.List.Elements.{filter-append}
 use Rattle.packet_stream.proofs.Following.{capped-past}
 use Rattle.redir_wire.specs.Capability.{no_caps}
 use Rattle.gate_parts.specs.declared.write.outputs.Outputs.{Outputs}
-use Rattle.gate_core.specs.declared.state.kept.Kept.{Kept as Translator}
+use Rattle.gate_core.specs.declared.state.kept.Kept.{Kept}
 use Rattle.gate_history.specs.declared.item.Item.{Item}
 use Rattle.usb_base.specs.Number.{capped}
 use Rattle.gate_history.specs.step.Marks.{Mark}
@@ -21,8 +21,8 @@ use Rattle.gate_history.specs.write.Bytes.{gateway_hello, client_bytes_of, host_
 use Rattle.gate_history.specs.step.Machine.{with_mark, step}
 use Rattle.gate_core.specs.step.Stands.{Translates}
 use Rattle.gate_history.specs.Headline.{Gains}
-use Rattle.gate_core.specs.inner.Holds.{Holds, Does}
-use Rattle.gate_core.specs.inner.Steps.{SendsItems}
+use Rattle.gate_core.specs.inner.state.Holds.{Holds, Does}
+use Rattle.gate_core.specs.inner.step.Steps.{SendsItems}
 use Rattle.gate_history.proofs.lemmas.step.Runs.{state-run}
 
 -- ---- gains
@@ -41,7 +41,7 @@ pub sends-none : (first : ℕ) (out : Outputs) (h : List Item) → SendsItems fi
 sends-none first out h = record { client = gains-none out.to_client _; host = gains-none out.to_host _; told = gains-none out.notes _ }
 
 -- what depends on the past alone
-pub translates-past : (first : ℕ) (t : Translator) (xs ys : List Item) → past first ys ≡ past first xs → Translates first t xs → Translates first t ys
+pub translates-past : (first : ℕ) (t : Kept) (xs ys : List Item) → past first ys ≡ past first xs → Translates first t xs → Translates first t ys
 translates-past first t xs ys same h = record {
   state = subst (λ (ms : List Mark). Holds t (state_of first ms)) (sym same) h.state;
   answered = h.answered ∙ ap (λ (ms : List Mark). capped (length (filter is_ret_submit (all_of to_client first ms)))) (sym same);
@@ -87,7 +87,7 @@ dropped-more first ms m old new e f =
     let b = dropped (state_of first ms) m in
     capped-past old (length a) (length b) new e f ∙ ap capped (sym (length-append a b))
 
-pub translates-item : (first : ℕ) (old new : Translator) (xs : List Item) (x : Item) (out_old out_new : Outputs) → Translates first old xs →
+pub translates-item : (first : ℕ) (old new : Kept) (xs : List Item) (x : Item) (out_old out_new : Outputs) → Translates first old xs →
     is_left_out (state_of first (past first xs)) x ≡ false →
     Does (state_of first (past first xs)) (mark_of (state_of first (past first xs)) x) old new out_old out_new → Translates first new (x ∷ xs)
 translates-item first old new xs x out_old out_new t taken does =
@@ -101,7 +101,7 @@ translates-item first old new xs x out_old out_new t taken does =
       dropped = dropped-more first ms m old.dropped new.dropped t.dropped does.dropped ∙ ap (λ (l : List Mark). capped (length (all_of dropped first l))) is;
     }
 
-pub sends-item : (first : ℕ) (old new : Translator) (h xs : List Item) (x : Item) (out_old out out_new : Outputs) →
+pub sends-item : (first : ℕ) (old new : Kept) (h xs : List Item) (x : Item) (out_old out out_new : Outputs) →
     SendsItems first out_old out h xs → is_left_out (state_of first (past first xs)) x ≡ false →
     Does (state_of first (past first xs)) (mark_of (state_of first (past first xs)) x) old new out out_new → SendsItems first out_old out_new h (x ∷ xs)
 sends-item first old new h xs x out_old out out_new s taken does =

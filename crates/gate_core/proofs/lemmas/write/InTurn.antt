@@ -17,8 +17,8 @@ use Rattle.gate_history.specs.write.Packets.{stop_of, stops}
 use Rattle.redir_data.specs.Sent.{sent_packet_bytes}
 use Rattle.packet_stream.specs.Writes.{Begins}
 use Rattle.gate_parts.specs.write.Outputs.{HasSome}
-use Rattle.gate_core.specs.inner.Holds.{StopsShort}
-use Rattle.gate_core.specs.inner.SentIds.{flying_in, ids_after, with_ids, after_stops, bytes_of}
+use Rattle.gate_core.specs.inner.state.Holds.{StopsShort}
+use Rattle.gate_core.specs.inner.state.SentIds.{flying_in, ids_after, with_ids, after_stops, bytes_of}
 use Rattle.gate_history.proofs.lemmas.Lists.{Each}
 use Rattle.gate_history.proofs.lemmas.state.StreamIds.{IsSilent, draws-append, zip-append, last-append, last_or-append, stream_ids_after-append, stream_ids_after-silent}
 

@@ -1,7 +1,7 @@
 use Rattle.std.proofs.Common.{ℕ, ◌+◌, length, ◌∙◌, ap, sym, subst, arith}
 use Rattle.gate_core.specs.state.Kept.{GateKept}
 use Rattle.gate_core.specs.step.Stands.{Stands}
-use Rattle.gate_core.specs.inner.Steps.{kept_of}
+use Rattle.gate_core.specs.inner.step.Steps.{kept_of}
 use Rattle.gate_history.proofs.lemmas.step.Rests.{rests-few}
 use Rattle.gate_core.proofs.lemmas.step.Rests.{held-all}
 use Rattle.gate_core.proofs.gate.Gate.held.Goals as goal

@@ -5,7 +5,7 @@ use Rattle.gate_history.specs.step.Events.{event_of}
 use Rattle.gate_history.specs.Headline.{notes}
 use Rattle.gate_parts.specs.declared.write.outputs.Outputs.{Outputs}
 use Rattle.gate_core.specs.state.Kept.{GateKept}
-use Rattle.gate_core.specs.inner.Steps.{kept_of, TakesEvent}
+use Rattle.gate_core.specs.inner.step.Steps.{kept_of, TakesEvent}
 use Rattle.gate_core.specs.step.Stands.{HasPast, Stands}
 use Rattle.gate_core.proofs.gate.Gate.take.Goals.{After-swap-2, Joined-event, in-ClientPiece, in-ClientEnd, in-HostPiece, in-HostEnd}
 use Rattle.gate_core.proofs.gate.Gate.take.Goals as goal

@@ -3,9 +3,9 @@ use Rattle.std.specs.Prelude.{filter}
 use Rattle.std.proofs.lemmas.Bool.{true≢false}
 use Rattle.unlink_race.specs.Requests.{Requests}
 use Rattle.unlink_race.specs.Searches.{goes_by_id}
-use Rattle.gate_core.specs.inner.Holds.{IsKept}
+use Rattle.gate_core.specs.inner.state.Holds.{IsKept}
 use Rattle.gate_history.proofs.lemmas.Lists.{length-filter}
-use Rattle.gate_core.proofs.lemmas.Held.{with-requests}
+use Rattle.gate_core.proofs.lemmas.state.Held.{with-requests}
 use Rattle.gate_core.proofs.state.kept.Kept.abandon.Goals as goal
 
 pub returns-then-abandoned-eq0-clause-kept : goal.returns-then-abandoned-eq0-clause-kept

@@ -5,8 +5,8 @@ use Rattle.gate_history.specs.state.Flight.{wide_ids}
 use Rattle.gate_history.specs.step.Marks.{Effect}
 use Rattle.gate_history.specs.step.Meaning.{mark_as, answer_to}
 use Rattle.gate_parts.specs.host.Responses.{response_view}
-use Rattle.gate_core.specs.inner.Holds.{Does}
-use Rattle.gate_core.proofs.lemmas.Held.{is-there}
+use Rattle.gate_core.specs.inner.state.Holds.{Does}
+use Rattle.gate_core.proofs.lemmas.state.Held.{is-there}
 use Rattle.gate_core.proofs.lemmas.host.Answer.{found-answer, nobody, means-refusal, means-end}
 use Rattle.gate_core.proofs.lemmas.step.Quiet.{as-effect}
 use Rattle.gate_core.proofs.lemmas.step.Steady.{does-idle}

@@ -3,7 +3,7 @@ use Rattle.usb_base.specs.declared.reason.Reason.TheVariants.{AlreadyImported}
 use Rattle.usb_base.specs.declared.side.Side.TheVariants.{Client}
 use Rattle.gate_history.specs.step.Marks.{Effect, Refuses}
 use Rattle.gate_history.specs.step.Meaning.{mark_as, refused, imported_as, importable}
-use Rattle.gate_core.specs.inner.Holds.{Does}
+use Rattle.gate_core.specs.inner.state.Holds.{Does}
 use Rattle.gate_core.proofs.state.kept.Kept.answer_import.Goals as goal
 
 pub returns-then-self-clause-ok : goal.returns-then-self-clause-ok

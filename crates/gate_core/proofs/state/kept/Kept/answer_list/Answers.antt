@@ -4,7 +4,7 @@ use Rattle.usb_base.specs.declared.side.Side.TheVariants.{Client}
 use Rattle.gate_history.specs.step.Marks.{Effect, Replies, Refuses}
 use Rattle.gate_history.specs.client.Replies.{list_reply}
 use Rattle.gate_history.specs.step.Meaning.{mark_as, refused}
-use Rattle.gate_core.specs.inner.Holds.{Does}
+use Rattle.gate_core.specs.inner.state.Holds.{Does}
 use Rattle.gate_core.proofs.state.kept.Kept.answer_list.Goals as goal
 
 pub returns-clause-ok : goal.returns-clause-ok

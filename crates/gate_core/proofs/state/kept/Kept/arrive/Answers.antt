@@ -5,11 +5,11 @@ use Rattle.usb_base.specs.Endpoint.{endpoint_index}
 use Rattle.gate_history.specs.declared.note.Note.TheVariants as note
 use Rattle.gate_history.specs.step.Marks.{Idle}
 use Rattle.gate_parts.specs.write.Outputs.{with_answers}
-use Rattle.gate_core.specs.inner.Fill.{HasReceived, received_bytes, received_notes}
+use Rattle.gate_core.specs.inner.host.Fill.{HasReceived, received_bytes, received_notes}
 use Rattle.gate_core.specs.declared.state.kept.Kept.{Kept}
 use Rattle.gate_history.specs.state.Ups.{Up, stream_at, stream_of}
 use Rattle.gate_history.specs.step.Meaning.{mark_as, arrives}
-use Rattle.gate_core.specs.inner.Holds.{Does}
+use Rattle.gate_core.specs.inner.state.Holds.{Does}
 use Rattle.gate_core.proofs.lemmas.step.Steady.{does-idle}
 use Rattle.gate_parts.proofs.lemmas.state.Places.{set-back}
 use Rattle.gate_core.proofs.lemmas.host.Arrive.{of-address, of-none, on-ok, puts-back, does-receive}

@@ -9,9 +9,9 @@ use Rattle.unlink_race.specs.Unlinking.{unlinked_by}
 use Rattle.unlink_race.proofs.Firsts.{position_found}
 use Rattle.unlink_race.proofs.Told.{lent}
 use Rattle.gate_history.specs.state.Flight.{wide_ids}
-use Rattle.gate_core.specs.inner.Holds.{IsRow}
+use Rattle.gate_core.specs.inner.state.Holds.{IsRow}
 use Rattle.gate_core.specs.declared.state.kept.Kept.{Kept}
-use Rattle.gate_core.proofs.lemmas.Held.{there, each-at}
+use Rattle.gate_core.proofs.lemmas.state.Held.{there, each-at}
 use Rattle.gate_core.proofs.lemmas.step.Quiet.{capped-same}
 use Rattle.gate_core.proofs.lemmas.client.UnlinkRows.{told-nowhere, told-there, cancelled-id, is_marking, marked-by_id}
 use Rattle.gate_core.proofs.lemmas.client.Unlink.{one-numbered, does-unlink}

@@ -6,7 +6,7 @@ use Rattle.gate_history.specs.state.Ids.{draw, greatest}
 use Rattle.gate_history.specs.state.Flight.{wide_ids}
 use Rattle.gate_history.specs.write.Packets.{route_packets}
 use Rattle.redir_data.specs.Sent.{sent_packet_bytes}
-use Rattle.gate_core.specs.inner.SentIds.{flying_in, ids_after}
+use Rattle.gate_core.specs.inner.state.SentIds.{flying_in, ids_after}
 use Rattle.gate_history.proofs.lemmas.state.StreamIds.{last-any}
 use Rattle.gate_history.proofs.lemmas.state.Draws.{length-draws}
 use Rattle.gate_core.proofs.lemmas.state.Ids.{route-ids, route-id, route-one}

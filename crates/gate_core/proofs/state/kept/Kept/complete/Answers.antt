@@ -2,10 +2,10 @@ use Rattle.std.proofs.Common.{◌≡◌, ◌∙◌, ◌+◌, ℕ, Bool, true, fa
 use mir.Val.{bool_byte}
 use Rattle.std.specs.Option.{option_copied}
 use Rattle.unlink_race.specs.Searches.{has_id}
-use Rattle.gate_core.specs.inner.Holds.{IsRow}
+use Rattle.gate_core.specs.inner.state.Holds.{IsRow}
 use Rattle.gate_parts.specs.host.Responses.{response_view, has_won}
 use Rattle.usb_base.specs.Number.{capped}
-use Rattle.gate_core.proofs.lemmas.Held.{live-taken, left-taken, without-one, each-at}
+use Rattle.gate_core.proofs.lemmas.state.Held.{live-taken, left-taken, without-one, each-at}
 use Rattle.gate_core.proofs.lemmas.host.Answer.{does-live, live-gives, does-late}
 use Rattle.gate_core.proofs.lemmas.write.InTurn.{on-err}
 use Rattle.gate_core.proofs.state.kept.Kept.complete.Goals as goal

@@ -1,6 +1,6 @@
 use Rattle.std.proofs.Common.{Bool, ap, ◌∙◌, arith}
 use Rattle.gate_history.specs.state.Ids.{draw, greatest}
-use Rattle.gate_core.specs.inner.SentIds.{flying_in}
+use Rattle.gate_core.specs.inner.state.SentIds.{flying_in}
 use Rattle.gate_history.proofs.lemmas.state.StreamIds.{few-ids}
 use Rattle.gate_core.proofs.state.kept.Kept.draw.Goals as goal
 

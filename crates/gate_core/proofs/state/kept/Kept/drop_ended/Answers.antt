@@ -5,9 +5,9 @@ use Rattle.unlink_race.specs.declared.live.Live.{Live}
 use Rattle.unlink_race.specs.Requests.{Requests}
 use Rattle.unlink_race.specs.Searches.{ended_by}
 use Rattle.usb_base.specs.Number.{capped}
-use Rattle.gate_core.specs.inner.Holds.{IsRow, IsKept}
+use Rattle.gate_core.specs.inner.state.Holds.{IsRow, IsKept}
 use Rattle.gate_history.proofs.lemmas.Lists.{Each-filter, length-filter}
-use Rattle.gate_core.proofs.lemmas.Held.{with-requests}
+use Rattle.gate_core.proofs.lemmas.state.Held.{with-requests}
 use Rattle.gate_core.proofs.state.kept.Kept.drop_ended.Goals as goal
 
 pub overflow_sub-ended : goal.overflow_sub-ended

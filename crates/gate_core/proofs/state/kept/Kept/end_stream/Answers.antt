@@ -14,7 +14,7 @@ use Rattle.usb_base.specs.Number.{capped}
 use Rattle.gate_history.specs.state.Ups.{lower_at}
 use Rattle.gate_history.specs.write.Answers.{without_packets}
 use Rattle.gate_parts.specs.state.Rows.{row_request, ended_bytes}
-use Rattle.gate_core.specs.inner.StreamEnd.{is_told, status_bytes}
+use Rattle.gate_core.specs.inner.host.StreamEnd.{is_told, status_bytes}
 use Rattle.gate_history.proofs.lemmas.Lists.{every, filter-same, filter-none, filter-all, flat_map-same, flat_map-none}
 use Rattle.gate_core.proofs.lemmas.step.Quiet.{capped-same}
 use Rattle.gate_history.proofs.lemmas.step.NoCancel.{and-false}

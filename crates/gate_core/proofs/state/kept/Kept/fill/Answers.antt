@@ -1,7 +1,7 @@
 use Rattle.std.proofs.Common.{arith}
 use Rattle.unlink_race.specs.Searches.{waits_for}
 use Rattle.gate_parts.specs.state.Rows.{IsFine}
-use Rattle.gate_core.specs.inner.Holds.{IsRow}
+use Rattle.gate_core.specs.inner.state.Holds.{IsRow}
 use Rattle.gate_history.proofs.lemmas.Lists.{Each-weaker}
 use Rattle.gate_core.proofs.lemmas.host.Fill.{kept-filled}
 use Rattle.gate_core.proofs.state.kept.Kept.fill.Goals as goal

@@ -6,8 +6,8 @@ use Rattle.unlink_race.specs.Requests.{Requests}
 use Rattle.unlink_race.specs.Searches.{has_number}
 use Rattle.unlink_race.specs.Unlinking.{unlinked_by}
 use Rattle.unlink_race.proofs.Firsts.{changed_first}
-use Rattle.gate_core.specs.inner.Holds.{IsRow, IsKept}
-use Rattle.gate_core.proofs.lemmas.Held.{each-at, with-requests}
+use Rattle.gate_core.specs.inner.state.Holds.{IsRow, IsKept}
+use Rattle.gate_core.proofs.lemmas.state.Held.{each-at, with-requests}
 use Rattle.gate_core.proofs.lemmas.client.UnlinkRows.{each-set, row-marked}
 use Rattle.gate_core.proofs.state.kept.Kept.mark.Goals as goal
 

@@ -15,7 +15,7 @@ use Rattle.gate_history.specs.state.StreamIds.{stream_ids_after}
 use Rattle.gate_history.specs.step.Meaning.{drawn_for, submission}
 use Rattle.gate_history.specs.write.Answers.{all_sent}
 use Rattle.redir_data.specs.Sent.{sent_packet_bytes}
-use Rattle.gate_core.specs.inner.SentIds.{ids_after, with_ids, starts_of, sent_ids_of, after_starts, bytes_of}
+use Rattle.gate_core.specs.inner.state.SentIds.{ids_after, with_ids, starts_of, sent_ids_of, after_starts, bytes_of}
 use Rattle.gate_history.proofs.lemmas.state.StreamIds.{iso-silent}
 use Rattle.gate_core.proofs.lemmas.state.Ids.{ids-are, asked-are}
 use Rattle.gate_core.proofs.lemmas.write.InTurn.{last-more, bytes-more, stream_ids-silent, begins-after, on-err}

@@ -21,7 +21,7 @@ use Rattle.gate_history.specs.write.Packets.{stops, route_packets}
 use Rattle.gate_history.specs.state.StreamIds.{stream_ids_after}
 use Rattle.gate_history.specs.step.Meaning.{drawn_for, submission}
 use Rattle.redir_data.specs.Sent.{sent_packet_bytes}
-use Rattle.gate_core.specs.inner.SentIds.{flying_in, ids_after, with_ids, stops_of, sent_ids_of, after_stops, bytes_of}
+use Rattle.gate_core.specs.inner.state.SentIds.{flying_in, ids_after, with_ids, stops_of, sent_ids_of, after_stops, bytes_of}
 use Rattle.gate_parts.specs.state.Rows.{ended_bytes, row_for}
 use Rattle.gate_history.proofs.lemmas.state.StreamIds.{last-any, route-silent}
 use Rattle.gate_history.proofs.lemmas.state.Draws.{length-draws}

@@ -13,7 +13,7 @@ use Rattle.gate_history.specs.write.Packets.{starts}
 use Rattle.gate_history.specs.state.StreamIds.{stream_ids_after}
 use Rattle.redir_data.specs.Sent.{sent_packet_bytes}
 use Rattle.gate_parts.specs.state.Rows.{row_for}
-use Rattle.gate_core.specs.inner.SentIds.{ids_after, with_ids, starts_of, sent_ids_of, after_starts, bytes_of}
+use Rattle.gate_core.specs.inner.state.SentIds.{ids_after, with_ids, starts_of, sent_ids_of, after_starts, bytes_of}
 use Rattle.gate_core.proofs.lemmas.state.Ids.{ids-are, asked-are}
 use Rattle.gate_core.proofs.lemmas.write.InTurn.{on-err}
 use Rattle.gate_core.proofs.lemmas.client.Wait.{does-start}

@@ -12,7 +12,7 @@ use Rattle.gate_history.specs.state.State.{State, is_number, submits}
 use Rattle.gate_history.specs.step.Meaning.{mark_as, refused, accepts, situation, verdict_of, asked_meaning}
 use Rattle.gate_core.specs.declared.state.kept.Kept.{Kept}
 use Rattle.gate_parts.specs.declared.write.outputs.Outputs.{Outputs}
-use Rattle.gate_core.specs.inner.Holds.{Holds, Does}
+use Rattle.gate_core.specs.inner.state.Holds.{Holds, Does}
 use Rattle.gate_core.proofs.lemmas.state.Ids.{number-rows}
 use Rattle.std.specs.Prelude.{FitsSigned, Result, OnOk, None}
 use Rattle.std.proofs.lemmas.Int.{to_z-of_z}

@@ -1,6 +1,6 @@
 use Rattle.std.proofs.Common.{◌∙◌, arith}
 use Rattle.unlink_race.specs.Searches.{has_number}
-use Rattle.gate_core.proofs.lemmas.Held.{among-both, number-taken, without-one}
+use Rattle.gate_core.proofs.lemmas.state.Held.{among-both, number-taken, without-one}
 use Rattle.gate_core.proofs.state.kept.Kept.take_back.Goals as goal
 
 pub finish_at-requires : goal.finish_at-requires

@@ -5,7 +5,7 @@ use Rattle.gate_core.specs.declared.state.kept.Kept.{Kept}
 use Rattle.gate_history.specs.step.Marks.{Effect, Agrees}
 use Rattle.gate_history.specs.step.Meaning.{mark_as, fact_of}
 use Rattle.gate_history.specs.step.Wants.{GivesSome}
-use Rattle.gate_core.specs.inner.Holds.{Does}
+use Rattle.gate_core.specs.inner.state.Holds.{Does}
 use Rattle.gate_core.proofs.lemmas.host.Answer.{does-agree, told-other}
 use Rattle.gate_core.proofs.state.kept.Kept.told_control.Goals as goal
 

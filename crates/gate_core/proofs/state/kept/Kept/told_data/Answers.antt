@@ -3,7 +3,7 @@ use Rattle.usb_base.specs.declared.transfer.StreamPacket.{StreamPacket}
 use Rattle.gate_history.specs.state.Ups.{stream_of}
 use Rattle.gate_history.specs.step.Marks.{Effect}
 use Rattle.gate_history.specs.step.Meaning.{mark_as, arrives, by_response}
-use Rattle.gate_core.specs.inner.Holds.{Does}
+use Rattle.gate_core.specs.inner.state.Holds.{Does}
 use Rattle.gate_core.proofs.lemmas.host.Data.{arrives-so, responds-so}
 use Rattle.gate_history.specs.step.Wants.{GivesSome}
 use Rattle.gate_core.proofs.state.kept.Kept.told_data.Goals as goal

@@ -3,7 +3,7 @@ use Rattle.redir_data.specs.declared.packet.RedirPacket.TheVariants.{Plain}
 use Rattle.gate_core.specs.declared.state.kept.Kept.{Kept}
 use Rattle.gate_history.specs.host.Responses.{Response, response_of}
 use Rattle.gate_history.specs.step.Meaning.{mark_as, fact_of, by_response}
-use Rattle.gate_core.specs.inner.Holds.{Does}
+use Rattle.gate_core.specs.inner.state.Holds.{Does}
 use Rattle.gate_core.proofs.lemmas.host.Answer.{does-tell}
 use Rattle.gate_history.specs.step.Wants.{GivesSome}
 use Rattle.gate_core.proofs.lemmas.write.InTurn.{on-err}

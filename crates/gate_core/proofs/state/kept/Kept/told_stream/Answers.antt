@@ -3,11 +3,11 @@ use Rattle.std.specs.Prelude.{filter}
 use Rattle.usb_base.specs.declared.status.UsbStatus.{UsbStatus}
 use Rattle.gate_history.specs.step.Marks.{StreamTold}
 use Rattle.gate_history.specs.step.Meaning.{mark_as}
-use Rattle.gate_core.specs.inner.Holds.{Does}
+use Rattle.gate_core.specs.inner.state.Holds.{Does}
 use Rattle.gate_core.proofs.lemmas.host.StreamStatus.{does-tell_stream, tell-gives}
 use Rattle.unlink_race.specs.declared.live.Live.{Live}
 use Rattle.gate_history.specs.step.Wants.{GivesSome}
-use Rattle.gate_core.specs.inner.StreamEnd.{is_told}
+use Rattle.gate_core.specs.inner.host.StreamEnd.{is_told}
 use Rattle.gate_core.proofs.lemmas.write.InTurn.{on-err, leaves-client}
 use Rattle.gate_core.proofs.state.kept.Kept.told_stream.Goals as goal
 

@@ -3,7 +3,7 @@ use Rattle.usb_base.specs.declared.reason.Reason.TheVariants.{NotImported}
 use Rattle.usb_base.specs.declared.side.Side.TheVariants.{Client}
 use Rattle.gate_history.specs.step.Marks.{Effect, Refuses, Unlinks}
 use Rattle.gate_history.specs.step.Meaning.{mark_as, refused}
-use Rattle.gate_core.specs.inner.Holds.{Does}
+use Rattle.gate_core.specs.inner.state.Holds.{Does}
 use Rattle.gate_core.proofs.state.kept.Kept.unlink.Goals as goal
 
 pub returns-then-not-self-clause-ok : goal.returns-then-not-self-clause-ok

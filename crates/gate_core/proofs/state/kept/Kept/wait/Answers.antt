@@ -5,7 +5,7 @@ use Rattle.gate_core.specs.declared.state.kept.Kept.{Kept}
 use Rattle.gate_history.specs.state.Ups.{Up, stream_at}
 use Rattle.gate_history.specs.declared.verdict.Verdict.TheVariants.{Stream}
 use Rattle.gate_history.specs.step.Meaning.{mark_as, accepts}
-use Rattle.gate_core.specs.inner.Holds.{Holds, Does}
+use Rattle.gate_core.specs.inner.state.Holds.{Holds, Does}
 use Rattle.gate_parts.proofs.lemmas.state.Places.{set-back}
 use Rattle.gate_core.proofs.lemmas.host.Arrive.{on-ok, puts-back}
 use Rattle.gate_core.proofs.lemmas.client.Wait.{does-join}

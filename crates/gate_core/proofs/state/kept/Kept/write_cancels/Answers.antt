@@ -1,7 +1,7 @@
 use Rattle.std.proofs.Common.{sym, ap, ◌∙◌}
 use Rattle.std.specs.Option.{option_copied}
 use Rattle.gate_parts.specs.state.Rows.{cancel_bytes, is_cancelled_row}
-use Rattle.gate_core.proofs.lemmas.Fronts.{sent-next}
+use Rattle.gate_core.proofs.lemmas.write.Fronts.{sent-next}
 use Rattle.gate_core.proofs.lemmas.write.Gives.{some-kept}
 use Rattle.gate_core.proofs.lemmas.write.InTurn.{on-err}
 use Rattle.gate_core.proofs.state.kept.Kept.write_cancels.Goals as goal

@@ -1,7 +1,7 @@
 use Rattle.std.proofs.Common.{w32, to_z, of_z, sym, ap, ◌∙◌}
 use Rattle.std.specs.Option.{option_copied}
 use Rattle.gate_parts.specs.state.Rows.{ended_bytes}
-use Rattle.gate_core.proofs.lemmas.Fronts.{sent-next}
+use Rattle.gate_core.proofs.lemmas.write.Fronts.{sent-next}
 use Rattle.unlink_race.specs.Searches.{ended_by}
 use Rattle.gate_core.proofs.lemmas.write.Gives.{some-kept}
 use Rattle.gate_core.proofs.lemmas.write.InTurn.{on-err}

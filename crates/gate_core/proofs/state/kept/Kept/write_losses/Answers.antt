@@ -3,7 +3,7 @@ use Rattle.std.specs.Prelude.{is_none}
 use Rattle.std.specs.Option.{option_copied, is_some}
 use mir.Val.{bool_byte}
 use Rattle.gate_parts.specs.state.Rows.{lost_bytes, is_asked_back}
-use Rattle.gate_core.proofs.lemmas.Fronts.{sent-next, count-next}
+use Rattle.gate_core.proofs.lemmas.write.Fronts.{sent-next, count-next}
 use Rattle.gate_core.proofs.state.kept.Kept.write_losses.Goals as goal
 
 one-more : (by : Option ℕ) → (bool_byte (is_some by) ≡ cond (not (is_none by)) 1 0) × (bool_byte (is_some by) ≤ 1)

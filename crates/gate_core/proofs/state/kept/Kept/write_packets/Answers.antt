@@ -10,7 +10,7 @@ use Rattle.gate_history.specs.state.Ids.{draw, greatest, last_of}
 use Rattle.gate_history.specs.state.Flight.{wide_ids}
 use Rattle.gate_history.specs.write.Packets.{iso_packets}
 use Rattle.redir_data.specs.Sent.{sent_packet_bytes}
-use Rattle.gate_core.specs.inner.SentIds.{flying_in, ids_after, bytes_of}
+use Rattle.gate_core.specs.inner.state.SentIds.{flying_in, ids_after, bytes_of}
 use Rattle.gate_history.proofs.lemmas.write.Laid.{no_desc, few-stretch, stretch-packet, next-iso}
 use Rattle.gate_core.proofs.lemmas.write.InTurn.{last-more, bytes-more}
 use Rattle.gate_core.proofs.state.kept.Kept.write_packets.Goals as goal

@@ -1,7 +1,7 @@
 use Rattle.std.proofs.Common.{◌≡◌, ◌++◌, length, take}
 use Rattle.gate_history.specs.state.Ids.{last_of}
 use Rattle.gate_history.specs.write.Packets.{iso_packets}
-use Rattle.gate_core.specs.inner.SentIds.{ids_after, bytes_of}
+use Rattle.gate_core.specs.inner.state.SentIds.{ids_after, bytes_of}
 use Rattle.gate_core.proofs.state.kept.Kept.write_packets.Given as goal
 
 -- the packets so far

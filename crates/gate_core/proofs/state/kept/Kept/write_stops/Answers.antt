@@ -3,7 +3,7 @@ use Rattle.std.proofs.lemmas.List.{append-nil}
 use Rattle.gate_parts.specs.declared.state.stream_ids.SentIds.{SentIds}
 use Rattle.gate_history.specs.state.Ups.{Up, is_ended}
 use Rattle.gate_history.specs.write.Packets.{stop_of, stops}
-use Rattle.gate_core.specs.inner.SentIds.{sent_ids_of, after_stops, bytes_of}
+use Rattle.gate_core.specs.inner.state.SentIds.{sent_ids_of, after_stops, bytes_of}
 use Rattle.gate_core.proofs.lemmas.write.InTurn.{bytes-more, stops-more, next-stops, on-err}
 use Rattle.gate_history.proofs.lemmas.Lists.{some-joined}
 use Rattle.gate_core.proofs.state.kept.Kept.write_stops.Goals as goal

@@ -1,7 +1,7 @@
 use Rattle.std.proofs.Common.{◌≡◌, ◌++◌, take}
 use Rattle.gate_history.specs.state.Ups.{is_ended}
 use Rattle.gate_history.specs.write.Packets.{stops}
-use Rattle.gate_core.specs.inner.SentIds.{sent_ids_of, after_stops, bytes_of}
+use Rattle.gate_core.specs.inner.state.SentIds.{sent_ids_of, after_stops, bytes_of}
 use Rattle.gate_core.proofs.state.kept.Kept.write_stops.Given as goal
 
 -- the stops so far

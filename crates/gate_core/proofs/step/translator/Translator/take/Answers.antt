@@ -19,7 +19,7 @@ use Rattle.gate_history.specs.step.Fits.{IsItem, ItemFits}
 use Rattle.gate_history.specs.step.Wants.{GivesSome}
 use Rattle.gate_parts.specs.declared.write.outputs.Outputs.{Outputs}
 use Rattle.gate_core.specs.declared.state.kept.Kept.{Kept}
-use Rattle.gate_core.specs.inner.Holds.{Holds, Does}
+use Rattle.gate_core.specs.inner.state.Holds.{Holds, Does}
 use Rattle.gate_core.proofs.lemmas.write.Gives.{asked-gives, refusal-gives}
 use Rattle.gate_core.proofs.lemmas.write.InTurn.{on-err}
 use Rattle.gate_core.proofs.step.translator.Translator.take.Goals.{in-Asked+in-Op, in-Asked+in-Urb-Submit, in-Asked+in-Urb-Unlink, in-Asked+in-Urb-RetSubmit, in-Asked+in-Urb-RetUnlink, in-ClientWrong, in-ClientLeft, in-Told+in-Plain, in-Told+in-Carrying, in-HostWrong, in-HostLeft, Joined-item}

@@ -1,7 +1,7 @@
 use Rattle.std.proofs.Common.{◌∙◌, get_or, set, length, sym, ap, arith}
 use Rattle.std.proofs.lemmas.List.{length-map}
 use Rattle.gate_history.specs.state.Ups.{unless, is_ended}
-use Rattle.gate_parts.proofs.lemmas.Fronts.{mapped-none, mapped-next, mapped-all}
+use Rattle.gate_parts.proofs.lemmas.state.Fronts.{mapped-none, mapped-next, mapped-all}
 use Rattle.gate_parts.proofs.lemmas.state.Places.{set-twice}
 use Rattle.gate_parts.proofs.state.streams.Streams.lower.Goals as goal
 

@@ -12,7 +12,7 @@ use Rattle.unlink_race.specs.Requests.{Requests, in_flight, without_at}
 use Rattle.unlink_race.proofs.Firsts.{remove_first, position_found, find_past, took_first}
 use Rattle.usbip_urb.specs.declared.code.TheConstants.{MAX_LIVE}
 use Rattle.gate_core.specs.declared.state.kept.Kept.{Kept}
-use Rattle.gate_core.specs.inner.Holds.{IsRow, IsKept}
+use Rattle.gate_core.specs.inner.state.Holds.{IsRow, IsKept}
 use Rattle.gate_history.proofs.lemmas.Lists.{Each}
 
 -- ---- the place of the first that passes, in two lists one behind the other

@@ -10,9 +10,9 @@ use Rattle.gate_history.specs.step.Meaning.{mark_of}
 use Rattle.gate_history.specs.step.Past.{is_left_out}
 use Rattle.gate_history.specs.step.Wants.{GivesSome}
 use Rattle.gate_parts.specs.declared.write.outputs.Outputs.{Outputs}
-use Rattle.gate_core.specs.declared.state.kept.Kept.{Kept as Translator}
+use Rattle.gate_core.specs.declared.state.kept.Kept.{Kept}
 use Rattle.gate_core.specs.declared.step.taker.ItemTaker.{ItemTaker}
-use Rattle.gate_core.specs.inner.Holds.{Holds, Does, DoesNothing}
+use Rattle.gate_core.specs.inner.state.Holds.{Holds, Does, DoesNothing}
 
 -- the item that a packet is, or a wrong place
 abbrev pub item_of : {P : Type 0} → (ℕ → P → Item) → (ℕ → Reason → Item) → ℕ → Result P Reason → Item
@@ -20,16 +20,16 @@ item_of packet wrong place (Ok p) = packet place p
 item_of packet wrong place (Err reason) = wrong place reason
 
 -- an item was taken
-abbrev pub TakesItem : Translator → Translator → Item → Outputs → Outputs → Type 0
+abbrev pub TakesItem : Kept → Kept → Item → Outputs → Outputs → Type 0
 TakesItem old new item out_old out_new =
     (st : State) (x : Item) → IsItem item x → Holds old st → IsSound st → is_left_out st x ≡ false → Does st (mark_of st x) old new out_old out_new
 
 -- memory was wanted for it, and nothing was done
-abbrev pub LacksItem : Translator → Translator → Item → Outputs → Outputs → Type 0
+abbrev pub LacksItem : Kept → Kept → Item → Outputs → Outputs → Type 0
 LacksItem old new item out_old out_new =
     DoesNothing old new out_old out_new × ((st : State) (x : Item) → IsItem item x → Holds old st → IsSound st → GivesSome st (mark_of st x))
 
-abbrev pub TakesBy : Result (Unit {0}) Memory → Translator → Translator → Item → Outputs → Outputs → Type 0
+abbrev pub TakesBy : Result (Unit {0}) Memory → Kept → Kept → Item → Outputs → Outputs → Type 0
 TakesBy (Ok v) old new item out_old out_new = TakesItem old new item out_old out_new
 TakesBy (Err memory) old new item out_old out_new = LacksItem old new item out_old out_new
 

@@ -1,0 +1,3 @@
+-- What the host says.
+pub mod Fill
+pub mod StreamEnd

@@ -1,0 +1,3 @@
+-- One item, one event, and all of them.
+pub mod Steps
+pub mod Takers
