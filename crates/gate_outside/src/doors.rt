@@ -1,4 +1,4 @@
-//! The sockets of both sides.
+//! The links to both sides.
 
 ghost use Rattle.std.specs.Prelude.{◌≡◌, ◌<◌, IsTrue, false, length};
 

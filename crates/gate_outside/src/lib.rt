@@ -1,4 +1,4 @@
-//! The outside of the program: where bytes come from and go to, and the sockets of both sides.
+//! The outside of the program: where bytes come from and go to, and the links to both sides.
 //!
 //! Each trait counts its faults where they happen, so that a caller's contract can say of every refusal that
 //! the outside was the cause.
