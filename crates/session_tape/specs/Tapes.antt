@@ -33,7 +33,8 @@ abbrev pub CountsFault : {T E : Type 0} → Result T E → Counts → Counts →
 CountsFault (Ok _) old new = new ≡ old
 CountsFault (Err _) old new = OneFault old new
 
--- known bytes grew by a front of `bytes`
+-- Known bytes grew by a front of `bytes`, and a tape that told none tells none now. That is more than `AppendsFront` of
+-- `gate_outside` says, which the writers of std can't promise.
 pub record GrowsInPart (old new : Option (List ℕ)) (bytes : List ℕ) : Type 0 where
   pub front : List ℕ
   pub back : List ℕ
