@@ -1,9 +1,10 @@
 -- Faults of the outside are counted where they happen.
-use Rattle.std.specs.Prelude.{◌≡◌, ℕ, ◌+◌, ◌-◌, ◌^◌, min, max, Result, OnOk, OnErr}
+use Rattle.std.specs.Prelude.{◌≡◌, ℕ, ◌+◌, max, Result, OnOk, OnErr}
+use Rattle.usb_base.specs.Number.{capped}
 
 -- a count after one more: it stands still at the greatest number of 64 bits
 abbrev pub one_more : ℕ → ℕ
-one_more count = max count (min (count + 1) (2 ^ 64 - 1))
+one_more count = max count (capped (count + 1))
 
 -- the count rose by one, or stands at its greatest number
 abbrev pub Rose : ℕ → ℕ → Type 0

@@ -1,5 +1,6 @@
 -- What is known of the doors, and what they tell.
-use Rattle.std.specs.Prelude.{◌≡◌, ◌⊎◌, ◌≤◌, ◌+◌, ◌-◌, ◌^◌, ℕ, min, ◌||◌, Bool, true, false, if◌then◌else◌, List, [], ◌∷◌, ◌++◌, Option, Some, IfSome}
+use Rattle.std.specs.Prelude.{◌≡◌, ◌⊎◌, ◌≤◌, ◌+◌, ℕ, ◌||◌, Bool, true, false, if◌then◌else◌, List, [], ◌∷◌, ◌++◌, Option, Some, IfSome}
+use Rattle.usb_base.specs.Number.{capped}
 use Rattle.usb_base.specs.declared.side.Side.{Side}
 use Rattle.usb_base.specs.declared.side.Side.TheVariants.{Client, Host}
 use Rattle.gate_outside.specs.declared.turn.Turn.{Turn}
@@ -81,7 +82,7 @@ HasCause e old new sink_old sink_new = NoFault old new sink_old sink_new
 
 -- a count rose by so much at least, or has come to its greatest number
 abbrev pub RoseBy : ℕ → ℕ → ℕ → Type 0
-RoseBy n old new = min (old + n) (2 ^ 64 - 1) ≤ new
+RoseBy n old new = capped (old + n) ≤ new
 
 -- no link is up
 pub record IsDown (w : Outside) : Type 0 where
