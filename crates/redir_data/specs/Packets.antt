@@ -1,4 +1,4 @@
--- All packets of a stream: those that move no data, whose numbers are below 100, and those that move some.
+-- All packets of a stream: those that move no data, whose numbers are below `FIRST_DATA`, and those that move some.
 use Rattle.std.specs.Prelude.{ℕ, Bool, List, ◌⊎◌}
 use Rattle.std.proofs.Common.{inl, inr}
 use Rattle.std.specs.Int.{w32}

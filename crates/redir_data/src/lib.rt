@@ -18,7 +18,7 @@ pub use laws::{
 pub use next::next_redir;
 pub use packet::{RedirData, RedirPacket, RedirRead};
 pub use read::read_data;
-pub use redir::{FIRST_DATA, read_redir};
+pub use redir::read_redir;
 pub use state::RedirState;
 pub use stream::{FromGuest, FromHost, Guest, Host, Sender, SentBy};
 pub use stream_kind::StreamKind;

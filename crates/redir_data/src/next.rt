@@ -6,8 +6,7 @@ ghost use Rattle.packet_stream.specs.Awaited.{IsAwaited, StaysShort, awaited};
 ghost use Rattle.redir_data.specs.Carrying.{carrying};
 ghost use Rattle.redir_data.specs.Packets.{begins_plain, redir_packets};
 
-use crate::redir::FIRST_DATA;
-use redir_wire::{Caps, DataKind, Way, header_size, next_control};
+use redir_wire::{Caps, DataKind, FIRST_DATA, Way, header_size, next_control};
 use usb_base::le_u32_at;
 
 /// How many bytes are awaited where less than a packet is there that goes this way: the least number at which a check

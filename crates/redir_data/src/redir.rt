@@ -13,7 +13,7 @@ ghost use Rattle.redir_data.specs.inner.Past.{packet_past, past_found, error_pas
 use crate::packet::{RedirPacket, RedirRead};
 use crate::read::{behind, take_data};
 use packet_stream::{PacketBytes, Read, ReadError};
-use redir_wire::{Caps, Header, Way, WireError, read_control, read_header};
+use redir_wire::{Caps, FIRST_DATA, Header, Way, WireError, read_control, read_header};
 use std::alloc::Global;
 
 /// Reads the packet at the front of what goes this way, where these capabilities are agreed. `first` says that the
@@ -72,9 +72,6 @@ fn take_behind<B: PacketBytes>(
         take_data_packet(alloc, head, size, caps, way, bytes)
     }
 }
-
-/// The first number of the types that move data.
-pub const FIRST_DATA: u32 = 100;
 
 fn take_plain_packet<B: PacketBytes>(
     alloc: Global,

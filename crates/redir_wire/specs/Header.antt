@@ -10,6 +10,7 @@ use Rattle.redir_wire.specs.declared.packet.Caps.{Caps}
 use Rattle.redir_wire.specs.declared.packet.Way.{Way}
 use Rattle.redir_wire.specs.declared.packet.Header.{Header}
 use Rattle.redir_wire.specs.declared.header.TheConstants.{MAX_LENGTH}
+use Rattle.redir_wire.specs.declared.kind.TheConstants.{HELLO}
 use Rattle.redir_wire.specs.declared.kind.TypeRow.{TypeRow}
 use Rattle.redir_wire.specs.declared.packet.TheConstants.Caps.{WIDE_IDS}
 use Rattle.redir_wire.specs.Capability.{has}
@@ -53,7 +54,7 @@ type_check reason passes = check 0 4 reason (λ b. passes (le_at w32 0 b))
 -- the greatest length is a transfer of 16 MiB and 64 bytes more, which is room for the fields of any data packet
 abbrev pub head_checks : Bool → Caps → Way → List (Check Reason)
 head_checks first caps way =
-    type_check HelloFirst (λ number. if first then number == 0 else not (number == 0))
+    type_check HelloFirst (λ number. if first then number == HELLO else not (number == HELLO))
     ∷ type_check UnknownType (λ number. is_left_out number || is_some (kind_numbered number))
     ∷ type_check NotAgreed (λ number. not (is_left_out number) && row_says (has_wanted caps) number)
     ∷ type_check WrongWay (row_says (goes way))

@@ -7,6 +7,7 @@ use Rattle.usb_base.specs.declared.reason.Reason.TheVariants.{Count}
 use Rattle.usb_base.specs.Number.{le_at}
 use Rattle.packet_stream.specs.Format.{Format}
 use Rattle.redir_wire.specs.declared.packet.TheConstants.{MAX_INTERFACES}
+use Rattle.redir_wire.specs.declared.kind.TheConstants.{FIRST_DATA, INTERFACE_INFO}
 use Rattle.redir_wire.specs.declared.packet.Caps.{Caps}
 use Rattle.redir_wire.specs.declared.packet.Way.{Way}
 use Rattle.redir_wire.specs.declared.packet.Header.{Header}
@@ -17,13 +18,13 @@ use Rattle.redir_wire.specs.Spelling.{fields, number_of}
 use Rattle.redir_wire.specs.Ranges.{IsControl}
 use Rattle.redir_wire.specs.Table.{fields_at, plain_numbered}
 
--- the numbers of the types that move no data are below 100
+-- the numbers of the types that move no data are below those of the types that move some
 abbrev pub is_plain : ℕ → Bool
-is_plain number = nat_lt number 100
+is_plain number = nat_lt number FIRST_DATA
 
 -- an interface_info has no more interfaces than its fields have cells
 abbrev pub count_check : BodyCheck
-count_check = record { place = 0; needed = 4; tried = λ number. number == 4; passes = λ h b. not (h.kind == 4) || nat_le (le_at w32 0 b) MAX_INTERFACES; reason = Count }
+count_check = record { place = 0; needed = 4; tried = λ number. number == INTERFACE_INFO; passes = λ h b. not (h.kind == INTERFACE_INFO) || nat_le (le_at w32 0 b) MAX_INTERFACES; reason = Count }
 
 -- no header that passes its checks has another number than a type's
 abbrev pub control_at : Caps → Header → List ℕ → RedirControl

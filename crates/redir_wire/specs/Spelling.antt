@@ -4,6 +4,7 @@ use Rattle.redir_wire.specs.declared.packet.Caps.{Caps}
 use Rattle.redir_wire.specs.declared.packet.Header.{Header}
 use Rattle.redir_wire.specs.declared.packet.RedirControl.{RedirControl}
 use Rattle.redir_wire.specs.declared.packet.RedirControl.TheVariants as controls
+use Rattle.redir_wire.specs.declared.kind.TheConstants.{HELLO}
 use Rattle.redir_wire.specs.declared.kind.PlainKind.{PlainKind}
 use Rattle.redir_wire.specs.declared.kind.PlainKind.TheVariants as plain
 use Rattle.redir_wire.specs.Table.{plain_row, has_more, fixed_length}
@@ -60,4 +61,4 @@ header_of id caps p = record { kind = number_of p; length = length_of caps p; id
 
 -- a hello is the first packet of its stream, and no other is
 abbrev pub is_hello : RedirControl → Bool
-is_hello p = number_of p == 0
+is_hello p = number_of p == HELLO

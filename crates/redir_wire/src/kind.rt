@@ -8,9 +8,11 @@ use crate::packet::{Caps, MAX_HELLO_WORDS, Way};
 use crate::types::{data_types, plain_types};
 
 /// The number of `usb_redir_hello`.
-pub(crate) const HELLO: u32 = 0;
+pub const HELLO: u32 = 0;
 /// The number of `usb_redir_interface_info`.
-pub(crate) const INTERFACE_INFO: u32 = 4;
+pub const INTERFACE_INFO: u32 = 4;
+/// The first number of the types that move data.
+pub const FIRST_DATA: u32 = 100;
 
 /// The types of packets that move no data of a transfer ("Control packets").
 #[derive(Clone, Copy)]

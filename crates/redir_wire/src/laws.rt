@@ -5,6 +5,7 @@ ghost use Rattle.redir_wire.specs.Past.{HeadersSound, ReadByParts};
 ghost use Rattle.redir_wire.specs.Written.{PlainSound, ReadAgain};
 
 use crate::header::MAX_LENGTH;
+use crate::kind::{FIRST_DATA, HELLO, INTERFACE_INFO};
 use crate::packet::{Caps, INTERFACE_CELLS, MAX_HELLO_WORDS, MAX_INTERFACES};
 use usb_base::LONGEST_HOST_PACKET;
 
@@ -28,7 +29,8 @@ pub fn read_again()
     ensures { ReadAgain }
 {}
 
-/// The capabilities are the protocol's bits, five of which the gateway announces, and the limits are these.
+/// The capabilities are the protocol's bits, five of which the gateway announces, and the limits and the numbers of
+/// types that definitions name are these.
 pub fn protocol_numbers()
     ensures version { Caps.CONNECT_VERSION.0 ≡ 2 ^ 1 }
     ensures acknowledged { Caps.DISCONNECT_ACK.0 ≡ 2 ^ 3 }
@@ -36,6 +38,7 @@ pub fn protocol_numbers()
     ensures ids { Caps.WIDE_IDS.0 ≡ 2 ^ 5 }
     ensures lengths { Caps.WIDE_BULK_LENGTH.0 ≡ 2 ^ 6 }
     ensures announced { Caps.ANNOUNCED.0 ≡ 2 ^ 1 + 2 ^ 3 + 2 ^ 4 + 2 ^ 5 + 2 ^ 6 }
+    ensures types { (HELLO ≡ 0) × (INTERFACE_INFO ≡ 4) × (FIRST_DATA ≡ 100) }
     ensures words { MAX_HELLO_WORDS ≡ 32 }
     ensures tables { (MAX_INTERFACES ≡ 32) × (INTERFACE_CELLS ≡ 32) }
     ensures longest { (MAX_LENGTH ≡ 16777216 + 64) × (LONGEST_HOST_PACKET ≡ 16 + MAX_LENGTH) }

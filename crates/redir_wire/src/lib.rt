@@ -16,7 +16,9 @@ mod write;
 
 pub use field::{FieldWriter, Wire};
 pub use header::{MAX_LENGTH, header_size, read_header};
-pub use kind::{DataKind, Kind, More, PlainKind, Tail, TypeRow, is_left_out};
+pub use kind::{
+    DataKind, FIRST_DATA, HELLO, INTERFACE_INFO, Kind, More, PlainKind, Tail, TypeRow, is_left_out,
+};
 pub use laws::{headers_sound, plain_sound, protocol_numbers, read_again, read_by_parts};
 pub use next::next_control;
 pub use packet::{

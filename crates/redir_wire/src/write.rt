@@ -7,6 +7,7 @@ ghost use Rattle.redir_wire.specs.Written.{CanWrite, packet_bytes};
 
 use crate::field::Wire;
 use crate::header::is_wide;
+use crate::kind::HELLO;
 use crate::packet::{Caps, Header, RedirControl};
 use byteorder::{ByteOrder, LittleEndian};
 use usb_base::{Bytes, Memory};
@@ -34,7 +35,11 @@ fn push_control(packet: &RedirControl, id: u64, caps: Caps, out: &mut Bytes) -> 
     let row = packet.kind().row();
     let kind = row.number;
     let length = packet.length(caps);
-    push_header(is_wide(kind == 0, caps), &Header { kind, length, id }, out)?;
+    push_header(
+        is_wide(kind == HELLO, caps),
+        &Header { kind, length, id },
+        out,
+    )?;
     packet.write_fields(row.has_more(caps), &Wire, out)?;
     Ok(())
 }

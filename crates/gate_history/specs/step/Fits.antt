@@ -8,7 +8,7 @@ use Rattle.redir_wire.specs.declared.packet.RedirControl.TheVariants as plain
 use Rattle.redir_wire.specs.Header.{IdFits}
 use Rattle.redir_data.specs.declared.packet.RedirPacket.{RedirPacket}
 use Rattle.redir_data.specs.declared.packet.RedirPacket.TheVariants.{Plain}
-use Rattle.redir_data.specs.declared.redir.TheConstants.{FIRST_DATA}
+use Rattle.redir_wire.specs.declared.kind.TheConstants.{FIRST_DATA}
 use Rattle.redir_data.specs.Spelling.{data_count}
 use Rattle.gate_history.specs.declared.item.Item.{Item}
 use Rattle.gate_history.specs.declared.item.Item.TheVariants.{Asked, ClientWrong, ClientLeft, Told, HostWrong, HostLeft}

@@ -14,7 +14,7 @@ use Rattle.usbip_urb.specs.Sizes.{body_size}
 use Rattle.redir_wire.specs.declared.packet.Caps.{Caps}
 use Rattle.redir_wire.specs.declared.packet.Way.TheVariants.{ToGuest}
 use Rattle.redir_wire.specs.Table.{plain_row}
-use Rattle.redir_data.specs.declared.redir.TheConstants.{FIRST_DATA}
+use Rattle.redir_wire.specs.declared.kind.TheConstants.{FIRST_DATA}
 use Rattle.redir_data.specs.Spelling.{data_count}
 use Rattle.control_route.specs.declared.route.Route.{Route}
 use Rattle.control_route.specs.declared.route.Route.TheVariants as route
