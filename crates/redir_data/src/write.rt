@@ -60,7 +60,7 @@ pub fn write_iso_out(
     caps: Caps,
     out: &mut Bytes,
 ) -> Result<(), Memory>
-    requires few { length body.now ≤ 65535 }
+    requires few { length body.now ≤ u16.MAX }
     requires id_fits { IdFits (is_wide false caps) id }
     ensures ok { OnOk result (out.new ≡ out.old ++ packet_bytes id caps (Iso endpoint 0 (length body.now) body.now)) }
     ensures err { OnErr result (out.new ≡ out.old) }
@@ -77,7 +77,7 @@ fn push_iso_out(
     caps: Caps,
     out: &mut Bytes,
 ) -> Result<(), Memory>
-    requires few { length body.now ≤ 65535 }
+    requires few { length body.now ≤ u16.MAX }
     requires id_fits { IdFits (is_wide false caps) id }
     ensures { AppendsSome result out.old out.new (packet_bytes id caps (Iso endpoint 0 (length body.now) body.now)) }
 {

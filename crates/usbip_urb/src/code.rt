@@ -30,7 +30,7 @@ pub const MAX_ENDPOINT: u32 = 15;
 /// How many submits may be in flight.
 pub const MAX_LIVE: usize = 4096;
 /// The longest isochronous packet, in bytes.
-pub const MAX_PACKET_LENGTH: u32 = 65_535;
+pub const MAX_PACKET_LENGTH: u32 = u16::MAX as u32;
 
 /// How many bytes a packet has up to its body.
 pub const HEAD_SIZE: usize = 48;
