@@ -25,9 +25,9 @@ pub enum Status {
     /// The line of this number, counted from 1, is the first that isn't in the tape's grammar or passes its
     /// limit.
     BadTape(u64),
-    /// Nothing came for as long as was asked.
+    /// Nothing came for as many rounds as was asked.
     Idle,
-    /// As much came as was asked.
+    /// As much came as may.
     Spent,
 }
 
