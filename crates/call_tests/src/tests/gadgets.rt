@@ -13,25 +13,24 @@ use usb_base::{Bytes, EpAddr, Memory, Outcome, Setup, StreamPacket, Transfer, Us
 // 1, `send` sends bytes to OUT endpoint 1, and `want` wants so many bytes of IN endpoint 1. There come a status, how
 // many bytes went or came, and those that came; or nothing.
 
-// Its reports are of the key A, and of B.
 const KEYBOARD: &str = "
     offer | nothing
     ask SET_CONFIGURATION | ok 0
-    offer | ok 8 0000040000000000
+    offer | ok 8 KEY_A
     ask HALT_IN | ok 0
     offer | nothing
     ask CLEAR_HALT_IN | ok 0
-    offer | ok 8 0000050000000000
+    offer | ok 8 KEY_B
     ask HALT_IN | ok 0
     offer | nothing
     ask SET_CONFIGURATION | ok 0
-    offer | ok 8 0000040000000000
+    offer | ok 8 KEY_A
     ask SETTING_1 | stall 0
-    offer | ok 8 0000050000000000
+    offer | ok 8 KEY_B
     ask SETTING_0 | ok 0
-    offer | ok 8 0000040000000000
+    offer | ok 8 KEY_A
     ask GET_CONFIGURATION | ok 1 01
-    offer | ok 8 0000050000000000
+    offer | ok 8 KEY_B
     want 8 | stall 0
     ask PORT_RESET | ok 0
     offer | nothing

@@ -19,15 +19,15 @@ pub const READS_AND_WRITES: &str = "
     g GH | EPU IIU DCL |
     g SET @1 01 | |
     p 00 | EPL II8 STATUS @1 0001 | done 1
-    g 65000000 0e000000 @2 01000400000000000000 a1a2a3a4 | |
+    g BULK_4 @2 01000400000000000000 a1a2a3a4 | |
     p 01 | BULK @2 01000400000000000000 | done 2
     g CANCEL @2 | |
     p 01 | | not ready 0
     g BULK @3 81000200000000000000 | |
     p 81 | 65000000 0c000000 @3 81000200000000000000 a1a2 | done 3
     g BULK @4 81000900000000000000 | |
-    x | 02000000 00000000 00*8 | gone 0
-    g 18000000 00000000 00*8 SET @5 00 | |
+    x | UNPLUGGED | gone 0
+    g UNPLUGGED_ACK SET @5 00 | |
     p 81 | | unplugged 0
     o 81 | | unplugged 0
     x | | gone before 0
@@ -37,22 +37,22 @@ pub const READS_AND_WRITES: &str = "
 pub const STREAMS: &str = "
     g GH | EPU IIU DCK |
     o 81 | | closed 0
-    g 0f000000 01000000 @9 81 | 11000000 02000000 @9 0281 |
+    g START_INTERRUPT @9 81 | INTERRUPT_STATUS @9 0281 |
     g SET @1 01 | |
     p 80 | EPK II8 STATUS @1 0001 | done 1
-    g 0f000000 01000000 @2 81 | 11000000 02000000 @2 0081 |
-    o 81 | 67000000 0c000000 00*8 81000800 0000040000000000 | sent 0
-    o 81 | 67000000 0c000000 00*8 81000800 0000050000000000 | sent 0
+    g START_INTERRUPT @2 81 | INTERRUPT_STATUS @2 0081 |
+    o 81 | REPORT KEY_A | sent 0
+    o 81 | REPORT KEY_B | sent 0
     # starts that can't be, of an endpoint that isn't there, of OUT, of another type, and of no address
-    g 0f000000 01000000 @3 82 | 11000000 02000000 @3 0282 |
-    g 0f000000 01000000 @3 01 | 11000000 02000000 @3 0201 |
-    g 0c000000 03000000 @3 810101 | 0e000000 02000000 @3 0281 |
-    g 0f000000 01000000 @3 91 | 11000000 02000000 @3 0291 |
-    o 81 | 67000000 0c000000 00*8 81000800 0000060000000000 | sent 0
+    g START_INTERRUPT @3 82 | INTERRUPT_STATUS @3 0282 |
+    g START_INTERRUPT @3 01 | INTERRUPT_STATUS @3 0201 |
+    g START_ISO @3 810101 | ISO_STATUS @3 0281 |
+    g START_INTERRUPT @3 91 | INTERRUPT_STATUS @3 0291 |
+    o 81 | REPORT KEY_C | sent 0
     # a stop of either type ends it, and a second one succeeds
-    g 0d000000 01000000 @4 81 | 0e000000 02000000 @4 0081 |
+    g STOP_ISO @4 81 | ISO_STATUS @4 0081 |
     o 81 | | closed 0
-    g 10000000 01000000 @5 81 | 11000000 02000000 @5 0081 |
+    g STOP_INTERRUPT @5 81 | INTERRUPT_STATUS @5 0081 |
 ";
 
 /// A change ends the streams that it touches.
@@ -60,19 +60,19 @@ pub const CHANGES: &str = "
     g GH | EPU IIU DCT |
     g SET @1 01 | |
     p 00 | EPU II8 STATUS @1 0001 | done 1
-    g 09000000 02000000 @2 0001 | |
-    p 00 | EPT II8 0b000000 03000000 @2 000001 | done 2
-    g 0c000000 03000000 @3 810101 | 0e000000 02000000 @3 0081 |
-    o 81 | 66000000 c4000000 00*8 8100c000 00*192 | sent 0
-    o 81 | 66000000 c4000000 00*8 8100c000 01*192 | sent 0
+    g SET_ALT @2 0001 | |
+    p 00 | EPT II8 ALT_STATUS @2 000001 | done 2
+    g START_ISO @3 810101 | ISO_STATUS @3 0081 |
+    o 81 | SOUND 00*192 | sent 0
+    o 81 | SOUND 01*192 | sent 0
     # a change that the device refuses ends none
-    g 09000000 02000000 @4 0007 | |
-    p 00 | EPT II8 0b000000 03000000 @4 040007 | done 4
-    o 81 | 66000000 c4000000 00*8 8100c000 02*192 | sent 0
-    g 0a000000 01000000 @5 00 | |
-    p 00 | 0b000000 03000000 @5 000001 | done 5
-    g 09000000 02000000 @6 0000 | |
-    p 00 | EPU II8 0b000000 03000000 @6 000000 | done 6
+    g SET_ALT @4 0007 | |
+    p 00 | EPT II8 ALT_STATUS @4 040007 | done 4
+    o 81 | SOUND 02*192 | sent 0
+    g GET_ALT @5 00 | |
+    p 00 | ALT_STATUS @5 000001 | done 5
+    g SET_ALT @6 0000 | |
+    p 00 | EPU II8 ALT_STATUS @6 000000 | done 6
     o 81 | | closed 0
 ";
 
@@ -84,7 +84,7 @@ pub const FLUSHES: &str = "
     g BULK @3 81000200000000000000 CONTROL @4 8006800000010000 1200 | |
     g SET @6 00 BULK @7 8200020000000000 0000 | |
     # endpoint 0 keeps its order, and what waits there is never flushed
-    p 00 | 64000000 1c000000 @4 8006800000010000 1200 12010002 00000040 f0ff0200 00010001 0001 | done 4
+    p 00 | 64000000 1c000000 @4 8006800000010000 1200 DEVICE | done 4
     p 80 | BULK @3 8101 00*8 BULK @7 8201 00*8 EPU IIU STATUS @6 0000 | done 6
     p 81 | | not ready 0
     g SET @8 05 | |
@@ -151,9 +151,9 @@ pub const CANNOT_BE_ASKED: &str = "
     g CONTROL @3 8106800000010000 1200 | CONTROL @3 81068002 00010000 0000 |
     g CONTROL @3 8005000000000000 0000 | CONTROL @3 80050002 00000000 0000 |
     # interrupt of endpoint 0
-    g 67000000 04000000 @4 00000000 | 67000000 04000000 @4 00020000 |
+    g INTERRUPT @4 00000000 | INTERRUPT @4 00020000 |
     # of other endpoints nothing is asked by interrupt packets that want data, and by isochronous ones
-    g 67000000 04000000 @4 81000800 66000000 04000000 @4 81000800 66000000 04000000 @4 31000000 | |
+    g INTERRUPT @4 81000800 ISO @4 81000800 ISO @4 31000000 | |
     # 16 MiB
     g BULK @5 8100000000000000 0001 | |
     p 81 | | not ready 0
@@ -169,7 +169,7 @@ pub const WRONG_TYPE: &str = "
     g SET @3 01 | |
     p 00 | EPU IIU STATUS @2 0000 | done 2
     p 00 | | not ready 0
-    x | 02000000 00000000 00*8 | gone 0
+    x | UNPLUGGED | gone 0
 ";
 
 /// A guest that says no hello first.
@@ -186,7 +186,7 @@ pub const UNPLUGGED: &str = "
     g GH | EPU IIU DCL |
     g SET @1 01 | |
     p 00 | EPL II8 STATUS @1 0001 | done 1
-    x | 02000000 00000000 00*8 | gone 0
+    x | UNPLUGGED | gone 0
     g BULK @2 8100020000000000 0000 CANCEL @2 0f | |
     g 00000001000000 @3 81 1e000000 | | UnknownType 156
 ";
@@ -194,13 +194,13 @@ pub const UNPLUGGED: &str = "
 /// A guest that announces no capability.
 pub const ANNOUNCES_NOTHING: &str = "
     g GH0 | 05000000 60000000 00000000 00 ff*15 00 ff*15 00*64 04000000 84000000 00000000 00*132 01000000 08000000 00000000 02000000f0ff0200 |
-    g 06000000 01000000 01000000 01 | |
-    p 00 | 05000000 60000000 00000000 0002 ff*14 0002 ff*14 00*64 04000000 84000000 00000000 01000000 00*32 ff 00*31 00*64 08000000 02000000 01000000 0001 | done 1
+    g SET 01000000 01 | |
+    p 00 | 05000000 60000000 00000000 0002 ff*14 0002 ff*14 00*64 04000000 84000000 00000000 01000000 00*32 ff 00*31 00*64 STATUS 01000000 0001 | done 1
     g 65000000 08000000 02000000 8100ffff00000000 | |
-    g 15000000 00000000 02000000 | 65000000 08000000 02000000 8101000000000000 | cancelled 2
+    g CANCEL 02000000 | 65000000 08000000 02000000 8101000000000000 | cancelled 2
 ";
 
 /// A guest whose bytes come one by one.
 pub const BYTE_BY_BYTE: &str = "
-    b GH BULK @2 8000020000000000 0000 65000000 0e000000 @3 1100040000000000 0000 a1a2a3a4 | EPU IIU DCL BULK @2 8002 00*8 BULK @3 1102 00*8 |
+    b GH BULK @2 8000020000000000 0000 BULK_4 @3 1100040000000000 0000 a1a2a3a4 | EPU IIU DCL BULK @2 8002 00*8 BULK @3 1102 00*8 |
 ";

@@ -10,7 +10,7 @@ use usb_base::{Bytes, EpAddr, Memory, Outcome, Setup, Transfer, UsbStatus};
 /// device is reset, or configured and ready, or so with its IN endpoint 1 halted.
 const ROWS: &str = "
     # what is read
-    reset 8006000100001200 reset DEVICE
+    reset GET_DEVICE reset DEVICE
     reset 8006000100000800 reset 12 01 00 02 00 00 00 40
     ready 8006000100000000 ready
     ready 800600020000ff00 ready CONFIGURATION
@@ -25,23 +25,23 @@ const ROWS: &str = "
     halted 8200000001000200 halted 00 00
     halted 8200000080000100 halted 00
     reset 8200000000000200 reset 00 00
-    reset 8008000000000100 reset 00
+    reset GET_CONFIGURATION reset 00
     ready 8008000000000200 ready 01
     ready 8008000000000000 ready
     ready 810a000000000100 ready 00
     # what is changed
-    ready 0203000081000000 halted
-    halted 0203000081000000 halted
+    ready HALT_IN halted
+    halted HALT_IN halted
     ready 0203000080000000 ready
-    halted 0201000081000000 ready
+    halted CLEAR_HALT_IN ready
     halted 0201000001000000 halted
-    ready 0201000081000000 ready
-    reset 0005070000000000 reset
-    reset 0009010000000000 ready
-    halted 0009010000000000 ready
-    halted 0009000000000000 reset
-    halted 010b000000000000 ready
-    halted 2303040001000000 reset
+    ready CLEAR_HALT_IN ready
+    reset SET_ADDRESS reset
+    reset SET_CONFIGURATION ready
+    halted SET_CONFIGURATION ready
+    halted CLEAR_CONFIGURATION reset
+    halted SETTING_0 ready
+    halted PORT_RESET reset
     # what is refused, and changes nothing
     ready 800602030904ff00 refused
     ready 8006010100001200 refused
@@ -55,18 +55,18 @@ const ROWS: &str = "
     ready 8200000081010200 refused
     ready 0203010081000000 refused
     ready 0203000002000000 refused
-    reset 0203000081000000 refused
+    reset HALT_IN refused
     halted 0201010081000000 refused
     halted 0003010000000000 refused
     reset 0005070000000100 refused
     halted 0009020000000000 refused
     halted 0009010100000000 refused
     halted 0009010000000100 refused
-    halted 010b010000000000 refused
+    halted SETTING_1 refused
     halted 010b000100000000 refused
     halted 010b000001000000 refused
     halted 010b000000000100 refused
-    reset 010b000000000000 refused
+    reset SETTING_0 refused
     ready 810a000001000100 refused
     reset 810a000000000100 refused
     halted 2303080001000000 refused
