@@ -19,11 +19,17 @@ impl Packets {
         }
     }
 
-    /// Adds a packet: its name and its bytes.
+    /// Adds a packet: its name and its bytes, among which packets may stand that have names.
     pub fn add(&mut self, alloc: Global, packet: &str) -> Result<(), Memory> {
-        let (name, bytes) = packet.split_once(' ').unwrap_or((packet, ""));
-        let name = name.to_string(alloc)?;
-        self.named.push((name, bytes.to_string(alloc)?))?;
+        let (name, pieces) = packet.split_once(' ').unwrap_or((packet, ""));
+        let mut bytes = String::new(alloc);
+        for (at, piece) in pieces.split(' ').enumerate() {
+            if at > 0 {
+                bytes.push(' ')?;
+            }
+            bytes.push_str(self.named(piece))?;
+        }
+        self.named.push((name.to_string(alloc)?, bytes))?;
         Ok(())
     }
 
