@@ -1,4 +1,4 @@
-//! The loop between sockets: events come from the links of both sides in turn, and what is served, the gateway or a
+//! The loop between links: events come from the links of both sides in turn, and what is served, the gateway or a
 //! modelled device that is lent to a guest, sends back to these.
 #![tactic(auto)]
 

@@ -1,4 +1,4 @@
-//! A modelled device between sockets: the guest comes to a door.
+//! A modelled device between links: the guest comes to a door.
 
 ghost use Rattle.std.specs.Prelude.{◌≡◌, ◌≤◌, false, None};
 ghost use Rattle.usb_base.specs.declared.side.Side.TheVariants.{Client, Host};

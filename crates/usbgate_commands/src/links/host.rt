@@ -1,4 +1,4 @@
-//! The command `host`: a modelled device between sockets.
+//! The command `host`: a modelled device that is lent to a guest over its link.
 
 ghost use Rattle.std.specs.Prelude.{◌≡◌, ◌≤◌, false};
 ghost use Rattle.usb_base.specs.declared.side.Side.TheVariants.{Client, Host};

@@ -1,4 +1,4 @@
-//! The command `serve`: the gateway between sockets.
+//! The command `serve`: the gateway between the links of a host and of its clients.
 
 ghost use Rattle.std.specs.Prelude.{◌≡◌, ◌≤◌, ◌<◌, ◌^◌, true, false, is_some, IfSome, OnOk, IfErr};
 ghost use Rattle.usb_base.specs.declared.side.Side.TheVariants.{Client, Host};

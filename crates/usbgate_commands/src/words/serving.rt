@@ -1,4 +1,4 @@
-//! What the gateway between sockets is asked.
+//! What the gateway between links is asked.
 
 use bridge_run::AfterLoss;
 use std::marker::Model;
