@@ -2,6 +2,7 @@
 
 ghost use Rattle.std.specs.Prelude.{◌≡◌, ◌<◌, ◌++◌, length, OnOk, OnErr};
 ghost use Rattle.std.specs.List.{flat_map};
+ghost use Rattle.packet_stream.specs.Writes.{Begins};
 ghost use Rattle.gate_history.specs.write.Refusals.{refusal_in};
 
 use usb_base::{EpAddr, List, Memory, Refusal};
@@ -33,6 +34,7 @@ pub type Notes = List<Note>;
 /// Appends the refusals among the notes, in order. Only a refusal wants memory.
 pub fn push_refusals(notes: &Notes, refusals: &mut List<Refusal>) -> Result<(), Memory>
     ensures pushed { OnOk result (refusals.new ≡ refusals.old ++ flat_map refusal_in notes.now) }
+    ensures err { OnErr result (Begins refusals.old refusals.new) }
     ensures wants { OnErr result (0 < length (flat_map refusal_in notes.now)) }
 {
     for note in notes.as_slice() {
