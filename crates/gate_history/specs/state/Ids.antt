@@ -1,5 +1,5 @@
 -- How ids are drawn: in turn from 1 to the greatest, past those that are in flight.
-use Rattle.std.specs.Prelude.{◌≡◌, ℕ, zero, suc, ◌+◌, ◌≤◌, ◌==◌, nat_lt, nat_eq, Bool, true, false, if◌then◌else◌, List, [], ◌∷◌, length, fold}
+use Rattle.std.specs.Prelude.{◌≡◌, ℕ, zero, suc, ◌+◌, ◌-◌, ◌^◌, ◌≤◌, ◌==◌, nat_lt, nat_eq, Bool, true, false, if◌then◌else◌, List, [], ◌∷◌, length, fold}
 use Rattle.std.specs.List.{list_any, AllByRecursion, IsDistinct}
 
 -- the id after this one; 1 comes after m
@@ -29,7 +29,7 @@ last_of last ids = fold (λ before id. id) last ids
 
 -- the greatest id, without 64-bit ids and with them
 abbrev pub greatest : Bool → ℕ
-greatest wide = if wide then 18446744073709551615 else 4294967295
+greatest wide = if wide then 2 ^ 64 - 1 else 2 ^ 32 - 1
 
 -- ---- the same by a relation
 
