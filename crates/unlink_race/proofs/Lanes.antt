@@ -1,24 +1,24 @@
 -- What a change of an arena's lanes makes of what is found by a key, and of how many values there are.
 use Rattle.std.proofs.Common.{◌≡◌, ◌≢◌, ◌==◌, ℕ, zero, suc, ◌+◌, ◌<◌, cond, List, [], ◌∷◌, ◌++◌, length, map, get_or, set, Option, Some, None, refl, ap, sym, ◌∙◌, arith, inl, inr}
-use Rattle.std.specs.Option.{option_map}
+use Rattle.std.specs.Option.{option_map, option_or}
 use Rattle.std.proofs.lemmas.Bool.{ne_eqb, eq-eqb, cases_eq}
 use Rattle.std.proofs.lemmas.List.{length-append}
-use Rattle.urb_arena.specs.Lanes.{find, without, replaced, count, or_else, find_in}
+use Rattle.urb_arena.specs.Lanes.{find, without, replaced, count, find_in}
 
 module _ {X : Type 0} where
-  or_else_none : (o : Option X) → or_else o None ≡ o
-  or_else_none None = refl
-  or_else_none (Some x) = refl
+  option_or_none : (o : Option X) → option_or o None ≡ o
+  option_or_none None = refl
+  option_or_none (Some x) = refl
 
-  or_else_map : (f : X → X) (o q : Option X) → or_else (option_map f o) (option_map f q) ≡ option_map f (or_else o q)
-  or_else_map f None q = refl
-  or_else_map f (Some x) q = refl
+  option_or_map : (f : X → X) (o q : Option X) → option_or (option_map f o) (option_map f q) ≡ option_map f (option_or o q)
+  option_or_map f None q = refl
+  option_or_map f (Some x) q = refl
 
-  none_left : (o q : Option X) → or_else o q ≡ None → o ≡ None
+  none_left : (o q : Option X) → option_or o q ≡ None → o ≡ None
   none_left None q is = refl
   none_left (Some x) q is = is
 
-  none_right : (o q : Option X) → or_else o q ≡ None → q ≡ None
+  none_right : (o q : Option X) → option_or o q ≡ None → q ≡ None
   none_right None q is = is
   none_right (Some x) q is = let e : Some x ≡ None = is in absurd (cc)
 
@@ -31,7 +31,7 @@ module _ {X : Type 0} where
 
   -- ---- a pair comes last in its lane
 
-  find_more : (k : ℕ) (ps : List (ℕ × X)) (q : ℕ × X) → find k (ps ++ q ∷ []) ≡ or_else (find k ps) (find k (q ∷ []))
+  find_more : (k : ℕ) (ps : List (ℕ × X)) (q : ℕ × X) → find k (ps ++ q ∷ []) ≡ option_or (find k ps) (find k (q ∷ []))
   find_more k [] q = refl
   find_more k (p ∷ ps) q =
       elim (cases_eq p.0 k) [
@@ -42,15 +42,15 @@ module _ {X : Type 0} where
   pub found_pushed : (k : ℕ) (x : X) (pss : List (List (ℕ × X))) (l : ℕ) → l < length pss → find_in k pss ≡ None → find_in k (set pss l (get_or pss l [] ++ (k, x) ∷ [])) ≡ Some x
   found_pushed k x [] l within none = absurd (omega (arith, within))
   found_pushed k x (ps ∷ pss) zero within none =
-      ap (λ o. or_else o (find_in k pss)) (find_more k ps (k, x) ∙ ap (λ o. or_else o (find k ((k, x) ∷ []))) (none_left (find k ps) (find_in k pss) none) ∙ here k k x [] refl)
+      ap (λ o. option_or o (find_in k pss)) (find_more k ps (k, x) ∙ ap (λ o. option_or o (find k ((k, x) ∷ []))) (none_left (find k ps) (find_in k pss) none) ∙ here k k x [] refl)
   found_pushed k x (ps ∷ pss) (suc l) within none =
-      ap (λ o. or_else o (find_in k (set pss l (get_or pss l [] ++ (k, x) ∷ [])))) (none_left (find k ps) (find_in k pss) none) ∙ found_pushed k x pss l (omega (arith, within)) (none_right (find k ps) (find_in k pss) none)
+      ap (λ o. option_or o (find_in k (set pss l (get_or pss l [] ++ (k, x) ∷ [])))) (none_left (find k ps) (find_in k pss) none) ∙ found_pushed k x pss l (omega (arith, within)) (none_right (find k ps) (find_in k pss) none)
 
   pub others_pushed : (j k : ℕ) (x : X) → j ≢ k → (pss : List (List (ℕ × X))) (l : ℕ) → find_in j (set pss l (get_or pss l [] ++ (k, x) ∷ [])) ≡ find_in j pss
   others_pushed j k x other [] l = refl
   others_pushed j k x other (ps ∷ pss) zero =
-      ap (λ o. or_else o (find_in j pss)) (find_more j ps (k, x) ∙ ap (or_else (find j ps)) (passed j (k, x) [] (λ h. other (sym h))) ∙ or_else_none (find j ps))
-  others_pushed j k x other (ps ∷ pss) (suc l) = ap (or_else (find j ps)) (others_pushed j k x other pss l)
+      ap (λ o. option_or o (find_in j pss)) (find_more j ps (k, x) ∙ ap (option_or (find j ps)) (passed j (k, x) [] (λ h. other (sym h))) ∙ option_or_none (find j ps))
+  others_pushed j k x other (ps ∷ pss) (suc l) = ap (option_or (find j ps)) (others_pushed j k x other pss l)
 
   pub count_pushed : (q : ℕ × X) (pss : List (List (ℕ × X))) (l : ℕ) → l < length pss → count (set pss l (get_or pss l [] ++ q ∷ [])) ≡ count pss + 1
   count_pushed q [] l within = absurd (omega (arith, within))
@@ -69,7 +69,7 @@ module _ {X : Type 0} where
 
   pub others_removed : (j k : ℕ) → j ≢ k → (pss : List (List (ℕ × X))) → find_in j (map (without k) pss) ≡ find_in j pss
   others_removed j k other [] = refl
-  others_removed j k other (ps ∷ pss) = (λ i. or_else (find_without j k other ps i) (others_removed j k other pss i))
+  others_removed j k other (ps ∷ pss) = (λ i. option_or (find_without j k other ps i) (others_removed j k other pss i))
 
   -- ---- a value is written anew
 
@@ -84,7 +84,7 @@ module _ {X : Type 0} where
   pub found_replaced : (k : ℕ) (x : X) (pss : List (List (ℕ × X))) → find_in k (map (replaced k x) pss) ≡ option_map (λ _. x) (find_in k pss)
   found_replaced k x [] = refl
   found_replaced k x (ps ∷ pss) =
-      (λ i. or_else (find_replaced k x ps i) (found_replaced k x pss i)) ∙ or_else_map (λ _. x) (find k ps) (find_in k pss)
+      (λ i. option_or (find_replaced k x ps i) (found_replaced k x pss i)) ∙ option_or_map (λ _. x) (find k ps) (find_in k pss)
 
   find_beside : (j k : ℕ) (x : X) → j ≢ k → (ps : List (ℕ × X)) → find j (replaced k x ps) ≡ find j ps
   find_beside j k x other [] = refl
@@ -96,7 +96,7 @@ module _ {X : Type 0} where
 
   pub others_replaced : (j k : ℕ) (x : X) → j ≢ k → (pss : List (List (ℕ × X))) → find_in j (map (replaced k x) pss) ≡ find_in j pss
   others_replaced j k x other [] = refl
-  others_replaced j k x other (ps ∷ pss) = (λ i. or_else (find_beside j k x other ps i) (others_replaced j k x other pss i))
+  others_replaced j k x other (ps ∷ pss) = (λ i. option_or (find_beside j k x other ps i) (others_replaced j k x other pss i))
 
   length-replaced : (k : ℕ) (x : X) (ps : List (ℕ × X)) → length (replaced k x ps) ≡ length ps
   length-replaced k x [] = refl

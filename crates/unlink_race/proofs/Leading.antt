@@ -2,7 +2,8 @@
 use Rattle.std.proofs.Common.{◌≡◌, ℕ, zero, suc, ◌+◌, ◌<◌, ◌⊎◌, List, [], ◌∷◌, ◌++◌, map, get_or, Option, Some, None, refl, ap, sym, subst, ◌∙◌, arith, inl, inr}
 use Rattle.std.proofs.lemmas.Bool.{ne_eqb, eq-eqb, cases_eq}
 use Rattle.std.proofs.lemmas.List.{map-append}
-use Rattle.urb_arena.specs.Lanes.{find, key_after, first_key, or_else, search_in, ByKey}
+use Rattle.std.specs.Option.{option_or}
+use Rattle.urb_arena.specs.Lanes.{find, key_after, first_key, search_in, ByKey}
 use Rattle.unlink_race.specs.declared.live.Live.{Live}
 use Rattle.unlink_race.specs.Inner.Lane.{lane_of}
 use Rattle.unlink_race.specs.Inner.Listed.{Absent, IsKeyed}
@@ -88,12 +89,12 @@ module _ {X : Type 0} (g : ℕ → Option X) where
 
 -- ---- what is found by a key
 
-or_none : {Y : Type 0} (o : Option Y) → or_else o None ≡ o
+or_none : {Y : Type 0} (o : Option Y) → option_or o None ≡ o
 or_none None = refl
 or_none (Some y) = refl
 
-none_before : {Y : Type 0} (o q : Option Y) → o ≡ None → or_else o q ≡ q
-none_before o q none = ap (λ z. or_else z q) none
+none_before : {Y : Type 0} (o q : Option Y) → o ≡ None → option_or o q ≡ q
+none_before o q none = ap (λ z. option_or z q) none
 
 module _ {X : Type 0} where
   find_none : (k : ℕ) (ps : List (ℕ × X)) → (In k (keys ps) → ⊥) → find k ps ≡ None
@@ -131,7 +132,7 @@ module _ {X : Type 0} where
     search_home lane [] zero here placed = absurd here
     search_home lane [] (suc l) here placed = absurd here
     search_home lane (ps ∷ pss) zero here placed =
-        ap (or_else (h ps)) (none_behind lane (lane + 1) pss (subst (In k) placed.0 here) (omega arith) placed.1) ∙ or_none (h ps)
+        ap (option_or (h ps)) (none_behind lane (lane + 1) pss (subst (In k) placed.0 here) (omega arith) placed.1) ∙ or_none (h ps)
     search_home lane (ps ∷ pss) (suc l) here placed =
         let away : In k (keys ps) → ⊥ = λ first. (let same = one_lane g k lane (lane + 1 + l) rows kept (subst (In k) placed.0 first) (home (lane + 1) pss l here placed.1) in omega (arith, same)) in
         none_before (h ps) (search_in h pss) (skip ps away) ∙ search_home (lane + 1) pss l here placed.1

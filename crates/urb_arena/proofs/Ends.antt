@@ -2,7 +2,8 @@
 use Rattle.std.proofs.Common.{◌≡◌, ℕ, zero, suc, ◌+◌, ◌<◌, ◌≤◌, ◌⊎◌, inl, inr, List, [], ◌∷◌, length, map, replicate, get_or, Option, Some, None, refl, ap, sym, ◌∙◌, arith}
 use Rattle.std.proofs.lemmas.Bool.{eq-eqb, cases_eq}
 use Rattle.urb_arena.specs.Inner.Turns.{ring_of, row, In}
-use Rattle.urb_arena.specs.Lanes.{find, without, first_key, count, or_else, find_in}
+use Rattle.std.specs.Option.{option_or}
+use Rattle.urb_arena.specs.Lanes.{find, without, first_key, count, find_in}
 use Rattle.urb_arena.specs.Inner.Tables.{pairs, IsTable, lanes_of}
 use Rattle.urb_arena.specs.declared.table.Table.{Table}
 use Rattle.urb_arena.proofs.Joins.{total_at}
@@ -22,7 +23,7 @@ module _ {X : Type 0} where
   first_found k [] r e = absurd (differ k (sym e))
   first_found k (ps ∷ pss) zero e = here ps e
     where
-      here : (ps : List (ℕ × X)) → first_key ps ≡ Some k → (x : X) × (or_else (find k ps) (find_in k pss) ≡ Some x)
+      here : (ps : List (ℕ × X)) → first_key ps ≡ Some k → (x : X) × (option_or (find k ps) (find_in k pss) ≡ Some x)
       here [] e = absurd (differ k (sym e))
       here ((j, x) ∷ ps) e = (x, rw (eq-eqb j k (same e)) refl)
         where
@@ -30,7 +31,7 @@ module _ {X : Type 0} where
           same e = ap {B = ℕ} (λ (c : Option ℕ). elim c as (λ _. ℕ) [ None ↦ 0 | Some i ↦ i ]) e
   first_found k (ps ∷ pss) (suc r) e = more (find k ps) (first_found k pss r e)
     where
-      more : (c : Option X) → (x : X) × (find_in k pss ≡ Some x) → (x : X) × (or_else c (find_in k pss) ≡ Some x)
+      more : (c : Option X) → (x : X) × (find_in k pss ≡ Some x) → (x : X) × (option_or c (find_in k pss) ≡ Some x)
       more None rest = rest
       more (Some y) rest = (y, refl)
 

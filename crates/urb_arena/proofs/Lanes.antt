@@ -5,7 +5,8 @@ use Rattle.std.proofs.lemmas.List.{get_or-set_other}
 use Rattle.std.proofs.lemmas.Bool.{ne_eqb, eq-eqb, cases_eq}
 use Rattle.urb_arena.specs.Inner.Columns.{There}
 use Rattle.urb_arena.specs.Inner.Turns.{listed, In}
-use Rattle.urb_arena.specs.Lanes.{find, without, first_key, key_after, or_else, search_in}
+use Rattle.std.specs.Option.{option_or}
+use Rattle.urb_arena.specs.Lanes.{find, without, first_key, key_after, search_in}
 use Rattle.urb_arena.specs.Inner.Tables.{consed, pairs}
 use Rattle.urb_arena.proofs.Joins.{In-left, In-right}
 
@@ -146,30 +147,30 @@ module _ {Y : Type 0} where
       onto (x ∷ xs) y = ap (λ l. h x ∷ l) (onto xs y)
 
 module _ {X Y : Type 0} (g : List (ℕ × X) → Option Y) where
-  search_in-append : (pss : List (List (ℕ × X))) (ps : List (ℕ × X)) → search_in g (pss ++ ps ∷ []) ≡ or_else (search_in g pss) (g ps)
+  search_in-append : (pss : List (List (ℕ × X))) (ps : List (ℕ × X)) → search_in g (pss ++ ps ∷ []) ≡ option_or (search_in g pss) (g ps)
   search_in-append [] ps = or_none (g ps)
     where
-      or_none : (c : Option Y) → or_else c None ≡ c
+      or_none : (c : Option Y) → option_or c None ≡ c
       or_none None = refl
       or_none (Some y) = refl
-  search_in-append (qs ∷ pss) ps = ap (or_else (g qs)) (search_in-append pss ps) ∙ assoc (g qs) (search_in g pss) (g ps)
+  search_in-append (qs ∷ pss) ps = ap (option_or (g qs)) (search_in-append pss ps) ∙ assoc (g qs) (search_in g pss) (g ps)
     where
-      assoc : (a b c : Option Y) → or_else a (or_else b c) ≡ or_else (or_else a b) c
+      assoc : (a b c : Option Y) → option_or a (option_or b c) ≡ option_or (option_or a b) c
       assoc None b c = refl
       assoc (Some y) b c = refl
 
   pub search-none : (f : ℕ → List (ℕ × X)) (n : ℕ) → ((r : ℕ) → r < n → g (f r) ≡ None) → search_in g (listed f n) ≡ None
   search-none f zero none = refl
-  search-none f (suc n) none = search_in-append (listed f n) (f n) ∙ (λ i. or_else (search-none f n (λ r lt. none r (omega (arith, lt))) i) (none n (omega arith) i))
+  search-none f (suc n) none = search_in-append (listed f n) (f n) ∙ (λ i. option_or (search-none f n (λ r lt. none r (omega (arith, lt))) i) (none n (omega arith) i))
 
   -- where no other list has it
   pub search-one : (f : ℕ → List (ℕ × X)) (n i : ℕ) (c : Option Y) → g (f i) ≡ c → ((r : ℕ) → r < n → r ≢ i → g (f r) ≡ None) → i < n → search_in g (listed f n) ≡ c
   search-one f zero i c e none lt = absurd (omega arith)
   search-one f (suc n) i c e none lt = search_in-append (listed f n) (f n) ∙ elim (cases_eq i n) [
-    | inl same ↦ (λ j. or_else (search-none f n (λ r h. none r (omega (arith, h)) (λ q. omega (arith, h, q, same))) j) (g (f (sym same j)))) ∙ e
-    | inr other ↦ (λ j. or_else (search-one f n i c e (λ r h. none r (omega (arith, h))) (omega (arith, lt, other)) j) (none n (omega arith) (λ q. other (sym q)) j)) ∙ or_none c
+    | inl same ↦ (λ j. option_or (search-none f n (λ r h. none r (omega (arith, h)) (λ q. omega (arith, h, q, same))) j) (g (f (sym same j)))) ∙ e
+    | inr other ↦ (λ j. option_or (search-one f n i c e (λ r h. none r (omega (arith, h))) (omega (arith, lt, other)) j) (none n (omega arith) (λ q. other (sym q)) j)) ∙ or_none c
   ]
     where
-      or_none : (c : Option Y) → or_else c None ≡ c
+      or_none : (c : Option Y) → option_or c None ≡ c
       or_none None = refl
       or_none (Some y) = refl

@@ -1,5 +1,6 @@
 -- Lanes of keys and values: what is found by a key, and what a change leaves.
 use Rattle.std.specs.Prelude.{◌≡◌, ◌==◌, ℕ, ◌+◌, get_or, List, [], ◌∷◌, ◌++◌, length, Option, Some, None, if◌then◌else◌}
+use Rattle.std.specs.Option.{option_or}
 
 module _ {X : Type 0} where
   -- the value of the pair of k
@@ -30,15 +31,11 @@ module _ {X : Type 0} where
   count [] = 0
   count (ps ∷ pss) = length ps + count pss
 
-abbrev pub or_else : {Y : Type 0} → Option Y → Option Y → Option Y
-or_else None y = y
-or_else (Some x) y = Some x
-
 module _ {X Y : Type 0} where
   -- what g finds first in the lists
   abbrev pub search_in : (List (ℕ × X) → Option Y) → List (List (ℕ × X)) → Option Y
   search_in g [] = None
-  search_in g (ps ∷ pss) = or_else (g ps) (search_in g pss)
+  search_in g (ps ∷ pss) = option_or (g ps) (search_in g pss)
 
 abbrev pub find_in : {X : Type 0} → ℕ → List (List (ℕ × X)) → Option X
 find_in k pss = search_in (find k) pss
