@@ -1,15 +1,19 @@
 -- The one list of a table is that of all requests in flight.
-use Rattle.std.proofs.Common.{◌≡◌, ℕ, ◌-◌, ◌<◌, Bool, true, false, List, length, refl, ap, sym, ◌∙◌, arith}
+use Rattle.std.proofs.Common.{◌≡◌, ℕ, ◌-◌, ◌<◌, Bool, true, false, List, length, refl, ap, sym, ◌∙◌, arith, inl, inr}
 use Rattle.std.specs.List.{remove}
 use Rattle.std.proofs.lemmas.Bool.{lt-ltb, le-ltb}
 use Rattle.std.proofs.lemmas.List.{append-nil}
 use Rattle.unlink_race.specs.declared.live.Live.{Live}
-use Rattle.unlink_race.specs.Requests.{Requests, in_flight, without_at}
+use Rattle.unlink_race.specs.Requests.{Requests, OneIsEmpty, in_flight, without_at}
 use Rattle.unlink_race.specs.Inner.Sound.{requests_of}
 
 of_table : (gone : Bool) (table : List Live) → in_flight (requests_of gone table) ≡ table
 of_table true table = refl
 of_table false table = append-nil table
+
+pub one_empty : (gone : Bool) (table : List Live) → OneIsEmpty (requests_of gone table)
+one_empty true table = inl refl
+one_empty false table = inr refl
 
 pub held : (old : Requests) (gone : Bool) (table : List Live) → requests_of gone table ≡ old → table ≡ in_flight old
 held old gone table view = sym (of_table gone table) ∙ ap in_flight view

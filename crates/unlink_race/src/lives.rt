@@ -86,13 +86,19 @@ impl Lives {
     pub fn abandoned(&self) -> usize
         ensures len { result ≡ length self.now.abandoned }
         ensures bound { result ≤ MAX_LIVE }
-        ensures one_is_empty { OneIsEmpty self.now }
     {
         if self.client_gone {
             self.table.len()
         } else {
             0
         }
+    }
+
+    /// A law: of the two lists one is empty.
+    pub fn one_is_empty(&self)
+        ensures { OneIsEmpty self.now }
+    {
+        let _client_gone = self.client_gone;
     }
 
     /// Whether one with this number is live.

@@ -12,8 +12,7 @@ use std::alloc::Global;
 use std::marker::Model;
 use usb_base::Memory;
 
-/// Names a value of an arena. The key of a value that was taken out can be that of a later one; the default key never
-/// names any.
+/// Names a value of an arena. The key of a value that was taken out can be that of a later one.
 #[derive(Clone, Copy, PartialEq, Eq, Default)]
 pub struct Key {
     place: u32,
@@ -65,13 +64,19 @@ impl<T> Arena<T> {
         Ok(Arena { table })
     }
 
-    /// How many values there are, in all lanes together. Each stands under a key of its own.
+    /// How many values there are, in all lanes together.
     pub fn len(&self) -> usize
         ensures len { result ≡ count self.now.lanes }
         ensures within { result ≤ self.now.capacity }
-        ensures keys { ByKey self.now.lanes }
     {
         self.table.len()
+    }
+
+    /// A law: each value stands under a key of its own.
+    pub fn by_key(&self)
+        ensures { ByKey self.now.lanes }
+    {
+        self.table.by_key();
     }
 
     /// Puts a value at the back of a lane, under a key that names no other. A full arena hands it back.
@@ -80,10 +85,8 @@ impl<T> Arena<T> {
         ensures ok { IfOk result (λ k. (count self.old.lanes < self.old.capacity) × (find_in k self.old.lanes ≡ None) × (self.new ≡ arena_view (slice_set self.old.lanes lane (get_or self.old.lanes lane [] ++ (k, value) ∷ [])) self.old.capacity)) }
         ensures err { IfErr result (λ v. (v ≡ value) × (count self.old.lanes ≡ self.old.capacity) × (self.new ≡ self.old)) }
     {
-        match self.table.push_back(lane, value) {
-            Ok(place) => Ok(Key { place }),
-            Err(value) => Err(value),
-        }
+        let place = self.table.push_back(lane, value)?;
+        Ok(Key { place })
     }
 
     /// Takes the value of a key out of its lane, wherever it stands.

@@ -9,6 +9,8 @@ use crate::cells::{Base, Block, Cell, Deed, Links, allocate, deallocate};
 use std::alloc::{AllocError, Global};
 use std_alloc::room::may_hold;
 
+/// A block of cells: the ends of the lanes' rings, then that of the free cells', and behind these as many cells as there
+/// is room for values. A value's place in the block is its key.
 pub struct Table<T> {
     pub(crate) base: Base<T>,
     pub(crate) block: Block<T>,
@@ -42,6 +44,7 @@ fn first_links(at: usize, lanes: usize, total: usize) -> Links
 }
 
 impl<T> Table<T> {
+    /// One of so many lanes, all empty.
     pub(crate) fn new(alloc: Global, capacity: usize, lanes: usize) -> Result<Table<T>, AllocError>
         requires { (capacity ≤ MOST) × (lanes ≤ MOST) }
         ensures { IfOk result (λ t. IsTable t × (t.capacity ≡ capacity) × (lanes_of t ≡ replicate lanes [])) }
@@ -67,6 +70,7 @@ impl<T> Table<T> {
         })
     }
 
+    /// Whether the cell at a place stands in a lane.
     pub(crate) fn is_live(&self, place: u32) -> bool
         requires { IsTable self.now }
         ensures { IsTrue result ↔ ((self.now.lanes < place) × (place < length self.now.block.links) × (ring_of self.now.block.links place < self.now.lanes)) }
@@ -77,15 +81,22 @@ impl<T> Table<T> {
             && (self.block.link(self.base, place).ring as usize) < self.lanes
     }
 
+    /// How many values there are.
     pub(crate) fn len(&self) -> usize
         requires { IsTable self.now }
         ensures len { result ≡ count (lanes_of self.now) }
         ensures within { result ≤ self.now.capacity }
-        ensures keys { ByKey (lanes_of self.now) }
     {
         self.len
     }
 
+    /// A law: each value stands under a key of its own.
+    pub(crate) fn by_key(&self)
+        requires { IsTable self.now }
+        ensures { ByKey (lanes_of self.now) }
+    {}
+
+    /// The place of the first value of a lane.
     pub(crate) fn front(&self, lane: usize) -> Option<u32>
         requires { IsTable self.now × (lane < self.now.lanes) }
         ensures { MatchOption result (first_key (get_or (lanes_of self.now) lane []) ≡ None) (λ k. first_key (get_or (lanes_of self.now) lane []) ≡ Some k) }
@@ -98,6 +109,7 @@ impl<T> Table<T> {
         }
     }
 
+    /// The place of the value behind the one at this place, in its lane.
     pub(crate) fn next(&self, place: u32) -> Option<u32>
         requires { IsTable self.now }
         ensures { MatchOption result (key_after_in place (lanes_of self.now) ≡ None) (λ k. key_after_in place (lanes_of self.now) ≡ Some k) }
@@ -113,6 +125,7 @@ impl<T> Table<T> {
         }
     }
 
+    /// The value at a place.
     pub(crate) fn get(&self, place: u32) -> Option<&T>
         requires { IsTable self.now }
         ensures { option_copied result ≡ find_in place (lanes_of self.now) }
@@ -123,6 +136,7 @@ impl<T> Table<T> {
         Some(self.block.lend(self.base, place as usize))
     }
 
+    /// Puts a value at the back of a lane, in a free cell, whose place it gives. Where none is free it hands it back.
     pub(crate) fn push_back(&mut self, lane: usize, value: T) -> Result<u32, T>
         requires { IsTable self.old × (lane < self.old.lanes) }
         ensures table { IsTable self.new × (self.new.lanes ≡ self.old.lanes) × (self.new.capacity ≡ self.old.capacity) }
@@ -140,6 +154,7 @@ impl<T> Table<T> {
         Ok(place)
     }
 
+    /// Takes the value at a place out, and frees its cell.
     pub(crate) fn remove(&mut self, place: u32) -> Option<T>
         requires { IsTable self.old }
         ensures table { IsTable self.new × (self.new.lanes ≡ self.old.lanes) × (self.new.capacity ≡ self.old.capacity) }
