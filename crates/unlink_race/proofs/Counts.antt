@@ -1,10 +1,15 @@
 -- How many of a list pass a test, and whether any does.
-use Rattle.std.proofs.Common.{◌≡◌, ℕ, ◌+◌, Bool, cond, ltb, List, [], ◌∷◌, ◌++◌, ◌||◌, Some, get_or, set, refl, ap, sym, ◌∙◌, arith, inl, inr}
+use Rattle.std.proofs.Common.{◌≡◌, ℕ, ◌+◌, Bool, true, false, cond, ltb, List, [], ◌∷◌, ◌++◌, ◌||◌, Some, get_or, set, refl, ap, sym, ◌∙◌, arith, inl, inr}
 use Rattle.std.specs.List.{count_by, list_any, remove, slice_get}
 use Rattle.std.proofs.lemmas.Bool.{lt-ltb, cases_Bool}
 use Rattle.std.proofs.lemmas.List.Sums.{sum_by_push, sum_by-remove, sum_by-set}
 use Rattle.std.proofs.lemmas.Option.{slice_get_within, get_or_from_slice_get}
+use mir.Val.{bool_byte}
 use Rattle.unlink_race.proofs.Firsts.{counted, uncounted}
+
+pub one_for : (b : Bool) → bool_byte b ≡ cond b 1 0
+one_for true = refl
+one_for false = refl
 
 module _ {X : Type 0} (p : X → Bool) where
   pub some_counted : (xs : List X) → list_any p xs ≡ ltb 0 (count_by p xs)

@@ -36,20 +36,21 @@ impl By {
     }
 }
 
+/// The number of a key's request.
 fn number_of(arena: &Arena<(u64, Live)>, key: Key, by: By) -> Option<u64>
     ensures { result ≡ number_at by arena.now.lanes key }
 {
     Some(by.of(&arena.get(key)?.1))
 }
 
-// How the number of a key's request compares to this one.
+/// How the number of a key's request compares to this one.
 fn compared(arena: &Arena<(u64, Live)>, key: Key, by: By, number: u64) -> Ordering
     ensures { result ≡ option_cmp nat_cmp (number_at by arena.now.lanes key) (Some number) }
 {
     number_of(arena, key, by).cmp(&Some(number))
 }
 
-// Where the first of this number stands, or would: those before it have lesser numbers, and those from it on don't.
+/// Where the first of this number stands, or would: those before it have lesser numbers, and those from it on don't.
 fn place_before(arena: &Arena<(u64, Live)>, keys: &[Key], by: By, number: u64) -> usize
     ensures bound { result ≤ length keys.now }
     ensures parted { (pairs : List (ℕ × ℕ)) → keys.now ≡ map (λ p. p.1) pairs → Reads by arena.now.lanes pairs → IsNonDecreasingBy (λ p. p.0) pairs → Before pairs result number × Behind pairs result number }
@@ -63,7 +64,7 @@ fn place_before(arena: &Arena<(u64, Live)>, keys: &[Key], by: By, number: u64) -
     keys.partition_point(|key| compared(arena, *key, by, number).is_lt())
 }
 
-// Where one more of this number comes: those before it have no greater numbers, and those from it on have.
+/// Where one more of this number comes: those before it have no greater numbers, and those from it on have.
 fn place_behind(arena: &Arena<(u64, Live)>, keys: &[Key], by: By, number: u64) -> usize
     ensures bound { result ≤ length keys.now }
     ensures parted { (pairs : List (ℕ × ℕ)) → keys.now ≡ map (λ p. p.1) pairs → Reads by arena.now.lanes pairs → IsNonDecreasingBy (λ p. p.0) pairs → Before pairs result (number + 1) × Behind pairs result (number + 1) }
@@ -74,6 +75,7 @@ fn place_behind(arena: &Arena<(u64, Live)>, keys: &[Key], by: By, number: u64) -
     keys.partition_point(|key| compared(arena, *key, by, number).is_le())
 }
 
+/// Where a key stands.
 fn place_of(keys: &[Key], key: Key) -> Option<usize>
     ensures { result ≡ position (λ k. k == key) keys.now }
 {

@@ -24,6 +24,7 @@ pub struct Index {
     changes: usize,
 }
 
+/// Puts the key of a request among those that are found by their ids, where it is.
 fn put_id(arena: &Arena<(u64, Live)>, held: &mut Keys, key: Key, live: &Live)
     requires { length held.old < MAX_LIVE }
     ensures { (requests : List (ℕ × Live)) → Stand arena.now.lanes requests → IsOrderOf By.Id requests held.old → IsOrderOf By.Id (requests ++ (key, live.now) ∷ []) held.new }
@@ -33,6 +34,7 @@ fn put_id(arena: &Arena<(u64, Live)>, held: &mut Keys, key: Key, live: &Live)
     }
 }
 
+/// Takes it out, where it is among them.
 fn take_id(arena: &Arena<(u64, Live)>, held: &mut Keys, key: Key, live: &Live)
     requires { (requests : List (ℕ × Live)) × (place : ℕ) × Stand arena.now.lanes requests × IsOrderOf By.Id requests held.old × (slice_get requests place ≡ Some (key, live.now)) }
     ensures { (requests : List (ℕ × Live)) (place : ℕ) → Stand arena.now.lanes requests → IsOrderOf By.Id requests held.old → slice_get requests place ≡ Some (key, live.now) → Distinct (λ (r : ℕ × Live). r.0) requests → IsOrderOf By.Id (remove requests place) held.new }
@@ -42,10 +44,11 @@ fn take_id(arena: &Arena<(u64, Live)>, held: &mut Keys, key: Key, live: &Live)
     }
 }
 
+/// How many changes it is: one, or none.
 fn change_of(live: &Live) -> usize
     ensures { result ≡ (if changes live.now then 1 else 0) }
 {
-    if live.kind.is_change() { 1 } else { 0 }
+    usize::from(live.kind.is_change())
 }
 
 impl Index {

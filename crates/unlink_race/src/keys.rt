@@ -31,7 +31,7 @@ impl Model for Keys {
     ghost invariant = { λ keys. keys.front ≤ length keys.items.items };
 }
 
-// Copies the keys from `start` up to `end` to the place `to`.
+/// Copies the keys from `start` up to `end` to the place `to`.
 fn copy(items: &mut ArrayVec<Key, ROOM>, start: usize, end: usize, to: usize)
     requires order { start ≤ end }
     requires inside { end ≤ array_vec_len items.old }
@@ -41,7 +41,7 @@ fn copy(items: &mut ArrayVec<Key, ROOM>, start: usize, end: usize, to: usize)
     items.as_mut_slice().copy_within(start..end, to);
 }
 
-// Puts a key at a place; those from there on move by one.
+/// Puts a key at a place; those from there on move by one.
 fn put_at(items: &mut ArrayVec<Key, ROOM>, at: usize, key: Key)
     requires place { at ≤ array_vec_len items.old }
     requires room { array_vec_len items.old < ROOM }
@@ -55,7 +55,7 @@ fn put_at(items: &mut ArrayVec<Key, ROOM>, at: usize, key: Key)
     }
 }
 
-// Takes the key at a place out; those behind it move by one.
+/// Takes the key at a place out; those behind it move by one.
 fn take_at(items: &mut ArrayVec<Key, ROOM>, at: usize)
     requires { at < array_vec_len items.old }
     ensures { items.new.items ≡ remove items.old.items at }
@@ -65,7 +65,7 @@ fn take_at(items: &mut ArrayVec<Key, ROOM>, at: usize)
     items.pop();
 }
 
-// Drops those before `front`.
+/// Drops those before `front`.
 fn drop_left(items: &mut ArrayVec<Key, ROOM>, front: usize)
     requires { front ≤ array_vec_len items.old }
     ensures { items.new.items ≡ drop front items.old.items }

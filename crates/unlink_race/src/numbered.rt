@@ -11,24 +11,18 @@ use urb_arena::{Arena, Key};
 
 /// Marks the request of a key as asked back by the unlink with this number.
 pub fn mark(arena: &mut Arena<(u64, Live)>, key: Key, by: u32)
+    requires { (entry : ℕ × Live) × (find_in key arena.old.lanes ≡ Some entry) }
     ensures { (entry : ℕ × Live) → find_in key arena.old.lanes ≡ Some entry → arena.new ≡ arena_view (map (replaced key (entry.0, unlinked_by by entry.1)) arena.old.lanes) arena.old.capacity }
 {
-    match arena.get_mut(key) {
-        Some(entry) => {
-            entry.1.unlinker = Some(by);
-        }
-        None => {}
-    }
+    let entry = arena.get_mut(key).unwrap();
+    entry.1.unlinker = Some(by);
 }
 
 /// Gives the request of a key another number.
 pub fn renumber(arena: &mut Arena<(u64, Live)>, key: Key, number: u64)
+    requires { (entry : ℕ × Live) × (find_in key arena.old.lanes ≡ Some entry) }
     ensures { (entry : ℕ × Live) → find_in key arena.old.lanes ≡ Some entry → arena.new ≡ arena_view (map (replaced key (number, entry.1)) arena.old.lanes) arena.old.capacity }
 {
-    match arena.get_mut(key) {
-        Some(entry) => {
-            entry.0 = number;
-        }
-        None => {}
-    }
+    let entry = arena.get_mut(key).unwrap();
+    entry.0 = number;
 }

@@ -53,6 +53,7 @@ pub fn earliest_in_lane(arena: &Arena<(u64, Live)>, lane: usize, end: &StreamEnd
     Some(nth_in_lane(arena, lane, end, 0)?.0)
 }
 
+/// The lesser of two numbers, where there are two.
 fn earlier(one: Option<u64>, other: Option<u64>) -> Option<u64>
     ensures { result ≡ lesser one other }
 {
@@ -63,7 +64,7 @@ fn earlier(one: Option<u64>, other: Option<u64>) -> Option<u64>
     }
 }
 
-// The number of the first in a lane: numbers rise from its front on.
+/// The number of the first in a lane: numbers rise from its front on.
 fn first_in_lane(arena: &Arena<(u64, Live)>, lane: usize) -> Option<u64>
     requires lane { lane < length arena.now.lanes }
     requires keys { ByKey arena.now.lanes }

@@ -54,20 +54,17 @@ impl Model for Table {
     ghost invariant = { λ t. IsSound t.arena t.keys × IsIndexed t.keys (lives_of t.arena t.keys) t.index × Rises 0 (numbers_of t.arena t.keys) t.next };
 }
 
-// Whether it is the first's number: most requests end first of all.
+/// Whether it is the first's number: most requests end first of all.
 fn is_first(arena: &Arena<(u64, Live)>, keys: &[Key], number: u64) -> bool
     ensures { result ≡ true → (0 < length keys.now) × (option_map (λ (entry : ℕ × Live). entry.0) (find_in (get_or keys.now 0 0) arena.now.lanes) ≡ Some number) }
 {
-    let Some(key) = keys.first() else {
-        return false;
-    };
-    let Some(first) = number_of(arena, *key) else {
-        return false;
-    };
-    first == number
+    match keys.first() {
+        Some(key) => number_of(arena, *key) == Some(number),
+        None => false,
+    }
 }
 
-// The place of the key whose request has this number: the numbers rise with the keys.
+/// The place of the key whose request has this number: the numbers rise with the keys.
 fn place_numbered(arena: &Arena<(u64, Live)>, keys: &[Key], number: u64) -> Option<usize>
     ensures { (high : ℕ) → IsKeyed (λ k. k) (entry_of arena.now) keys.now → Rises 0 (numbers_of arena.now keys.now) high → result ≡ position (λ n. n == number) (numbers_of arena.now keys.now) }
 {
@@ -78,7 +75,7 @@ fn place_numbered(arena: &Arena<(u64, Live)>, keys: &[Key], number: u64) -> Opti
     found.ok()
 }
 
-// Numbers the requests anew from 0, in their order.
+/// Numbers the requests anew from 0, in their order.
 fn deal(arena: &mut Arena<(u64, Live)>, keys: &[Key])
     requires { IsKeyed (λ k. k) (entry_of arena.old) keys.now × (length keys.now ≤ MAX_LIVE) }
     ensures dealt { HasDealt arena.old arena.new keys.now }
@@ -89,7 +86,7 @@ fn deal(arena: &mut Arena<(u64, Live)>, keys: &[Key])
     }
 }
 
-// The number for one that comes behind the others. They are numbered anew before it would be the greatest there is.
+/// The number for one that comes behind the others. They are numbered anew before it would be the greatest there is.
 fn next_number(arena: &mut Arena<(u64, Live)>, keys: &[Key], next: u64) -> u64
     requires kept { IsKeyed (λ k. k) (entry_of arena.old) keys.now × (length keys.now ≤ MAX_LIVE) }
     requires rises { Rises 0 (numbers_of arena.old keys.now) next }
@@ -144,7 +141,7 @@ impl Table {
         self.index.first(&self.arena, By::Id, id).is_some()
     }
 
-    // The first request that this number finds.
+    /// The first request that this number finds.
     fn found(&self, by: By, number: u64) -> Option<&Live>
         ensures { option_copied result ≡ find (found_by by number) self.now }
     {
@@ -153,7 +150,7 @@ impl Table {
         Some(&entry.1)
     }
 
-    // Where it stands.
+    /// Where it stands.
     fn place_found(&self, by: By, number: u64) -> Option<usize>
         ensures { result ≡ position (found_by by number) self.now }
     {
@@ -275,10 +272,7 @@ impl Table {
         ensures found { (test : Live → Bool) → place ≡ position test self.old → result ≡ find test self.old }
         ensures rest { (test : Live → Bool) → place ≡ position test self.old → self.new ≡ without_first test self.old }
     {
-        match place {
-            Some(place) => Some(self.remove(place)),
-            None => None,
-        }
+        Some(self.remove(place?))
     }
 
     /// Drops the requests whose stream ends so, from the last to the first: what is moved up are those that stay.

@@ -2,6 +2,12 @@ use Rattle.std.proofs.Common.{◌<◌, length, arith}
 use Rattle.unlink_race.proofs.Dealing.{has_entry, still_dealt, more_dealt, all_dealt}
 use Rattle.unlink_race.proofs.table.deal.Goals as goal
 
+pub renumber-requires : goal.renumber-requires
+renumber-requires c =
+    let row = c.index-keys-place.result in
+    let within : c.loop-place.place < length c.args.keys.now = omega (arith, c.loop-place-test.true) in
+    (_, has_entry c.loop-place.invariant.0 c.loop-place.place row within c.index-keys-place.is)
+
 pub loop-place-preserved : goal.loop-place-preserved
 loop-place-preserved c =
     let dealt = c.loop-place.invariant in

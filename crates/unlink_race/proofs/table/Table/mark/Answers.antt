@@ -4,6 +4,12 @@ use Rattle.unlink_race.proofs.Tables.{found_at, read_at, changed, indexed, risin
 use Rattle.unlink_race.proofs.Indexes.{index_changed}
 use Rattle.unlink_race.proofs.table.Table.mark.Goals as goal
 
+pub mark-requires : goal.mark-requires
+mark-requires c =
+    let key = c.index-deref-place.result in
+    let read : key ≡ get_or c.self.inside.keys c.args.place key = rw (← c.deref.ensures) c.index-deref-place.is in
+    found_at c.self.invariant.0 c.self.view_is c.args.place key c.requires read
+
 pub invariant_of-self : goal.invariant_of-self
 invariant_of-self c =
     let key = c.index-deref-place.result in
