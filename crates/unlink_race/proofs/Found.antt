@@ -2,11 +2,11 @@
 use Rattle.std.proofs.Common.{◌≡◌, ℕ, Bool, List, [], ◌∷◌, map, Option, Some, None, option_map, refl, ap, sym, ◌∙◌, inl, inr}
 use Rattle.std.specs.List.{find, zip}
 use Rattle.std.proofs.lemmas.Bool.{cases_Bool}
+use Rattle.urb_arena.specs.Distinct.{itself}
 use Rattle.unlink_race.specs.declared.live.Live.{Live}
 use Rattle.unlink_race.specs.Inner.Earliest.{earliest}
 use Rattle.unlink_race.specs.Inner.Listed.{IsKeyed, listed}
 use Rattle.unlink_race.proofs.Rows.{entry_of}
-use Rattle.unlink_race.proofs.Zipped.{itself}
 
 abbrev pub lives : List (ℕ × Live) → List Live
 lives es = map (λ (e : ℕ × Live). e.1) es

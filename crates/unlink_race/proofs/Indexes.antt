@@ -17,7 +17,7 @@ use Rattle.unlink_race.specs.declared.index.Index.{Index}
 use Rattle.unlink_race.specs.Firsts.{without_first}
 use Rattle.unlink_race.specs.Searches.{changes}
 use Rattle.unlink_race.specs.Inner.Indexed.{number_by, any_by, found_by, column, is_pair, with_number, IsOrdering, IsOrderOf, IsIndexed}
-use Rattle.unlink_race.specs.Inner.Listed.{Distinct}
+use Rattle.urb_arena.specs.Distinct.{Distinct}
 use Rattle.unlink_race.proofs.Counts.{count_pushed, count_removed, count_changed}
 use Rattle.unlink_race.proofs.Firsts.{first_passing, filter-without_first}
 use Rattle.unlink_race.proofs.Rows.{absent_at}

@@ -6,7 +6,8 @@ use Rattle.std.specs.Option.{option_or}
 use Rattle.urb_arena.specs.Lanes.{find, key_after, first_key, search_in, ByKey}
 use Rattle.unlink_race.specs.declared.live.Live.{Live}
 use Rattle.unlink_race.specs.Inner.Lane.{lane_of}
-use Rattle.unlink_race.specs.Inner.Listed.{Absent, IsKeyed}
+use Rattle.urb_arena.specs.Distinct.{Absent}
+use Rattle.unlink_race.specs.Inner.Listed.{IsKeyed}
 use Rattle.unlink_race.specs.Inner.Placed.{keys_in, ArePlaced}
 use Rattle.unlink_race.proofs.Placing.{keys}
 

@@ -16,14 +16,15 @@ use Rattle.unlink_race.specs.declared.live.Live.{Live}
 use Rattle.unlink_race.specs.declared.by_number.By.{By}
 use Rattle.unlink_race.specs.Firsts.{without_first}
 use Rattle.unlink_race.specs.Inner.Indexed.{number_by, any_by, found_by, number_at, column, is_pair, Before, Behind, Reads, Stand, IsOrdering, IsOrderOf}
-use Rattle.unlink_race.specs.Inner.Listed.{Distinct, IsKeyed, listed}
+use Rattle.urb_arena.specs.Distinct.{Distinct, itself}
+use Rattle.unlink_race.specs.Inner.Listed.{IsKeyed, listed}
 use Rattle.unlink_race.proofs.Columns.{map-insert, map-remove, position_or_len-map}
 use Rattle.unlink_race.proofs.Firsts.{remove_first, position_found, is_some-position}
 use Rattle.unlink_race.proofs.Indexes.{Pairs, leads, ordering_back, pair_there, ordering_pushed, ordering_removed, column_pushed, column_removed, column_has}
 use Rattle.unlink_race.proofs.Ordered.{number_of, inserted, find_here, find_past, place_behind, any_behind, rises_without}
 use Rattle.unlink_race.proofs.Rows.{entry_of}
 use Rattle.unlink_race.proofs.Walks.{Entries}
-use Rattle.unlink_race.proofs.Zipped.{key_of, itself}
+use Rattle.unlink_race.proofs.Zipped.{key_of}
 
 abbrev pub key_in : ℕ × ℕ → ℕ
 key_in p = p.1

@@ -2,7 +2,8 @@
 use Rattle.std.proofs.Common.{◌≡◌, ◌≢◌, ℕ, zero, suc, ◌<◌, List, [], ◌∷◌, ◌++◌, length, get_or, set, Option, Some, None, IsSome, refl, ap, sym, ◌∙◌, arith}
 use Rattle.std.specs.List.{remove, slice_get}
 use Rattle.std.proofs.lemmas.Bool.{false≢true}
-use Rattle.unlink_race.specs.Inner.Listed.{Absent, IsKeyed, listed}
+use Rattle.urb_arena.specs.Distinct.{Absent}
+use Rattle.unlink_race.specs.Inner.Listed.{IsKeyed, listed}
 
 module _ {R : Type 0} (key : R → ℕ) where
   pub absent_at : (k : ℕ) (rs : List R) (i : ℕ) (r : R) → i < length rs → r ≡ get_or rs i r → Absent key k rs → key r ≢ k

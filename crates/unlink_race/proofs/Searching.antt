@@ -9,6 +9,7 @@ use Rattle.usb_base.specs.Endpoint.{endpoint_index}
 use Rattle.urb_arena.specs.ArenaView.{ArenaView}
 use Rattle.urb_arena.specs.Lanes.{ByKey}
 use Rattle.usb_base.specs.declared.endpoint.TheConstants.{ENDPOINTS}
+use Rattle.urb_arena.specs.Distinct.{itself}
 use Rattle.unlink_race.specs.declared.live.Live.{Live}
 use Rattle.unlink_race.specs.declared.live.LiveKind.{LiveKind}
 use Rattle.unlink_race.specs.declared.live.LiveKind.TheVariants.{Wire, Routed, Stream}
@@ -24,7 +25,7 @@ use Rattle.unlink_race.proofs.Halving.{number_at_place}
 use Rattle.unlink_race.proofs.Leading.{by_key}
 use Rattle.unlink_race.proofs.Rows.{length-listed}
 use Rattle.unlink_race.proofs.Walks.{values}
-use Rattle.unlink_race.proofs.Zipped.{key_of, itself, kept_zipped, listed_zipped, kinds_zipped}
+use Rattle.unlink_race.proofs.Zipped.{key_of, kept_zipped, listed_zipped, kinds_zipped}
 
 -- what waits for an endpoint's packets stands in the endpoint's lane
 waits_there : (ep : ℕ) (kind : LiveKind) → ((lane_of kind == endpoint_index ep) && waits_at ep kind) ≡ waits_at ep kind

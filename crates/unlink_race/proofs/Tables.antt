@@ -9,6 +9,7 @@ use Rattle.usbip_urb.specs.declared.code.TheConstants.{MAX_LIVE}
 use Rattle.urb_arena.specs.ArenaView.{ArenaView, arena_view}
 use Rattle.urb_arena.specs.Lanes.{without, replaced, count}
 use Rattle.usb_base.specs.declared.endpoint.TheConstants.{ENDPOINTS}
+use Rattle.urb_arena.specs.Distinct.{itself}
 use Rattle.unlink_race.specs.declared.live.Live.{Live}
 use Rattle.unlink_race.specs.declared.index.Index.{Index}
 use Rattle.unlink_race.specs.Inner.Indexed.{Stand, IsIndexed}
@@ -21,7 +22,7 @@ use Rattle.unlink_race.proofs.Lanes.{found_pushed, others_pushed, count_pushed, 
 use Rattle.unlink_race.proofs.Placing.{placed_pushed, placed_removed, keys_replaced}
 use Rattle.unlink_race.proofs.Reading.{stand_all}
 use Rattle.unlink_race.proofs.Rows.{SameBut, length-listed, took_at, put_last, changed_at}
-use Rattle.unlink_race.proofs.Zipped.{itself, zip_pushed, zip_removed, zip_at, kept_zipped, placed_written}
+use Rattle.unlink_race.proofs.Zipped.{zip_pushed, zip_removed, zip_at, kept_zipped, placed_written}
 
 -- the index is that of the list by each name
 pub indexed : {keys : List ℕ} {xs ys : List Live} {index : Index} → xs ≡ ys → IsIndexed keys xs index → IsIndexed keys ys index

@@ -4,15 +4,13 @@ use Rattle.std.specs.List.{remove, slice_get, zip}
 use Rattle.std.proofs.lemmas.Bool.{ne_eqb, eq-eqb, cases_eq}
 use Rattle.unlink_race.specs.declared.live.Live.{Live}
 use Rattle.unlink_race.specs.Inner.Lane.{lane_of}
-use Rattle.unlink_race.specs.Inner.Listed.{Absent, Distinct, IsKeyed, listed}
+use Rattle.urb_arena.specs.Distinct.{Absent, Distinct, itself}
+use Rattle.unlink_race.specs.Inner.Listed.{IsKeyed, listed}
 use Rattle.unlink_race.specs.Inner.Placed.{keys_in, AreBelow, ArePlaced}
 use Rattle.unlink_race.proofs.Rows.{entry_of}
 
 abbrev pub key_of : ℕ × Live → ℕ
 key_of r = r.0
-
-abbrev pub itself : ℕ → ℕ
-itself k = k
 
 pub zip_pushed : (ks : List ℕ) (xs : List Live) (k : ℕ) (x : Live) → length ks ≡ length xs → zip (ks ++ k ∷ []) (xs ++ x ∷ []) ≡ zip ks xs ++ (k, x) ∷ []
 zip_pushed [] [] k x long = refl

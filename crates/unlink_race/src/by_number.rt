@@ -7,7 +7,7 @@ ghost use Rattle.std.specs.List.Sorted.{IsNonDecreasingBy};
 ghost use Rattle.std.specs.Option.{option_cmp};
 ghost use Rattle.std.specs.Ordering.{nat_cmp};
 ghost use Rattle.unlink_race.specs.declared.live.Live.{Live};
-ghost use Rattle.unlink_race.specs.Inner.Listed.{Distinct};
+ghost use Rattle.urb_arena.specs.Distinct.{Distinct};
 ghost use Rattle.unlink_race.specs.Inner.Indexed.{number_by, any_by, found_by, number_at, Before, Behind, Reads, Stand, IsOrderOf};
 
 use crate::keys::Keys;

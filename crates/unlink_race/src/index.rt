@@ -4,7 +4,7 @@ ghost use Rattle.std.specs.Prelude.{◌≡◌, ◌<◌, ℕ, List, [], ◌∷◌
 ghost use Rattle.std.specs.List.{find, list_any, zip};
 ghost use Rattle.unlink_race.specs.declared.live.Live.{Live};
 ghost use Rattle.unlink_race.specs.Searches.{changes};
-ghost use Rattle.unlink_race.specs.Inner.Listed.{Distinct};
+ghost use Rattle.urb_arena.specs.Distinct.{Distinct};
 ghost use Rattle.unlink_race.specs.Inner.Indexed.{Stand, IsIndexed, IsOrderOf, found_by};
 
 use crate::by_number::{By, first, put, take};

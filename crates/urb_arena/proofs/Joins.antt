@@ -4,7 +4,8 @@ use lib.ListN.{length-set}
 use Rattle.std.proofs.lemmas.List.{get_or-set_same, get_or-set_other}
 use Rattle.std.proofs.lemmas.Bool.{ne_eqb, eq-eqb, cases_eq}
 use Rattle.urb_arena.specs.declared.cells.Links.{Links}
-use Rattle.urb_arena.specs.Inner.Turns.{Cells, links_or, link_at, next_of, prev_of, ring_of, with_link, with_next, with_prev, unlinked, linked, moved, Sound, Path, In, Distinct, follow, total}
+use Rattle.urb_arena.specs.Distinct.{Absent, Distinct, itself}
+use Rattle.urb_arena.specs.Inner.Turns.{Cells, links_or, link_at, next_of, prev_of, ring_of, with_link, with_next, with_prev, unlinked, linked, moved, Sound, Path, In, follow, total}
 
 -- ---- one write of links
 
@@ -104,18 +105,27 @@ In-split k (x ∷ ks) i = elim i [
   | inr j ↦ (let rest = In-split k ks j in (x ∷ rest.0, (rest.1.0, ap (λ js. x ∷ js) rest.1.1)))
 ]
 
-pub Distinct-without : (xs : List ℕ) (k : ℕ) (ys : List ℕ) → Distinct (xs ++ k ∷ ys) → Distinct (xs ++ ys) × (In k (xs ++ ys) → ⊥)
-Distinct-without [] k ys d = (d.1, d.0)
+pub absent-not_in : (k : ℕ) (ks : List ℕ) → Absent itself k ks → In k ks → ⊥
+absent-not_in k [] absent i = i
+absent-not_in k (x ∷ ks) absent i = elim i [ inl e ↦ absent.0 e | inr j ↦ absent-not_in k ks absent.1 j ]
+
+pub not_in-absent : (k : ℕ) (ks : List ℕ) → (In k ks → ⊥) → Absent itself k ks
+not_in-absent k [] out = tt
+not_in-absent k (x ∷ ks) out = ((λ e. out (inl e)), not_in-absent k ks (λ i. out (inr i)))
+
+pub Distinct-without : (xs : List ℕ) (k : ℕ) (ys : List ℕ) → Distinct itself (xs ++ k ∷ ys) → Distinct itself (xs ++ ys) × (In k (xs ++ ys) → ⊥)
+Distinct-without [] k ys d = (d.1, absent-not_in k ys d.0)
 Distinct-without (x ∷ xs) k ys d =
+    let out = absent-not_in x (xs ++ k ∷ ys) d.0 in
     let rest = Distinct-without xs k ys d.1 in (
-      (λ i. elim (In-either x xs ys i) [ inl l ↦ d.0 (In-left x xs (k ∷ ys) l) | inr r ↦ d.0 (In-right x xs (k ∷ ys) (inr r)) ], rest.0),
-      λ i. elim i [ inl e ↦ d.0 (In-right x xs (k ∷ ys) (inl (sym e))) | inr j ↦ rest.1 j ],
+      (not_in-absent x (xs ++ ys) (λ i. elim (In-either x xs ys i) [ inl l ↦ out (In-left x xs (k ∷ ys) l) | inr r ↦ out (In-right x xs (k ∷ ys) (inr r)) ]), rest.0),
+      λ i. elim i [ inl e ↦ out (In-right x xs (k ∷ ys) (inl (sym e))) | inr j ↦ rest.1 j ],
     )
 
-pub Distinct-more : (ks : List ℕ) (k : ℕ) → Distinct ks → (In k ks → ⊥) → Distinct (ks ++ k ∷ [])
-Distinct-more [] k d absent = (λ i. i, tt)
+pub Distinct-more : (ks : List ℕ) (k : ℕ) → Distinct itself ks → (In k ks → ⊥) → Distinct itself (ks ++ k ∷ [])
+Distinct-more [] k d absent = (tt, tt)
 Distinct-more (x ∷ ks) k d absent =
-    (λ i. elim (In-either x ks (k ∷ []) i) [ inl l ↦ d.0 l | inr r ↦ elim r [ inl e ↦ absent (inl (sym e)) | inr z ↦ z ] ], Distinct-more ks k d.1 (λ i. absent (inr i)))
+    (not_in-absent x (ks ++ k ∷ []) (λ i. elim (In-either x ks (k ∷ []) i) [ inl l ↦ absent-not_in x ks d.0 l | inr r ↦ elim r [ inl e ↦ absent (inl (sym e)) | inr z ↦ z ] ]), Distinct-more ks k d.1 (λ i. absent (inr i)))
 
 -- ---- how many there are together
 

@@ -1,7 +1,8 @@
 -- A key leads to one pair.
 use Rattle.std.proofs.Common.{◌≡◌, ℕ, zero, suc, ◌<◌, ◌≤◌, ◌⊎◌, inl, inr, List, [], ◌∷◌, ◌++◌, length, get_or, Option, Some, None, refl, ap, sym, subst, ◌∙◌, arith}
 use Rattle.urb_arena.specs.Inner.Columns.{There}
-use Rattle.urb_arena.specs.Inner.Turns.{row, listed, In, Distinct}
+use Rattle.urb_arena.specs.Distinct.{Distinct, itself}
+use Rattle.urb_arena.specs.Inner.Turns.{row, listed, In}
 use Rattle.urb_arena.specs.Lanes.{first_key, key_after, ByKey}
 use Rattle.urb_arena.specs.Inner.Tables.{pairs, IsTable, lanes_of}
 use Rattle.urb_arena.specs.declared.table.Table.{Table}
@@ -56,7 +57,7 @@ module _ {X : Type 0} where
             let cut = pairs-split vs (row ls r) holds xs p ys (sym (listed_at lane m r [] lt) ∙ e) in let js₀ = cut.0 in let bs = cut.1.0 in
             let here : In p.0 (row ls r) = subst (λ ks. In p.0 ks) (sym cut.1.1.0) (In-right p.0 js₀ (p.0 ∷ bs) (inl refl)) in
             let at = is.tied.members r rm p.0 here in let ring = at.2 in
-            let alone = (Distinct-without js₀ p.0 bs (subst Distinct cut.1.1.0 (is.tied.distinct r rm))).1 in (
+            let alone = (Distinct-without js₀ p.0 bs (subst (Distinct itself) cut.1.1.0 (is.tied.distinct r rm))).1 in (
               table_found t is p.0 (at.0, at.1, omega (arith, ring, lt)) ∙ cut.1.1.1,
               search-one (key_after p.0) lane m r (first_key ys)
                   (ap (λ ks. key_after p.0 (pairs vs ks)) cut.1.1.0 ∙ after-there vs js₀ p.0 bs p.1 cut.1.1.1 (λ i. alone (In-left p.0 js₀ bs i)) ∙ ap first_key cut.1.1.2)

@@ -2,7 +2,8 @@
 use Rattle.std.proofs.Common.{◌≡◌, ◌≢◌, ℕ, ◌+◌, ◌<◌, ◌≤◌, inl, inr, List, [], ◌∷◌, ◌++◌, length, refl, ap, sym, subst, ◌∙◌, arith}
 use lib.ListN.{length-append}
 use Rattle.std.proofs.lemmas.Bool.{ne_eqb, eq-eqb, cases_eq}
-use Rattle.urb_arena.specs.Inner.Turns.{Cells, next_of, prev_of, ring_of, unlinked, moved, Sound, Path, In, Distinct, row, total, Tied, without_cell, with_cell}
+use Rattle.urb_arena.specs.Distinct.{Distinct, itself}
+use Rattle.urb_arena.specs.Inner.Turns.{Cells, next_of, prev_of, ring_of, unlinked, moved, Sound, Path, In, row, total, Tied, without_cell, with_cell}
 use Rattle.urb_arena.proofs.Joins.{kept, skipped, added, last_edge, follow-path, In-left, In-right, In-either, Distinct-without, Distinct-more, total_same, total_changed, unlinked-length, unlinked-Sound, unlinked-on, unlinked-next, unlinked-back, unlinked-prev, unlinked-ring, linked-length, linked-Sound, linked-from, linked-to, linked-ring_here, linked-ring, linked-on, linked-next, linked-back, linked-prev, total_at}
 
 -- the two edges at a place on a path
@@ -48,8 +49,8 @@ module _ (ls : Cells) (m cap : ℕ) (rows : ℕ → List ℕ) (t : Tied ls m cap
   edges : (next_of ls (prev_of ls k) ≡ k) × (prev_of ls (next_of ls k) ≡ k)
   edges = mid_edges (next_of ls) (prev_of ls) f xs k ys f path
 
-  apart : Distinct (xs ++ ys) × (In k (xs ++ ys) → ⊥)
-  apart = Distinct-without xs k ys (subst Distinct cut (t.distinct f fm))
+  apart : Distinct itself (xs ++ ys) × (In k (xs ++ ys) → ⊥)
+  apart = Distinct-without xs k ys (subst (Distinct itself) cut (t.distinct f fm))
 
   -- the cells of a ring without k
   members1 : (r : ℕ) → r ≤ m → (j : ℕ) → In j (rows1 r) → In j (rows r) × (j ≢ k)
@@ -167,15 +168,15 @@ module _ (ls : Cells) (m cap : ℕ) (rows : ℕ → List ℕ) (t : Tied ls m cap
         ))
   ]
 
-  distinct2 : (r : ℕ) → r ≤ m → Distinct (rows2 r)
+  distinct2 : (r : ℕ) → r ≤ m → Distinct itself (rows2 r)
   distinct2 r rm =
-      let distinct1 : (q : ℕ) → q ≤ m → Distinct (rows1 q) = λ q qm. elim (cases_eq q f) [
-        | inl same ↦ subst Distinct (sym (without_here rows f xs ys q same)) apart.0
-        | inr other ↦ subst Distinct (sym (without_other rows f xs ys q other)) (t.distinct q qm)
+      let distinct1 : (q : ℕ) → q ≤ m → Distinct itself (rows1 q) = λ q qm. elim (cases_eq q f) [
+        | inl same ↦ subst (Distinct itself) (sym (without_here rows f xs ys q same)) apart.0
+        | inr other ↦ subst (Distinct itself) (sym (without_other rows f xs ys q other)) (t.distinct q qm)
       ] in
       elim (cases_eq r e) [
-        | inl same ↦ subst Distinct (sym (with_here rows1 k e r same)) (Distinct-more (rows1 e) k (distinct1 e em) (λ i. (members1 e em k i).1 refl))
-        | inr other ↦ subst Distinct (sym (with_other rows1 k e r other)) (distinct1 r rm)
+        | inl same ↦ subst (Distinct itself) (sym (with_here rows1 k e r same)) (Distinct-more (rows1 e) k (distinct1 e em) (λ i. (members1 e em k i).1 refl))
+        | inr other ↦ subst (Distinct itself) (sym (with_other rows1 k e r other)) (distinct1 r rm)
       ]
 
   count2 : total rows2 (m + 1) ≡ cap
@@ -215,6 +216,6 @@ module _ (ls : Cells) (m cap : ℕ) (rows : ℕ → List ℕ) (t : Tied ls m cap
     paths = λ r rm. subst (λ js. Path (next_of ls) (prev_of ls) r js r) (sym (row_is r rm)) (t.paths r rm);
     members = λ r rm k i. t.members r rm k (subst (λ js. In k js) (row_is r rm) i);
     found = λ k over far. (let was = t.found k over far in (was.0, subst (λ js. In k js) (sym (row_is (ring_of ls k) was.0)) was.1));
-    distinct = λ r rm. subst Distinct (sym (row_is r rm)) (t.distinct r rm);
+    distinct = λ r rm. subst (Distinct itself) (sym (row_is r rm)) (t.distinct r rm);
     count = total_same rows (row ls) (m + 1) (λ r lt. row_is r (omega (arith, lt))) ∙ t.count;
   }

@@ -4,8 +4,10 @@ use lib.ListN.{length-replicate}
 use Rattle.std.proofs.lemmas.Bool.{ne_eqb, eq-eqb, cases_eq}
 use Rattle.urb_arena.specs.declared.cells.Links.{Links}
 use Rattle.urb_arena.specs.declared.table.Table.{Table}
-use Rattle.urb_arena.specs.Inner.Turns.{Cells, links_or, link_at, ring_of, next_of, prev_of, row, listed, total, Tied, Path, In, Distinct, start, Started, range}
+use Rattle.urb_arena.specs.Distinct.{Distinct, itself}
+use Rattle.urb_arena.specs.Inner.Turns.{Cells, links_or, link_at, ring_of, next_of, prev_of, row, listed, total, Tied, Path, In, start, Started, range}
 use Rattle.urb_arena.specs.Inner.Tables.{pairs, IsTable, lanes_of}
+use Rattle.urb_arena.proofs.Joins.{not_in-absent}
 use Rattle.urb_arena.proofs.Lanes.{listed_same}
 use Rattle.urb_arena.proofs.Moves.{row_is, Tied-row}
 use Rattle.urb_arena.specs.declared.arena.TheConstants.{MOST}
@@ -28,9 +30,9 @@ range-has a (suc n) k lo hi = elim (cases_eq a k) [
   | inr ne ↦ inr (range-has (a + 1) n k (omega (arith, lo, ne)) (omega (arith, hi)))
 ]
 
-range-Distinct : (a n : ℕ) → Distinct (range a n)
+range-Distinct : (a n : ℕ) → Distinct itself (range a n)
 range-Distinct a zero = tt
-range-Distinct a (suc n) = (λ i. (let lo = (range-in (a + 1) n a i).0 in omega (arith, lo)), range-Distinct (a + 1) n)
+range-Distinct a (suc n) = (not_in-absent a (range (a + 1) n) (λ i. (let lo = (range-in (a + 1) n a i).0 in omega (arith, lo))), range-Distinct (a + 1) n)
 
 module _ (m n i : ℕ) where
   pub start-end : i < m → start m n i ≡ record { prev = i; next = i; ring = i }
@@ -120,8 +122,8 @@ module _ (ls : Cells) (m cap : ℕ) (long : length ls ≡ m + 1 + cap) (s : Star
     found = λ k lo hi. (let e = ring_free k (omega (arith, lo)) (omega (arith, hi, long)) in
         (omega (arith, e), subst (λ r. In k (rows r)) (sym e) (subst (λ ks. In k ks) (sym (rows_m m refl)) (range-has (m + 1) cap k (omega (arith, lo)) (omega (arith, hi, long))))));
     distinct = λ r rm. elim (cases_eq r m) [
-      | inl e ↦ subst Distinct (sym (rows_m r e)) (range-Distinct (m + 1) cap)
-      | inr ne ↦ subst Distinct (sym (rows_lane r ne)) tt
+      | inl e ↦ subst (Distinct itself) (sym (rows_m r e)) (range-Distinct (m + 1) cap)
+      | inr ne ↦ subst (Distinct itself) (sym (rows_lane r ne)) tt
     ];
     count = (let up : m + 1 ≡ suc m = omega arith in let few = empty m (λ r lt. rows_lane r (λ e. omega (arith, e, lt))) in let last = ap length (rows_m m refl) ∙ range-length (m + 1) cap in ap (total rows) up ∙ omega (arith, few, last));
   }

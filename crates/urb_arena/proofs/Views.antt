@@ -4,7 +4,8 @@ use lib.ListN.{set, length-set, length-append}
 use Rattle.std.proofs.lemmas.List.{get_or-set_same, get_or-set_other}
 use Rattle.std.proofs.lemmas.Bool.{ne_eqb, eq-eqb, cases_eq}
 use Rattle.urb_arena.specs.Inner.Columns.{There}
-use Rattle.urb_arena.specs.Inner.Turns.{Cells, ring_of, next_of, prev_of, row, listed, total, Tied, Path, In, Distinct, moved, with_cell, without_cell}
+use Rattle.urb_arena.specs.Distinct.{Distinct, itself}
+use Rattle.urb_arena.specs.Inner.Turns.{Cells, ring_of, next_of, prev_of, row, listed, total, Tied, Path, In, moved, with_cell, without_cell}
 use Rattle.urb_arena.specs.Lanes.{find, without, replaced, first_key, key_after, count, find_in, key_after_in}
 use Rattle.urb_arena.specs.Inner.Tables.{pairs, Filled, consed, IsTable, lanes_of}
 use Rattle.urb_arena.specs.declared.cells.Block.{Block}
@@ -57,7 +58,7 @@ module _ {X : Type 0} (ls : Cells) (vs : List (Option X)) (m cap : ℕ) (t : Tie
   pub next_key : (k : ℕ) → IsLive k → ((next_of ls k ≤ m) × (key_after_in k (listed lane m) ≡ None)) ⊎ ((m < next_of ls k) × (key_after_in k (listed lane m) ≡ Some (next_of ls k)))
   next_key k live =
       let r = ring_of ls k in let rm = live.2 in let at = t.found k live.0 live.1 in let x = f.live k live.0 live.1 live.2 in
-      let cut = In-split k (row ls r) at.1 in let xs = cut.0 in let ys = cut.1.0 in let apart = Distinct-without xs k ys (subst Distinct cut.1.1 (t.distinct r at.0)) in
+      let cut = In-split k (row ls r) at.1 in let xs = cut.0 in let ys = cut.1.0 in let apart = Distinct-without xs k ys (subst (Distinct itself) cut.1.1 (t.distinct r at.0)) in
       let path = subst (λ js. Path (next_of ls) (prev_of ls) r js r) cut.1.1 (t.paths r at.0) in
       let there = ap (λ js. key_after k (pairs vs js)) cut.1.1 ∙ after-there vs xs k ys x.0 x.1 (λ i. apart.1 (In-left k xs ys i)) in
       let sees = search-one (key_after k) lane m r (first_key (pairs vs ys)) there (λ q qm ne. after-absent vs k (row ls q) (elsewhere k q qm ne)) rm in
@@ -236,7 +237,7 @@ module _ {X : Type 0} (t : Table X) (is : IsTable t) (k : ℕ) (live : IsLive t.
   others = split.0 ++ split.1.0
 
   gone : In k others → ⊥
-  gone = (Distinct-without split.0 k split.1.0 (subst Distinct split.1.1 (is.tied.distinct from at.0))).1
+  gone = (Distinct-without split.0 k split.1.0 (subst (Distinct itself) split.1.1 (is.tied.distinct from at.0))).1
 
   leaves : from ≢ end
   leaves h = let low = live.2 in omega (arith, h, low)

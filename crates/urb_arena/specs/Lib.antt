@@ -1,4 +1,5 @@
 pub mod ArenaLends
 pub mod ArenaView
 pub mod Inner
+pub mod Distinct
 pub mod Lanes

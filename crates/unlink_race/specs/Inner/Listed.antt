@@ -1,15 +1,6 @@
 -- A list that is kept as rows: each row has a key, and a table has an entry at the key.
-use Rattle.std.specs.Prelude.{◌≢◌, ℕ, List, [], ◌∷◌, Option, ⊤, IsSome, filter_map}
-
--- no row has this key
-abbrev pub Absent : {R : Type 0} → (R → ℕ) → ℕ → List R → Type 0
-Absent key k [] = ⊤
-Absent key k (r ∷ rs) = (key r ≢ k) × Absent key k rs
-
--- no two rows have one key
-abbrev pub Distinct : {R : Type 0} → (R → ℕ) → List R → Type 0
-Distinct key [] = ⊤
-Distinct key (r ∷ rs) = Absent key (key r) rs × Distinct key rs
+use Rattle.std.specs.Prelude.{ℕ, List, [], ◌∷◌, Option, ⊤, IsSome, filter_map}
+use Rattle.urb_arena.specs.Distinct.{Absent}
 
 -- each row's key has an entry, and no two rows have one key
 abbrev pub IsKeyed : {R X : Type 0} → (R → ℕ) → (ℕ → Option X) → List R → Type 0

@@ -1,6 +1,7 @@
 -- Cells in rings: what the links say, and what a change of them makes.
 use Prim.Native.Nat.{zero, suc}
-use Rattle.std.specs.Prelude.{◌≡◌, ◌==◌, nat_lt, ℕ, ◌+◌, ◌-◌, ◌<◌, ◌≤◌, get_or, ◌⊎◌, List, [], ◌∷◌, ◌++◌, length, slice_set, Option, Some, None, ⊤, if◌then◌else◌}
+use Rattle.std.specs.Prelude.{◌≡◌, ◌==◌, nat_lt, ℕ, ◌+◌, ◌-◌, ◌<◌, ◌≤◌, get_or, ◌⊎◌, List, [], ◌∷◌, ◌++◌, length, slice_set, Option, Some, None, if◌then◌else◌}
+use Rattle.urb_arena.specs.Distinct.{Distinct, itself}
 use Rattle.urb_arena.specs.Inner.Columns.{There}
 use Rattle.urb_arena.specs.declared.cells.Links.{Links}
 
@@ -60,10 +61,6 @@ abbrev pub In : ℕ → List ℕ → Type 0
 In k [] = ⊥
 In k (j ∷ js) = (j ≡ k) ⊎ In k js
 
-abbrev pub Distinct : List ℕ → Type 0
-Distinct [] = ⊤
-Distinct (k ∷ ks) = (In k ks → ⊥) × Distinct ks
-
 -- the places from `at` on, until `stop`, at most n
 abbrev pub follow : ℕ → (ℕ → ℕ) → ℕ → ℕ → List ℕ
 follow zero next at stop = []
@@ -92,7 +89,7 @@ pub record Tied (ls : Cells) (m cap : ℕ) (rows : ℕ → List ℕ) : Type 0 wh
   pub paths : (r : ℕ) → r ≤ m → Path (next_of ls) (prev_of ls) r (rows r) r
   pub members : (r : ℕ) → r ≤ m → (k : ℕ) → In k (rows r) → (m < k) × (k < length ls) × (ring_of ls k ≡ r)
   pub found : (k : ℕ) → m < k → k < length ls → (ring_of ls k ≤ m) × In k (rows (ring_of ls k))
-  pub distinct : (r : ℕ) → r ≤ m → Distinct (rows r)
+  pub distinct : (r : ℕ) → r ≤ m → Distinct itself (rows r)
   pub count : total rows (m + 1) ≡ cap
 
 -- the rings once k is gone from that of f, where xs stood before it and ys after it
