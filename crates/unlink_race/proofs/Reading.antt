@@ -34,14 +34,28 @@ none = (0, 0)
 
 -- ---- what the tests of a search say of a number
 
-pub lt_tests : (m n : ℕ) → is_lt (nat_cmp m n) ≡ ltb m n
+lt_tests : (m n : ℕ) → is_lt (nat_cmp m n) ≡ ltb m n
 lt_tests m n = grind (arith, nat_tests)
 
-pub le_tests : (m n : ℕ) → is_le (nat_cmp m n) ≡ ltb m (n + 1)
+le_tests : (m n : ℕ) → is_le (nat_cmp m n) ≡ ltb m (n + 1)
 le_tests m n = grind (arith, nat_tests)
 
 pub eq_tests : (m n : ℕ) → is_eq (nat_cmp m n) ≡ (m == n)
 eq_tests m n = grind (arith, nat_tests)
+
+-- the number under a key is below another, or not above it
+module _ (by : By) (lanes : List Entries) (number : ℕ) where
+  abbrev pub is_below : ℕ → Bool
+  is_below k = is_lt (option_cmp nat_cmp (number_at by lanes k) (Some number))
+
+  pub below_tests : (k m : ℕ) → number_at by lanes k ≡ Some m → is_below k ≡ ltb m number
+  below_tests k m is = ap (λ o. is_lt (option_cmp nat_cmp o (Some number))) is ∙ lt_tests m number
+
+  abbrev pub is_up_to : ℕ → Bool
+  is_up_to k = is_le (option_cmp nat_cmp (number_at by lanes k) (Some number))
+
+  pub up_to_tests : (k m : ℕ) → number_at by lanes k ≡ Some m → is_up_to k ≡ ltb m (number + 1)
+  up_to_tests k m is = ap (λ o. is_le (option_cmp nat_cmp o (Some number))) is ∙ le_tests m number
 
 -- ---- a search of the keys by a test that passes those whose number is below a bound
 

@@ -1,10 +1,8 @@
-use Rattle.std.proofs.Common.{rules, ◌≡◌, ℕ, ◌+◌, ◌-◌, Bool, Some, ltb, length, get_or, ap, sym, ◌∙◌, arith}
-use Rattle.std.specs.Option.{option_cmp}
-use Rattle.std.specs.Ordering.{nat_cmp, is_le}
+use Rattle.std.proofs.Common.{rules, ◌+◌, ◌-◌, length, get_or, ap, sym, ◌∙◌, arith}
+use Rattle.std.specs.Ordering.{is_le}
 use Rattle.std.proofs.lemmas.List.{length-map}
 use Rattle.std.proofs.lemmas.List.Sorted.{IsPartitionPoint-from_clause}
-use Rattle.unlink_race.specs.Inner.Indexed.{number_at}
-use Rattle.unlink_race.proofs.Reading.{le_tests, key_in, parted, split, all_pass, no_pairs, last_there}
+use Rattle.unlink_race.proofs.Reading.{is_up_to, up_to_tests, key_in, parted, split, all_pass, no_pairs, last_there}
 use Rattle.unlink_race.proofs.by_number.place_behind.Goals as goal
 use Rattle.unlink_race.proofs.by_number.place_behind.Goals.{then-is_empty-via-then-is_empty, then-is_empty-via-else-is_empty+then-is_le}
 
@@ -12,19 +10,15 @@ pub returns-clause-parted : goal.returns-clause-parted
 returns-clause-parted c =
     λ pairs same reads up.
     let lanes = c.args.arena.now.lanes in
-    let test : ℕ → Bool = λ k. is_le (option_cmp nat_cmp (number_at c.args.by lanes k) (Some c.args.number)) in
-    let agrees : (k m : ℕ) → number_at c.args.by lanes k ≡ Some m → test k ≡ ltb m (c.args.number + 1) = λ k m is. ap (λ o. is_le (option_cmp nat_cmp o (Some c.args.number))) is ∙ le_tests m c.args.number in
-    let parted_keys = parted c.args.by lanes pairs reads test (c.args.number + 1) agrees up in
-    let point = IsPartitionPoint-from_clause test c.args.keys.now c.partition_point.result c.partition_point.ensures.partitioned (rw same parted_keys) (λ a r q called. search rules) in
+    let parted_keys = parted c.args.by lanes pairs reads (is_up_to c.args.by lanes c.args.number) (c.args.number + 1) (up_to_tests c.args.by lanes c.args.number) up in
+    let point = IsPartitionPoint-from_clause (is_up_to c.args.by lanes c.args.number) c.args.keys.now c.partition_point.result c.partition_point.ensures.partitioned (rw same parted_keys) (λ a r q called. search rules) in
     let long = ap length same ∙ length-map pairs key_in in
-    split c.args.by lanes pairs reads test (c.args.number + 1) agrees c.partition_point.result (omega (arith, c.partition_point.ensures.bound, long)) (rw (← same) point)
+    split c.args.by lanes pairs reads (is_up_to c.args.by lanes c.args.number) (c.args.number + 1) (up_to_tests c.args.by lanes c.args.number) c.partition_point.result (omega (arith, c.partition_point.ensures.bound, long)) (rw (← same) point)
 
 pub returns-then-is_empty-clause-parted : goal.returns-then-is_empty-clause-parted
 returns-then-is_empty-clause-parted c =
     λ pairs same reads up.
     let lanes = c.args.arena.now.lanes in
-    let test : ℕ → Bool = λ k. is_le (option_cmp nat_cmp (number_at c.args.by lanes k) (Some c.args.number)) in
-    let agrees : (k m : ℕ) → number_at c.args.by lanes k ≡ Some m → test k ≡ ltb m (c.args.number + 1) = λ k m is. ap (λ o. is_le (option_cmp nat_cmp o (Some c.args.number))) is ∙ le_tests m c.args.number in
     let long = ap length same ∙ length-map pairs key_in in
     elim c.then-is_empty.branch [
       | then-is_empty-via-then-is_empty w ↦ (
@@ -33,5 +27,5 @@ returns-then-is_empty-clause-parted c =
       | then-is_empty-via-else-is_empty+then-is_le w ↦ (
           let key = w.index-keys-keys.result in
           let last = length c.args.keys.now - 1 in
-          all_pass c.args.by lanes pairs reads test (c.args.number + 1) agrees up (length c.args.keys.now) last key long (last_there c.args.keys.now (sym c.is_empty.ensures ∙ w.if-is_empty.false)) (w.index-keys-keys.is ∙ ap (λ ks. get_or ks last key) same) (ap is_le (sym w.compared.ensures) ∙ sym w.is_le.ensures ∙ w.if-is_le.true))
+          all_pass c.args.by lanes pairs reads (is_up_to c.args.by lanes c.args.number) (c.args.number + 1) (up_to_tests c.args.by lanes c.args.number) up (length c.args.keys.now) last key long (last_there c.args.keys.now (sym c.is_empty.ensures ∙ w.if-is_empty.false)) (w.index-keys-keys.is ∙ ap (λ ks. get_or ks last key) same) (ap is_le (sym w.compared.ensures) ∙ sym w.is_le.ensures ∙ w.if-is_le.true))
     ]

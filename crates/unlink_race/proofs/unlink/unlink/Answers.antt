@@ -18,30 +18,26 @@ returns-in-None-clause-left c =
 
 pub returns-in-Already-clause-told : goal.returns-in-Already-clause-told
 returns-in-Already-clause-told c =
-    let at = took_first (has_number c.args.target) _ _ (sym c.place_of_number.ensures ∙ c.in-Some.is) in
-    sym (told_at _ _ _ (sym at.0 ∙ c.at.ensures) (sym c.asked_back.ensures ∙ c.in-Already.is))
+    sym (told_at c.args.target _ c.args.table.now _ _ (sym c.place_of_number.ensures ∙ c.in-Some.is) c.at.ensures (sym c.asked_back.ensures ∙ c.in-Already.is))
 
 pub returns-in-Already-clause-left : goal.returns-in-Already-clause-left
 returns-in-Already-clause-left c =
-    let at = took_first (has_number c.args.target) _ _ (sym c.place_of_number.ensures ∙ c.in-Some.is) in
-    sym (left_at c.args.target c.args.by c.args.table.now _ _ _ (sym at.0 ∙ c.at.ensures) (sym c.asked_back.ensures ∙ c.in-Already.is))
+    sym (left_at c.args.target c.args.by _ c.args.table.now _ _ (sym c.place_of_number.ensures ∙ c.in-Some.is) c.at.ensures (sym c.asked_back.ensures ∙ c.in-Already.is))
 
 pub returns-in-Taken-clause-told : goal.returns-in-Taken-clause-told
 returns-in-Taken-clause-told c =
-    let at = took_first (has_number c.args.target) _ _ (sym c.place_of_number.ensures ∙ c.in-Some.is) in
     let one : Some c.remove.result ≡ Some c.at.result.now = sym c.remove.ensures.live ∙ c.at.ensures in
     let same : c.remove.result ≡ c.at.result.now = cc in
-    ap Taken same ∙ sym (told_at _ _ _ (sym at.0 ∙ c.at.ensures) (sym c.asked_back.ensures ∙ c.in-Taken.is))
+    ap Taken same ∙ sym (told_at c.args.target _ c.args.table.now _ _ (sym c.place_of_number.ensures ∙ c.in-Some.is) c.at.ensures (sym c.asked_back.ensures ∙ c.in-Taken.is))
 
 pub returns-in-Taken-clause-left : goal.returns-in-Taken-clause-left
 returns-in-Taken-clause-left c =
     let at = took_first (has_number c.args.target) _ _ (sym c.place_of_number.ensures ∙ c.in-Some.is) in
-    c.remove.ensures.rest ∙ at.1 ∙ sym (left_at c.args.target c.args.by c.args.table.now _ _ _ (sym at.0 ∙ c.at.ensures) (sym c.asked_back.ensures ∙ c.in-Taken.is))
+    c.remove.ensures.rest ∙ at.1 ∙ sym (left_at c.args.target c.args.by _ c.args.table.now _ _ (sym c.place_of_number.ensures ∙ c.in-Some.is) c.at.ensures (sym c.asked_back.ensures ∙ c.in-Taken.is))
 
 pub returns-in-Cancel-clause-told : goal.returns-in-Cancel-clause-told
 returns-in-Cancel-clause-told c =
-    let at = took_first (has_number c.args.target) _ _ (sym c.place_of_number.ensures ∙ c.in-Some.is) in
-    sym (told_at _ _ _ (sym at.0 ∙ c.at.ensures) (sym c.asked_back.ensures ∙ c.in-Cancel.is))
+    sym (told_at c.args.target _ c.args.table.now _ _ (sym c.place_of_number.ensures ∙ c.in-Some.is) c.at.ensures (sym c.asked_back.ensures ∙ c.in-Cancel.is))
 
 pub returns-in-Cancel-clause-left : goal.returns-in-Cancel-clause-left
 returns-in-Cancel-clause-left c =
@@ -49,8 +45,7 @@ returns-in-Cancel-clause-left c =
 
 pub returns-in-Waits-clause-told : goal.returns-in-Waits-clause-told
 returns-in-Waits-clause-told c =
-    let at = took_first (has_number c.args.target) _ _ (sym c.place_of_number.ensures ∙ c.in-Some.is) in
-    sym (told_at _ _ _ (sym at.0 ∙ c.at.ensures) (sym c.asked_back.ensures ∙ c.in-Waits.is))
+    sym (told_at c.args.target _ c.args.table.now _ _ (sym c.place_of_number.ensures ∙ c.in-Some.is) c.at.ensures (sym c.asked_back.ensures ∙ c.in-Waits.is))
 
 pub returns-in-Waits-clause-left : goal.returns-in-Waits-clause-left
 returns-in-Waits-clause-left c =
