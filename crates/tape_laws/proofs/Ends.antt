@@ -12,7 +12,7 @@ use Rattle.bridge_run.specs.events.Events.{LinkEvent}
 use Rattle.bridge_run.specs.course.Course.{Course, Next, Making, Takes}
 use Rattle.bridge_run.specs.events.Prescribed.{Prescribed}
 use Rattle.bridge_run.specs.course.Calls.{Outcome, Goes, Stops, call, course_of}
-use Rattle.bridge_run.specs.course.Outside.{Outside, Written, Faults, written, Tells, IsBetween, IsRecordedInPart, IsRecordedUntold, HasLines, Cut}
+use Rattle.bridge_run.specs.course.Outside.{Outside, Written, written, Tells, IsBetween, IsRecordedInPart, IsRecordedUntold, HasLines, Cut}
 use Rattle.bridge_run.specs.events.RanOut.{RanOutWithin}
 use Rattle.bridge_run.specs.served.GateStops.{gate_runs_out}
 use Rattle.bridge_run.specs.course.Serves.{MayRunOut, Reaches, NoneWaits, EndsSo, CutShort, Leaves}
@@ -26,7 +26,7 @@ use Rattle.usbgate_tapes.specs.tape.EventCommand.{over_events}
 use Rattle.usbgate_tapes.specs.Replay.{replay}
 use Rattle.usbgate_commands.specs.links.Recording.{IsUnmade, IsUnbegun}
 use Rattle.usbgate_commands.specs.words.Serving.{ServeSettings}
-use Rattle.usbgate_commands.specs.links.Serves.{setting_of, ended_as, IsUnrecorded, IsRecorded, Serves}
+use Rattle.usbgate_commands.specs.links.Serves.{Known, setting_of, ended_as, IsUnrecorded, IsRecorded, Serves}
 use Rattle.bridge_run.specs.written.Recorded.{event_line, lines_of as event_lines}
 use Rattle.tape_laws.specs.Recordings.{recorded, served, all_replayed}
 use Rattle.bridge_run.specs.log.Log.{IsFront}
@@ -378,15 +378,15 @@ told-line : (known : Option (List ℕ)) (line recorded waiting : List ℕ) → I
 told-line None line recorded waiting h is none = tt
 told-line (Some l) line recorded waiting h is none = (h ∙ sym is, sym none)
 
-pub replays : (status : Status) (asked : ServeSettings) (name : List ℕ) (old new : Outside) (f f' : Faults) (w w' : Written) (c : Course) (held : List ℕ) → asked.recording ≡ Some name → Serves asked.recording asked status old new f f' w w' → IsFresh asked c
-    → Tells old (written w.begun w.told None) c → w'.tape ≡ Some held → length held ≤ tape_limit → Replays status asked c w.tape new held
-replays status asked name old new f f' w w' c held asks serves fresh tells tape-is room = go (subst (λ (o : Option (List ℕ)). Serves o asked status old new f f' w w') asks serves)
+pub replays : (status : Status) (asked : ServeSettings) (name : List ℕ) (old new : Known) (c : Course) (held : List ℕ) → asked.recording ≡ Some name → Serves asked.recording asked status old new → IsFresh asked c
+    → Tells old.outside (written old.written.begun old.written.told None) c → new.written.tape ≡ Some held → length held ≤ tape_limit → Replays status asked c old.written.tape new.outside held
+replays status asked name old new c held asks serves fresh tells tape-is room = go (subst (λ (o : Option (List ℕ)). Serves o asked status old new) asks serves)
   where
-    go : IsUnrecorded asked status old new f f' w w' ⊎ IsRecorded asked status old new f f' w w' → Replays status asked c w.tape new held
+    go : IsUnrecorded asked status old new ⊎ IsRecorded asked status old new → Replays status asked c old.written.tape new.outside held
     go (inl x) =
-        unbegun-replays status asked c w.tape w'.tape new held f.tape f'.tape tape-is room x.cause
-        (subst IsUnserved (sym x.outside-is) (untouched asked c old (written w.begun w.told None) fresh tells)) x.tape
+        unbegun-replays status asked c old.written.tape new.written.tape new.outside held old.faults.tape new.faults.tape tape-is room x.cause
+        (subst IsUnserved (sym x.outside-is) (untouched asked c old.outside (written old.written.begun old.written.told None) fresh tells)) x.tape
     go (inr x) =
-        subst (λ (s : Status). Replays s asked c w.tape new held) (sym x.ends.status-is)
-        (end-replays asked c x.ends.end new w' held fresh tape-is room
-        (x.ends.leaves c fresh.begins (record { client = tells.client; host = tells.host; clients = tells.clients; told = tells.told; tape = told-line x.known (first_comment asked.first_id) c.recorded c.waiting x.first_line fresh.recorded-is fresh.begins.none_waits })) w.tape)
+        subst (λ (s : Status). Replays s asked c old.written.tape new.outside held) (sym x.ends.status-is)
+        (end-replays asked c x.ends.end new.outside new.written held fresh tape-is room
+        (x.ends.leaves c fresh.begins (record { client = tells.client; host = tells.host; clients = tells.clients; told = tells.told; tape = told-line x.tape (first_comment asked.first_id) c.recorded c.waiting x.first_line fresh.recorded-is fresh.begins.none_waits })) old.written.tape)

@@ -2,10 +2,10 @@
 
 ghost use Rattle.std.specs.Prelude.{◌≡◌, ◌≤◌, ℕ, List, length, Some, None};
 ghost use Rattle.bridge_run.specs.course.Course.{Course};
-ghost use Rattle.bridge_run.specs.course.Outside.{Outside, Written, Faults, written, Tells};
+ghost use Rattle.bridge_run.specs.course.Outside.{written, Tells};
 ghost use Rattle.usbgate_tapes.specs.declared.status.Status.{Status as End};
 ghost use Rattle.usbgate_commands.specs.words.Serving.{ServeSettings};
-ghost use Rattle.usbgate_commands.specs.links.Serves.{Serves};
+ghost use Rattle.usbgate_commands.specs.links.Serves.{Known, Serves};
 ghost use Rattle.packet_show.specs.declared.tape.TheConstants.{TAPE_LIMIT as tape_limit};
 ghost use Rattle.tape_laws.specs.Begun.{IsFresh};
 ghost use Rattle.tape_laws.specs.Plays.{Replays};
@@ -16,8 +16,8 @@ ghost use Rattle.tape_laws.specs.Plays.{Replays};
 /// Where nothing was served the tape is as it was, or has a front of its first line, whose replay prints what one of
 /// nothing does.
 pub fn recordings_replay()
-    ensures { (status : End) (asked : ServeSettings) (name : List ℕ) (old new : Outside) (faults_old faults_new : Faults) (written_old written_new : Written) (c : Course) (held : List ℕ)
-        → asked.recording ≡ Some name → Serves asked.recording asked status old new faults_old faults_new written_old written_new
-        → IsFresh asked c → Tells old (written written_old.begun written_old.told None) c → written_new.tape ≡ Some held → length held ≤ tape_limit
-        → Replays status asked c written_old.tape new held }
+    ensures { (status : End) (asked : ServeSettings) (name : List ℕ) (old new : Known) (c : Course) (held : List ℕ)
+        → asked.recording ≡ Some name → Serves asked.recording asked status old new
+        → IsFresh asked c → Tells old.outside (written old.written.begun old.written.told None) c → new.written.tape ≡ Some held → length held ≤ tape_limit
+        → Replays status asked c old.written.tape new.outside held }
 {}

@@ -1,11 +1,8 @@
 -- What a run leaves is of what the words ask for.
 use Rattle.std.proofs.Common.{◌≡◌, ℕ, true, false, List, Option, Some, IfSome, Result, sym, ap, subst, ◌∙◌}
 use Rattle.std.proofs.lemmas.Option.{same_Some}
-use Rattle.usb_base.specs.declared.side.Side.{Side}
 use Rattle.gate_outside.specs.declared.fault.Failed.{Failed}
 use Rattle.gate_outside.specs.Calls.{Call}
-use Rattle.gate_outside.specs.Link.{Link, Door}
-use Rattle.bridge_run.specs.course.Outside.{Faults, Written}
 use Rattle.usbgate_tapes.specs.declared.status.Status.{Status}
 use Rattle.usbgate_tapes.specs.Printout.{Printout}
 use Rattle.usbgate_tapes.specs.Logs.{RunLeaves, RunWrites}
@@ -14,6 +11,7 @@ use Rattle.usbgate_commands.specs.declared.words.command.Command.{Command}
 use Rattle.usbgate_commands.specs.declared.words.command.Command.TheVariants.{Serve, Host}
 use Rattle.usbgate_commands.specs.words.Lending.{AskedLent}
 use Rattle.usbgate_commands.specs.links.Logs.{RunServes, RunLends}
+use Rattle.usbgate_commands.specs.links.Serves.{Known}
 use Rattle.usbgate_commands.specs.words.Serving.{ServeSettings}
 use Rattle.usbgate.specs.Printouts.{printout_of}
 
@@ -37,15 +35,15 @@ writes-asked {read_gives = read_gives} {write_gives = write_gives} {remaining = 
 same-served : (x y : ServeSettings) → Serve x ≡ Serve y → x ≡ y
 same-served x y same = cc
 
-pub serves-asked : {D : Type 0} {gives : D → Call → D → Type 0} {link : D → Side → Link} {door : D → Door} {tells : List ℕ → Type 0} {status : Status} {old new : D} {f f' : Faults} {w w' : Written} (x y : ServeSettings) → Serve x ≡ Serve y
-    → RunServes gives link door tells status x old new f f' w w' → RunServes gives link door tells status y old new f f' w w'
-serves-asked {gives = gives} {link = link} {door = door} {tells = tells} {status = status} {old = old} {new = new} {f = f} {f' = f'} {w = w} {w' = w'} x y same serves =
-    subst (λ (asked : ServeSettings). RunServes gives link door tells status asked old new f f' w w') (same-served x y same) serves
+pub serves-asked : {D : Type 0} {gives : D → Call → D → Type 0} {tells : List ℕ → Type 0} {status : Status} {old new : D} {before after : Known} (x y : ServeSettings) → Serve x ≡ Serve y
+    → RunServes gives tells status x old new before after → RunServes gives tells status y old new before after
+serves-asked {gives = gives} {tells = tells} {status = status} {old = old} {new = new} {before = before} {after = after} x y same serves =
+    subst (λ (asked : ServeSettings). RunServes gives tells status asked old new before after) (same-served x y same) serves
 
 same-lent : (x y : AskedLent) → Host x ≡ Host y → x ≡ y
 same-lent x y same = cc
 
-pub lends-asked : {D : Type 0} {gives : D → Call → D → Type 0} {link : D → Side → Link} {door : D → Door} {tells : List ℕ → Type 0} {status : Status} {old new : D} {n n' : ℕ} {held held' : Option (List ℕ)} (x y : AskedLent) → Host x ≡ Host y
-    → RunLends gives link door tells status x old new n n' held held' → RunLends gives link door tells status y old new n n' held held'
-lends-asked {gives = gives} {link = link} {door = door} {tells = tells} {status = status} {old = old} {new = new} {n = n} {n' = n'} {held = held} {held' = held'} x y same lends =
-    subst (λ (asked : AskedLent). RunLends gives link door tells status asked old new n n' held held') (same-lent x y same) lends
+pub lends-asked : {D : Type 0} {gives : D → Call → D → Type 0} {tells : List ℕ → Type 0} {status : Status} {old new : D} {before after : Known} (x y : AskedLent) → Host x ≡ Host y
+    → RunLends gives tells status x old new before after → RunLends gives tells status y old new before after
+lends-asked {gives = gives} {tells = tells} {status = status} {old = old} {new = new} {before = before} {after = after} x y same lends =
+    subst (λ (asked : AskedLent). RunLends gives tells status asked old new before after) (same-lent x y same) lends

@@ -6,7 +6,7 @@ ghost use Rattle.usb_base.specs.declared.side.Side.{Side as ASide};
 ghost use Rattle.usb_base.specs.declared.side.Side.TheVariants.{Client, Host};
 ghost use Rattle.session_tape.specs.Tapes.{WasThere};
 ghost use Rattle.bridge_run.specs.log.Log.{Told};
-ghost use Rattle.bridge_run.specs.course.Outside.{written, faults, OneRose};
+ghost use Rattle.bridge_run.specs.course.Outside.{faults, OneRose};
 ghost use Rattle.usbgate_tapes.specs.declared.model.device.Device.{Device as ADevice};
 ghost use Rattle.usbgate_tapes.specs.Logs.{RunLeaves};
 ghost use Rattle.usbgate_tapes.specs.Printout.{Printout};
@@ -15,6 +15,7 @@ ghost use Rattle.usbgate_tapes.specs.model.Simulated.{RunSimulates, MadeSimulate
 ghost use Rattle.usbgate_commands.specs.words.Serving.{ServeSettings};
 ghost use Rattle.usbgate_commands.specs.words.Lending.{AskedLent};
 ghost use Rattle.usbgate_commands.specs.links.Logs.{RunServes, RunLends};
+ghost use Rattle.usbgate_commands.specs.links.Serves.{Known, known_of, known_untaped};
 ghost use Rattle.usbgate_commands.specs.links.Recording.{records};
 ghost use Rattle.usbgate_commands.specs.words.Words.{texts, command_of};
 
@@ -45,11 +46,11 @@ pub fn run<S: Source, K: Sink, D: Doors, T: MakeTape>(
     ensures simulates { (device : ADevice) → command_of (texts words.now) ≡ Command.Model device → RunSimulates S.read_gives S.remaining result device tape.old tape.new }
     ensures load_simulates { (count : ℕ) → command_of (texts words.now) ≡ Command.Load count → result ≡ Status.Done → MadeSimulates count }
     ensures serves { (asked : ServeSettings) → command_of (texts words.now) ≡ Command.Serve asked
-        → RunServes D.call_gives D.link D.door (Told K.write_gives out.old out.new) result asked doors.old doors.new
-        (faults (K.faults out.old) (T.counts recording.old)) (faults (K.faults out.new) (T.counts recording.new)) (written (K.contents out.old) (K.contents out.old) (T.contents recording.old)) (written (K.contents out.old) (K.contents out.new) (T.contents recording.new)) }
+        → let known : D → K → T → Known = known_of D.link D.door K.faults K.contents T.counts T.contents out.old in
+        RunServes D.call_gives (Told K.write_gives out.old out.new) result asked doors.old doors.new (known doors.old out.old recording.old) (known doors.new out.new recording.new) }
     ensures lends { (asked : AskedLent) → command_of (texts words.now) ≡ Command.Host asked
-        → RunLends D.call_gives D.link D.door (Told K.write_gives out.old out.new) result asked doors.old doors.new
-        (K.faults out.old) (K.faults out.new) (K.contents out.old) (K.contents out.new) }
+        → let known : D → K → Known = known_untaped D.link D.door K.faults K.contents out.old in
+        RunLends D.call_gives (Told K.write_gives out.old out.new) result asked doors.old doors.new (known doors.old out.old) (known doors.new out.new) }
     ensures usage { result ≡ Status.Usage → (command_of (texts words.now) ≡ Command.Unknown) ⊎ ((records (command_of (texts words.now)) ≡ true) × WasThere (T.counts recording.old) (T.counts recording.new)) }
     ensures unread { IfSome (printout_of (command_of (texts words.now))) (λ p. p.taped ≡ false) → tape.new ≡ tape.old }
     ensures read_fault { result ≡ Status.ReadFault → Rose (S.faults tape.old) (S.faults tape.new) }

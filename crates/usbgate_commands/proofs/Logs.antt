@@ -9,12 +9,12 @@ use Rattle.bridge_run.specs.events.Events.{LinkEvent}
 use Rattle.bridge_run.specs.served.Gate.{gate_sends}
 use Rattle.bridge_run.specs.served.GateStops.{gate_runs_out}
 use Rattle.bridge_run.specs.log.Log.{Terms, Told}
-use Rattle.bridge_run.specs.course.Outside.{Faults, Written, outside}
+use Rattle.bridge_run.specs.course.Outside.{outside}
 use Rattle.bridge_run.specs.events.Prescribed.{Prescribed}
 use Rattle.usbgate_tapes.specs.declared.status.Status.TheVariants.{OutOfMemory}
 use Rattle.usbgate_commands.specs.words.Lending.{AskedLent}
 use Rattle.usbgate_commands.specs.links.Logs.{HasLog, terms_of, terms_lent, RunServes, RunLends}
-use Rattle.usbgate_commands.specs.links.Serves.{device_sends, device_runs_out}
+use Rattle.usbgate_commands.specs.links.Serves.{Known, known_untaped, device_sends, device_runs_out}
 use Rattle.usbgate_commands.specs.words.Serving.{ServeSettings}
 use Rattle.usbgate_commands.proofs.Served.{unserved, unlent}
 
@@ -32,14 +32,15 @@ unlogged gives runs_out writes terms p now out = record {
 
 -- ---- a run that memory ended before
 
-pub run-unserved : {D K : Type 0} → (gives : D → Call → D → Type 0) (link : D → Side → Link) (door : D → Door) (writes : K → List ℕ → Result ℕ Failed → K → Type 0) (asked : ServeSettings) (now : D) (out : K) (f : Faults) (w : Written) → RunServes gives link door (Told writes out out) OutOfMemory asked now now f f w w
-run-unserved gives link door writes asked now out f w = record {
+pub run-unserved : {D K : Type 0} → (gives : D → Call → D → Type 0) (writes : K → List ℕ → Result ℕ Failed → K → Type 0) (asked : ServeSettings) (now : D) (out : K) (known : Known) → RunServes gives (Told writes out out) OutOfMemory asked now now known known
+run-unserved gives writes asked now out known = record {
   by_log = inr (unlogged gives (gate_runs_out asked.first_id) writes (terms_of asked) (gate_sends asked.after_loss asked.first_id) now out);
-  where_told = unserved asked.recording asked (outside (link now) (door now)) f w;
+  where_told = unserved asked.recording asked known;
 }
 
-pub run-unlent : {D K : Type 0} → (gives : D → Call → D → Type 0) (link : D → Side → Link) (door : D → Door) (writes : K → List ℕ → Result ℕ Failed → K → Type 0) (asked : AskedLent) (now : D) (out : K) (count : ℕ) (contents : Option (List ℕ)) → RunLends gives link door (Told writes out out) OutOfMemory asked now now count count contents contents
-run-unlent gives link door writes asked now out count contents = record {
+pub run-unlent : {D K : Type 0} → (gives : D → Call → D → Type 0) (link : D → Side → Link) (door : D → Door) (writes : K → List ℕ → Result ℕ Failed → K → Type 0) (faults : K → ℕ) (contents : K → Option (List ℕ)) (asked : AskedLent) (now : D) (out : K) →
+    RunLends gives (Told writes out out) OutOfMemory asked now now (known_untaped link door faults contents out now out) (known_untaped link door faults contents out now out)
+run-unlent gives link door writes faults contents asked now out = record {
   by_log = unlogged gives (device_runs_out asked.device) writes (terms_lent asked) (device_sends asked.device) now out;
-  where_told = unlent asked (outside (link now) (door now)) count contents;
+  where_told = unlent asked (outside (link now) (door now)) (faults out) (contents out);
 }

@@ -12,7 +12,7 @@ use Rattle.bridge_run.specs.course.Calls.{Goes, come, course_of}
 use Rattle.std.specs.Io.KnownBytes.{append_known}
 use Rattle.gate_outside.specs.Faults.{Rose}
 use Rattle.session_tape.specs.Tapes.{Counts, counts}
-use Rattle.bridge_run.specs.course.Outside.{Outside, Written, Faults, outside, written, faults, OneRose, NoFault, Tells, Cut, HasCause, IsBetween}
+use Rattle.bridge_run.specs.course.Outside.{Outside, Faults, outside, written, faults, OneRose, NoFault, Tells, Cut, HasCause, IsBetween}
 use Rattle.bridge_run.specs.events.Events.{LinkEvent}
 use Rattle.bridge_run.specs.course.Serves.{MayRunOut, CutShort}
 use Rattle.usbgate_tapes.specs.declared.status.Status.{Status}
@@ -20,7 +20,7 @@ use Rattle.usbgate_tapes.specs.declared.status.Status.TheVariants.{Done, Usage, 
 use Rattle.usbgate_commands.specs.words.Serving.{ServeSettings}
 use Rattle.usbgate_commands.specs.words.Lending.{AskedLent}
 use Rattle.usbgate_commands.specs.links.Recording.{IsUnmade, HasServed}
-use Rattle.usbgate_commands.specs.links.Serves.{Serves, EndsOf, HasNoTape, IsUnrecorded, IsRecorded, device_runs_out, setting_of, setting_lent, ended_as}
+use Rattle.usbgate_commands.specs.links.Serves.{Known, Serves, EndsOf, HasNoTape, IsUnrecorded, IsRecorded, device_runs_out, setting_of, setting_lent, ended_as}
 
 -- nothing was written of what was to be put behind it
 unwritten : (known : Option (List ℕ)) (least more : List ℕ) → known ≡ Some least → IsBetween least known (least ++ more)
@@ -60,7 +60,11 @@ unmade s c w begun out tells = record {
   };
 }
 
-unserved-so : {runs_out : List LinkEvent → LinkEvent → List ℕ → List ℕ → Type 0} → (s : Setting) (w : Outside) (f : Faults) (begun out : Option (List ℕ)) → EndsOf runs_out s Making OutOfMemory w w f f (written begun out None) (written begun out None)
+-- over a tape that tells nothing
+abbrev untold-tape : Outside → Faults → Option (List ℕ) → Option (List ℕ) → Known
+untold-tape w f begun out = record { outside = w; faults = f; written = written begun out None }
+
+unserved-so : {runs_out : List LinkEvent → LinkEvent → List ℕ → List ℕ → Type 0} → (s : Setting) (w : Outside) (f : Faults) (begun out : Option (List ℕ)) → EndsOf runs_out s Making OutOfMemory (untold-tape w f begun out) (untold-tape w f begun out)
 unserved-so s w f begun out = record {
   end = end.Memory;
   status-is = refl;
@@ -70,9 +74,9 @@ unserved-so s w f begun out = record {
 }
 
 -- memory ran out before
-pub unserved : (recording : Option (List ℕ)) (asked : ServeSettings) (w : Outside) (f : Faults) (out : Written) → Serves recording asked OutOfMemory w w f f out out
-unserved None asked w f out = record { tape-is = refl; counts-are = refl; ends = unserved-so (setting_of asked) w (faults f.sink (counts 0 0)) out.begun out.told }
-unserved (Some name) asked w f out = inl (record { outside-is = refl; sink = refl; told = refl; cause = refl; tape = inl refl })
+pub unserved : (recording : Option (List ℕ)) (asked : ServeSettings) (known : Known) → Serves recording asked OutOfMemory known known
+unserved None asked known = record { tape-is = refl; counts-are = refl; ends = unserved-so (setting_of asked) known.outside (faults known.faults.sink (counts 0 0)) known.written.begun known.written.told }
+unserved (Some name) asked known = inl (record { outside-is = refl; sink = refl; told = refl; cause = refl; tape = inl refl })
 
 -- nobody is asked for at the door yet
 no-guest : {ran_out : List LinkEvent → LinkEvent → List ℕ → List ℕ → Type 0} → (clients : List (List Turn)) (c : Course) (w : Outside) (begun out : Option (List ℕ)) → Tells w (written begun out None) c → Cut ran_out w (written begun out None) c (course_of (come clients c))
@@ -102,7 +106,7 @@ unasked {runs_out = runs_out} s c w begun out down tells = record {
   cut = subst (λ (d : Course). Cut (MayRunOut end.Memory runs_out s.served) w (written begun out None) c d) (sym (ap (λ (b : Bool). course_of (cond b (Goes AtClient c) (come c.clients c))) down)) (no-guest c.clients c w begun out tells);
 }
 
-pub unlent : (asked : AskedLent) (w : Outside) (count : ℕ) (out : Option (List ℕ)) → EndsOf (device_runs_out asked.device) (setting_lent asked) AtDoor OutOfMemory w w (faults count (counts 0 0)) (faults count (counts 0 0)) (written out out None) (written out out None)
+pub unlent : (asked : AskedLent) (w : Outside) (count : ℕ) (out : Option (List ℕ)) → EndsOf (device_runs_out asked.device) (setting_lent asked) AtDoor OutOfMemory (untold-tape w (faults count (counts 0 0)) out out) (untold-tape w (faults count (counts 0 0)) out out)
 unlent asked w count out = record {
   end = end.Memory;
   status-is = refl;
@@ -240,20 +244,20 @@ never-usage (end.LinkFault side) is = cc
 
 -- ---- what serving leaves
 
-pub serves-none : (recording : Option (List ℕ)) (asked : ServeSettings) (status : Status) (old new : Outside) (f f' : Faults) (w w' : Written) → recording ≡ None → HasNoTape asked status old new f f' w w' → Serves recording asked status old new f f' w w'
-serves-none None asked status old new f f' w w' is h = h
-serves-none (Some name) asked status old new f f' w w' is h = absurd (some-none is)
+pub serves-none : (recording : Option (List ℕ)) (asked : ServeSettings) (status : Status) (old new : Known) → recording ≡ None → HasNoTape asked status old new → Serves recording asked status old new
+serves-none None asked status old new is h = h
+serves-none (Some name) asked status old new is h = absurd (some-none is)
   where
     some-none : Some name ≡ None → ⊥
     some-none e = cc
 
-pub serves-some : (recording : Option (List ℕ)) (name : List ℕ) (asked : ServeSettings) (status : Status) (old new : Outside) (f f' : Faults) (w w' : Written) → recording ≡ Some name
-    → IsUnrecorded asked status old new f f' w w' ⊎ IsRecorded asked status old new f f' w w' → Serves recording asked status old new f f' w w'
-serves-some None name asked status old new f f' w w' is h = absurd (none-some is)
+pub serves-some : (recording : Option (List ℕ)) (name : List ℕ) (asked : ServeSettings) (status : Status) (old new : Known) → recording ≡ Some name
+    → IsUnrecorded asked status old new ⊎ IsRecorded asked status old new → Serves recording asked status old new
+serves-some None name asked status old new is h = absurd (none-some is)
   where
     none-some : None ≡ Some name → ⊥
     none-some e = cc
-serves-some (Some other) name asked status old new f f' w w' is h = h
+serves-some (Some other) name asked status old new is h = h
 
 -- the first line is all that the tape has
 pub first-written : (known new : Option (List ℕ)) (line : List ℕ) → IfSome known (λ held. held ≡ []) → new ≡ append_known known line → IfSome new (λ held. held ≡ line)

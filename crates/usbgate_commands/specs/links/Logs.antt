@@ -1,22 +1,18 @@
 -- What a run of `serve` or `host` has asked of its doors, written to them and told its sink, by the log of their calls;
 -- and what follows of these, by their counts, and where they tell their bytes.
-use Rattle.std.specs.Prelude.{◌≡◌, ◌⊎◌, ℕ, true, false, List, [], Option, Some, None, is_some}
-use Rattle.usb_base.specs.declared.side.Side.{Side}
+use Rattle.std.specs.Prelude.{◌≡◌, ◌⊎◌, ℕ, true, false, List, [], Some, None, is_some}
 use Rattle.gate_outside.specs.Calls.{Call}
-use Rattle.gate_outside.specs.Link.{Link, Door}
 use Rattle.bridge_run.specs.declared.course.serve_end.ServeEnd.{ServeEnd}
 use Rattle.bridge_run.specs.course.Course.{AtDoor}
 use Rattle.bridge_run.specs.events.Events.{LinkEvent}
-use Rattle.session_tape.specs.Tapes.{counts}
 use Rattle.bridge_run.specs.served.Gate.{gate_sends}
 use Rattle.bridge_run.specs.served.GateStops.{gate_runs_out}
 use Rattle.bridge_run.specs.log.Log.{Terms, Logged}
-use Rattle.bridge_run.specs.course.Outside.{Faults, Written, faults, outside, written}
 use Rattle.bridge_run.specs.events.Prescribed.{Prescribed}
 use Rattle.usbgate_tapes.specs.declared.status.Status.{Status}
 use Rattle.usbgate_commands.specs.declared.links.serve.TheConstants.{BUDGET}
 use Rattle.usbgate_commands.specs.words.Lending.{AskedLent}
-use Rattle.usbgate_commands.specs.links.Serves.{device_sends, device_runs_out, ended_as, setting_lent, EndsOf, Serves}
+use Rattle.usbgate_commands.specs.links.Serves.{Known, device_sends, device_runs_out, ended_as, setting_lent, EndsOf, Serves}
 use Rattle.usbgate_commands.specs.words.Serving.{ServeSettings}
 
 pub record HasLog {D : Type 0} (gives : D → Call → D → Type 0) (runs_out : List LinkEvent → LinkEvent → List ℕ → List ℕ → Type 0) (tells : List ℕ → Type 0) (terms : Terms) (p : Prescribed) (status : Status) (old new : D) : Type 0 where
@@ -38,11 +34,11 @@ pub record IsUnasked {D : Type 0} (tells : List ℕ → Type 0) (asked : ServeSe
 
 -- What a run of `serve` leaves: by the log of the doors' calls, over any doors and any sink; and by their counts of
 -- faults and of idle answers and those of the recording, and where all of these tell their bytes.
-pub record RunServes {D : Type 0} (gives : D → Call → D → Type 0) (link : D → Side → Link) (door : D → Door) (tells : List ℕ → Type 0) (status : Status) (asked : ServeSettings) (old new : D) (faults_old faults_new : Faults) (written_old written_new : Written) : Type 0 where
+pub record RunServes {D : Type 0} (gives : D → Call → D → Type 0) (tells : List ℕ → Type 0) (status : Status) (asked : ServeSettings) (old new : D) (before after : Known) : Type 0 where
   pub by_log : IsUnasked tells asked old new ⊎ HasLog gives (gate_runs_out asked.first_id) tells (terms_of asked) (gate_sends asked.after_loss asked.first_id) status old new
-  pub where_told : Serves asked.recording asked status (outside (link old) (door old)) (outside (link new) (door new)) faults_old faults_new written_old written_new
+  pub where_told : Serves asked.recording asked status before after
 
 -- the same of a run of `host`, which has no recording, and asks for the guest first
-pub record RunLends {D : Type 0} (gives : D → Call → D → Type 0) (link : D → Side → Link) (door : D → Door) (tells : List ℕ → Type 0) (status : Status) (asked : AskedLent) (old new : D) (faults_old faults_new : ℕ) (contents_old contents_new : Option (List ℕ)) : Type 0 where
+pub record RunLends {D : Type 0} (gives : D → Call → D → Type 0) (tells : List ℕ → Type 0) (status : Status) (asked : AskedLent) (old new : D) (before after : Known) : Type 0 where
   pub by_log : HasLog gives (device_runs_out asked.device) tells (terms_lent asked) (device_sends asked.device) status old new
-  pub where_told : EndsOf (device_runs_out asked.device) (setting_lent asked) AtDoor status (outside (link old) (door old)) (outside (link new) (door new)) (faults faults_old (counts 0 0)) (faults faults_new (counts 0 0)) (written contents_old contents_old None) (written contents_old contents_new None)
+  pub where_told : EndsOf (device_runs_out asked.device) (setting_lent asked) AtDoor status before after

@@ -9,9 +9,11 @@ use Rattle.bridge_run.specs.served.GateStops.{gate_runs_out}
 use Rattle.bridge_run.specs.events.Events.{LinkEvent}
 use Rattle.bridge_run.specs.served.Lent.{lent_sends}
 use Rattle.bridge_run.specs.served.LentStops.{LentStops}
-use Rattle.session_tape.specs.Tapes.{counts}
+use Rattle.usb_base.specs.declared.side.Side.{Side}
+use Rattle.gate_outside.specs.Link.{Link, Door}
+use Rattle.session_tape.specs.Tapes.{Counts, counts}
 use Rattle.session_tape.specs.Lines.{first_comment}
-use Rattle.bridge_run.specs.course.Outside.{Outside, Written, Faults, written, faults, Tells, HasCause, HasReason}
+use Rattle.bridge_run.specs.course.Outside.{Outside, Written, Faults, outside, written, faults, Tells, HasCause, HasReason}
 use Rattle.bridge_run.specs.events.Prescribed.{Prescribed}
 use Rattle.bridge_run.specs.course.Serves.{NothingYet, Leaves}
 use Rattle.usbgate_tapes.specs.declared.model.device.Device.{Device}
@@ -47,39 +49,73 @@ ended_as end.Idle = Idle
 ended_as end.Spent = Spent
 ended_as end.Memory = OutOfMemory
 
+-- ---- what is known before a run and behind it
+
+-- of both links and the door; of the faults of the sink and of the recording; and of the bytes that these have, each
+-- where it tells them
+pub record Known : Type 0 where
+  pub outside : Outside
+  pub faults : Faults
+  pub written : Written
+
+-- by what doors, sinks and recordings tell, where the sink that the run began with is named first
+abbrev pub known_of : {D K T : Type 0} → (D → Side → Link) → (D → Door) → (K → ℕ) → (K → Option (List ℕ)) → (T → Counts) → (T → Option (List ℕ)) → K → D → K → T → Known
+known_of link door sink_faults sink_bytes tape_counts tape_bytes begun doors sink tape = record {
+  outside = outside (link doors) (door doors);
+  faults = faults (sink_faults sink) (tape_counts tape);
+  written = written (sink_bytes begun) (sink_bytes sink) (tape_bytes tape);
+}
+
+-- of a run that has no recording
+abbrev pub known_untaped : {D K : Type 0} → (D → Side → Link) → (D → Door) → (K → ℕ) → (K → Option (List ℕ)) → K → D → K → Known
+known_untaped link door sink_faults sink_bytes begun doors sink = record {
+  outside = outside (link doors) (door doors);
+  faults = faults (sink_faults sink) (counts 0 0);
+  written = written (sink_bytes begun) (sink_bytes sink) None;
+}
+
+-- where nothing is recorded
+abbrev pub untaped : Known → Known
+untaped known = record { outside = known.outside; faults = faults known.faults.sink (counts 0 0); written = written known.written.begun known.written.told None }
+
+-- the tape has these bytes, as far as it tells them
+abbrev pub with_tape : Option (List ℕ) → Known → Known
+with_tape held known = record known { written = written known.written.begun known.written.told held }
+
+-- ---- an end
+
 -- it ends with the status of its end, which has its cause and its reason; and over doors that tell, and a sink and a
 -- tape that may, these are left as that end leaves them, by where memory may run out within an event
-pub record EndsOf (runs_out : List LinkEvent → LinkEvent → List ℕ → List ℕ → Type 0) (setting : Setting) (first : Next) (status : Status) (old new : Outside) (faults_old faults_new : Faults) (written_old written_new : Written) : Type 0 where
+pub record EndsOf (runs_out : List LinkEvent → LinkEvent → List ℕ → List ℕ → Type 0) (setting : Setting) (first : Next) (status : Status) (old new : Known) : Type 0 where
   pub end : ServeEnd
   pub status-is : status ≡ ended_as end
-  pub cause : HasCause end old new faults_old faults_new
-  pub reason : HasReason end setting.idle old new
-  pub leaves : (c : Course) → NothingYet setting.idle BUDGET c → Tells old written_old c → Leaves end runs_out setting (Goes first c) new written_new
+  pub cause : HasCause end old.outside new.outside old.faults new.faults
+  pub reason : HasReason end setting.idle old.outside new.outside
+  pub leaves : (c : Course) → NothingYet setting.idle BUDGET c → Tells old.outside old.written c → Leaves end runs_out setting (Goes first c) new.outside new.written
 
 -- ---- serving, where the host is dialled first
 
 -- nothing was done, since no file was made, or its first line wasn't written
-pub record IsUnrecorded (asked : ServeSettings) (status : Status) (old new : Outside) (faults_old faults_new : Faults) (written_old written_new : Written) : Type 0 where
-  pub outside-is : new ≡ old
-  pub sink : faults_new.sink ≡ faults_old.sink
-  pub told : written_new.told ≡ written_old.told
-  pub cause : IsUnmade status faults_old.tape faults_new.tape
-  pub tape : IsUnbegun asked.first_id status written_old.tape written_new.tape
+pub record IsUnrecorded (asked : ServeSettings) (status : Status) (old new : Known) : Type 0 where
+  pub outside-is : new.outside ≡ old.outside
+  pub sink : new.faults.sink ≡ old.faults.sink
+  pub told : new.written.told ≡ old.written.told
+  pub cause : IsUnmade status old.faults.tape new.faults.tape
+  pub tape : IsUnbegun asked.first_id status old.written.tape new.written.tape
 
 -- behind the first line, where the tape tells its bytes
-pub record IsRecorded (asked : ServeSettings) (status : Status) (old new : Outside) (faults_old faults_new : Faults) (written_old written_new : Written) : Type 0 where
-  pub known : Option (List ℕ)
-  pub first_line : IfSome known (λ held. held ≡ first_comment asked.first_id)
-  pub ends : EndsOf (gate_runs_out asked.first_id) (setting_of asked) Making status old new faults_old faults_new (written written_old.begun written_old.told known) written_new
+pub record IsRecorded (asked : ServeSettings) (status : Status) (old new : Known) : Type 0 where
+  pub tape : Option (List ℕ)
+  pub first_line : IfSome tape (λ held. held ≡ first_comment asked.first_id)
+  pub ends : EndsOf (gate_runs_out asked.first_id) (setting_of asked) Making status (with_tape tape old) new
 
 -- with no tape the outside's one is as it was
-pub record HasNoTape (asked : ServeSettings) (status : Status) (old new : Outside) (faults_old faults_new : Faults) (written_old written_new : Written) : Type 0 where
-  pub tape-is : written_new.tape ≡ written_old.tape
-  pub counts-are : faults_new.tape ≡ faults_old.tape
-  pub ends : EndsOf (gate_runs_out asked.first_id) (setting_of asked) Making status old new (faults faults_old.sink (counts 0 0)) (faults faults_new.sink (counts 0 0)) (written written_old.begun written_old.told None) (written written_new.begun written_new.told None)
+pub record HasNoTape (asked : ServeSettings) (status : Status) (old new : Known) : Type 0 where
+  pub tape-is : new.written.tape ≡ old.written.tape
+  pub counts-are : new.faults.tape ≡ old.faults.tape
+  pub ends : EndsOf (gate_runs_out asked.first_id) (setting_of asked) Making status (untaped old) (untaped new)
 
 -- by the recording that is asked for, if there is one
-abbrev pub Serves : Option (List ℕ) → ServeSettings → Status → (old new : Outside) → (faults_old faults_new : Faults) → (written_old written_new : Written) → Type 0
-Serves None asked status old new faults_old faults_new written_old written_new = HasNoTape asked status old new faults_old faults_new written_old written_new
-Serves (Some name) asked status old new faults_old faults_new written_old written_new =
-    IsUnrecorded asked status old new faults_old faults_new written_old written_new ⊎ IsRecorded asked status old new faults_old faults_new written_old written_new
+abbrev pub Serves : Option (List ℕ) → ServeSettings → Status → (old new : Known) → Type 0
+Serves None asked status old new = HasNoTape asked status old new
+Serves (Some name) asked status old new = IsUnrecorded asked status old new ⊎ IsRecorded asked status old new

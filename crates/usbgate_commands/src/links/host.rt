@@ -4,6 +4,7 @@ ghost use Rattle.std.specs.Prelude.{◌≡◌, ◌≤◌, false};
 ghost use Rattle.usb_base.specs.declared.side.Side.TheVariants.{Client, Host};
 ghost use Rattle.bridge_run.specs.log.Log.{Told};
 ghost use Rattle.usbgate_commands.specs.links.Logs.{RunLends};
+ghost use Rattle.usbgate_commands.specs.links.Serves.{Known, known_untaped};
 ghost use Rattle.usbgate_commands.specs.inner.Lent.{IsLent};
 
 use crate::links::ended::ended_as;
@@ -24,8 +25,8 @@ pub fn host<D: Doors, K: Sink>(
 ) -> Status
     requires down { ((D.link doors.old Client).up ≡ false) × ((D.link doors.old Host).up ≡ false) }
     requires idle { 1 ≤ lending.now.idle }
-    ensures lends { RunLends D.call_gives D.link D.door (Told K.write_gives out.old out.new) result lending.now doors.old doors.new
-        (K.faults out.old) (K.faults out.new) (K.contents out.old) (K.contents out.new) }
+    ensures lends { let known : D → K → Known = known_untaped D.link D.door K.faults K.contents out.old in
+        RunLends D.call_gives (Told K.write_gives out.old out.new) result lending.now doors.old doors.new (known doors.old out.old) (known doors.new out.new) }
 {
     let (listen, idle) = (lending.listen, lending.idle);
     match lending.device.make_for(
@@ -60,8 +61,8 @@ impl<'a, 'w, D: Doors, K: Sink> DeviceUser for Lender<'a, 'w, D, K> {
 
     ghost Holds = { λ old new status. (new.doors.ghost_name ≡ old.doors.ghost_name) × (new.out.ghost_name ≡ old.out.ghost_name) };
 
-    ghost Comes = { λ old new status S m s. IsLent D.call_gives D.link D.door (Told K.write_gives old.out.now new.out.now) status m s old.listen.now old.idle old.doors.now new.doors.now
-        (K.faults old.out.now) (K.faults new.out.now) (K.contents old.out.now) (K.contents new.out.now) };
+    ghost Comes = { λ old new status S m s. let known : D → K → Known = known_untaped D.link D.door K.faults K.contents old.out.now in
+        IsLent D.call_gives (Told K.write_gives old.out.now new.out.now) status m s old.listen.now old.idle old.doors.now new.doors.now (known old.doors.now old.out.now) (known new.doors.now new.out.now) };
 
     fn take<G: Gadget>(&mut self, gadget: G) -> Status {
         let end = serve_host(

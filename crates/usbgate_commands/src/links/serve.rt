@@ -5,13 +5,13 @@ ghost use Rattle.usb_base.specs.declared.side.Side.TheVariants.{Client, Host};
 ghost use Rattle.gate_outside.specs.Faults.{Rose};
 ghost use Rattle.session_tape.specs.Lines.{first_comment};
 ghost use Rattle.bridge_run.specs.course.Course.{Making};
-ghost use Rattle.bridge_run.specs.course.Outside.{outside, written, faults};
+ghost use Rattle.bridge_run.specs.course.Outside.{outside, faults};
 ghost use Rattle.usbgate_commands.specs.links.Recording.{IsUnmade, IsUnbegun, HasServed};
 ghost use Rattle.bridge_run.specs.served.Gate.{gate_sends};
 ghost use Rattle.bridge_run.specs.served.GateStops.{gate_runs_out};
 ghost use Rattle.bridge_run.specs.log.Log.{Told};
 ghost use Rattle.usbgate_commands.specs.links.Logs.{HasLog, RunServes, terms_of};
-ghost use Rattle.usbgate_commands.specs.links.Serves.{EndsOf, setting_of};
+ghost use Rattle.usbgate_commands.specs.links.Serves.{Known, known_of, EndsOf, setting_of};
 
 use crate::links::ended::ended_as;
 use crate::words::serving::Serving;
@@ -35,8 +35,8 @@ pub fn serve<D: Doors, K: Sink, T: MakeTape>(
     requires down { ((D.link doors.old Client).up ≡ false) × ((D.link doors.old Host).up ≡ false) }
     requires idle { 1 ≤ serving.now.idle }
     requires first_id { (1 ≤ serving.now.first_id) × (serving.now.first_id < 2 ^ 32) }
-    ensures serves { RunServes D.call_gives D.link D.door (Told K.write_gives out.old out.new) result serving.now doors.old doors.new
-        (faults (K.faults out.old) (T.counts recording.old)) (faults (K.faults out.new) (T.counts recording.new)) (written (K.contents out.old) (K.contents out.old) (T.contents recording.old)) (written (K.contents out.old) (K.contents out.new) (T.contents recording.new)) }
+    ensures serves { let known : D → K → T → Known = known_of D.link D.door K.faults K.contents T.counts T.contents out.old in
+        RunServes D.call_gives (Told K.write_gives out.old out.new) result serving.now doors.old doors.new (known doors.old out.old recording.old) (known doors.new out.new recording.new) }
     ensures causes { HasServed result (outside (D.link doors.old) (D.door doors.old)) (outside (D.link doors.new) (D.door doors.new))
         (faults (K.faults out.old) (T.counts recording.old)) (faults (K.faults out.new) (T.counts recording.new)) }
     ensures asked { result ≡ Status.Usage → is_some serving.now.recording ≡ true }
@@ -92,8 +92,8 @@ fn between<D: Doors, K: Sink, T: Tape>(
     requires first_id { (1 ≤ serving.now.first_id) × (serving.now.first_id < 2 ^ 32) }
     requires made { T.made tape.old ≡ is_some serving.now.recording }
     ensures log { HasLog D.call_gives (gate_runs_out serving.now.first_id) (Told K.write_gives out.old out.new) (terms_of serving.now) (gate_sends serving.now.after_loss serving.now.first_id) result doors.old doors.new }
-    ensures ends { EndsOf (gate_runs_out serving.now.first_id) (setting_of serving.now) Making result (outside (D.link doors.old) (D.door doors.old)) (outside (D.link doors.new) (D.door doors.new))
-        (faults (K.faults out.old) (T.counts tape.old)) (faults (K.faults out.new) (T.counts tape.new)) (written (K.contents out.old) (K.contents out.old) (T.contents tape.old)) (written (K.contents out.old) (K.contents out.new) (T.contents tape.new)) }
+    ensures ends { let known : D → K → T → Known = known_of D.link D.door K.faults K.contents T.counts T.contents out.old in
+        EndsOf (gate_runs_out serving.now.first_id) (setting_of serving.now) Making result (known doors.old out.old tape.old) (known doors.new out.new tape.new) }
 {
     let end = bridge_run::serve(
         alloc,

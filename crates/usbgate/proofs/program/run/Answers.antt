@@ -1,5 +1,4 @@
 use Rattle.std.proofs.Common.{inr, refl, sym, ap, ◌∙◌}
-use Rattle.bridge_run.specs.course.Outside.{written, faults}
 use Rattle.usbgate_tapes.specs.tape.EventCommand.{over_events}
 use Rattle.usbgate_tapes.specs.Replay.{replay}
 use Rattle.usbgate_tapes.specs.model.Model.{model_of}
@@ -7,6 +6,7 @@ use Rattle.usbgate_tapes.specs.Show.{show}
 use Rattle.usbgate_tapes.specs.model.Made.{made, loaded}
 use Rattle.usbgate_tapes.specs.Printout.{tape_printout, printed, usage}
 use Rattle.usbgate_commands.specs.links.Recording.{records}
+use Rattle.usbgate_commands.specs.links.Serves.{known_of}
 use Rattle.usbgate_commands.proofs.Served.{links-stand, link-fault-of, link-stands}
 use Rattle.usbgate_tapes.proofs.lemmas.model.Simulated.{unsimulated}
 use Rattle.usbgate_tapes.proofs.lemmas.Unread.{leaves-none}
@@ -17,12 +17,12 @@ use Rattle.usbgate.proofs.program.run.Goals as goal
 
 pub returns-in_default-clause-serves : goal.returns-in_default-clause-serves
 returns-in_default-clause-serves g c = λ asked is.
-    run-unserved g.D.Doors.call_gives g.D.Doors.link g.D.Doors.door g.K.Sink.write_gives asked c.args.doors.now c.args.out.now (faults (g.K.Sink.faults c.args.out.now) (g.T.Tape.counts c.args.recording.now))
-    (written (g.K.Sink.contents c.args.out.now) (g.K.Sink.contents c.args.out.now) (g.T.Tape.contents c.args.recording.now))
+    run-unserved g.D.Doors.call_gives g.K.Sink.write_gives asked c.args.doors.now c.args.out.now
+    (known_of g.D.Doors.link g.D.Doors.door g.K.Sink.faults g.K.Sink.contents g.T.Tape.counts g.T.Tape.contents c.args.out.now c.args.doors.now c.args.out.now c.args.recording.now)
 
 pub returns-in_default-clause-lends : goal.returns-in_default-clause-lends
 returns-in_default-clause-lends g c = λ asked is.
-    run-unlent g.D.Doors.call_gives g.D.Doors.link g.D.Doors.door g.K.Sink.write_gives asked c.args.doors.now c.args.out.now (g.K.Sink.faults c.args.out.now) (g.K.Sink.contents c.args.out.now)
+    run-unlent g.D.Doors.call_gives g.D.Doors.link g.D.Doors.door g.K.Sink.write_gives g.K.Sink.faults g.K.Sink.contents asked c.args.doors.now c.args.out.now
 
 pub returns-in_default-clause-leaves : goal.returns-in_default-clause-leaves
 returns-in_default-clause-leaves g c = λ p is. leaves-none g.S.Source.read_gives g.K.Sink.write_gives g.S.Source.remaining g.K.Sink.contents p c.args.tape.now c.args.out.now
