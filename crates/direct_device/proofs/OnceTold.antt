@@ -1,7 +1,7 @@
 -- What the answers of a legal trace say of its performs.
 use Rattle.stream_buffers.specs.Fillings.{is_failed}
 use Rattle.std.proofs.Common.{◌≡◌, ℕ, ◌&&◌, ◌||◌, Bool, true, false, cond, List, [], ◌∷◌, Option, Some, None, refl, sym, ap, subst, ◌∙◌, true≢false}
-use Rattle.std.specs.Prelude.{pos, not, nat_lt, slice_get, ◌==◌, ◌%◌}
+use Rattle.std.specs.Prelude.{pos, not, nat_lt, slice_get}
 use Rattle.std.specs.List.{find, list_any}
 use Rattle.std.proofs.lemmas.Bool.{eqb-true, both_ways, and_parts}
 use Rattle.usb_base.specs.declared.status.UsbStatus.{UsbStatus}

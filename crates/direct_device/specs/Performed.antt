@@ -1,8 +1,10 @@
 -- Performed at most once: how often a submit has been performed where an item of a legal trace stands, by what the item
 -- answers. A number names the submit of its last item, up to its end.
 use Rattle.stream_buffers.specs.Fillings.{is_failed}
-use Rattle.std.specs.Prelude.{◌≡◌, ℕ, ◌+◌, ◌==◌, Bool, true, false, if◌then◌else◌, List, [], ◌∷◌, ◌++◌, Option, Some, ℤ, pos, negsuc, IfSome, not}
+use Rattle.std.specs.Prelude.{◌≡◌, ℕ, ◌+◌, ◌==◌, Bool, true, false, if◌then◌else◌, List, [], ◌∷◌, ◌++◌, Option, Some, IfSome, not}
 use Rattle.std.specs.List.{find, list_any, AllByRecursion}
+use Rattle.std.specs.Ordering.{int_eq}
+use Rattle.usb_base.specs.declared.errno.TheConstants.{ECONNRESET}
 use Rattle.usb_base.specs.declared.transfer.Transfer.{Transfer}
 use Rattle.usb_base.specs.declared.transfer.Outcome.{Outcome}
 use Rattle.usbip_urb.specs.declared.packet.UrbPacket.{UrbPacket}
@@ -30,14 +32,9 @@ NeverCancels {S = S} m =
 
 -- ---- answers
 
--- -104
-abbrev pub is_reset : ℤ → Bool
-is_reset (pos n) = false
-is_reset (negsuc n) = n == 103
-
 -- an unlink that took its submit back
 abbrev pub is_won : UrbPacket → Bool
-is_won (urb.RetUnlink p) = is_reset p.status
+is_won (urb.RetUnlink p) = int_eq p.status ECONNRESET
 is_won _ = false
 
 -- a submit that is answered 0
