@@ -2,7 +2,7 @@
 
 ghost use Rattle.std.specs.Prelude.{◌≡◌, ◌<◌, ◌++◌, length, OnOk, OnErr};
 ghost use Rattle.std.specs.List.{flat_map};
-ghost use Rattle.packet_stream.specs.Writes.{Begins};
+ghost use Rattle.usb_base.specs.Writes.{Begins};
 ghost use Rattle.gate_history.specs.write.Refusals.{refusal_in};
 
 use usb_base::{EpAddr, List, Memory, Refusal};

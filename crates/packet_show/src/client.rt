@@ -1,7 +1,7 @@
 //! The line of a list or import request.
 
 ghost use Rattle.std.specs.Prelude.{◌≡◌, ◌++◌};
-ghost use Rattle.packet_stream.specs.Writes.{Appends, AppendsSome};
+ghost use Rattle.usb_base.specs.Writes.{Appends, AppendsSome};
 ghost use Rattle.usbip_op.specs.Ranges.{way_of};
 ghost use Rattle.usbip_op.specs.declared.packet.OpWay.TheVariants.{Request};
 ghost use Rattle.packet_show.specs.Line.{decimal, spaced_words};

@@ -1,7 +1,7 @@
 //! A line is appended word by word: a place and a name, then fields, each behind a space, and LF.
 
 ghost use Rattle.std.specs.Prelude.{◌≡◌, ◌++◌, ◌∷◌, [], ◌≤◌, List, ℕ, length, map};
-ghost use Rattle.packet_stream.specs.Writes.{Appends, AppendsSome};
+ghost use Rattle.usb_base.specs.Writes.{Appends, AppendsSome};
 ghost use Rattle.packet_show.specs.Line.{LF, decimal, spaced, spaced_words, hex_word};
 
 use itoa::{Buffer, Integer};

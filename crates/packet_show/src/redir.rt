@@ -1,7 +1,7 @@
 //! The line of a usbredir packet.
 
 ghost use Rattle.std.specs.Prelude.{◌++◌};
-ghost use Rattle.packet_stream.specs.Writes.{Appends, AppendsSome};
+ghost use Rattle.usb_base.specs.Writes.{Appends, AppendsSome};
 ghost use Rattle.packet_show.specs.Line.{decimal, spaced_words};
 ghost use Rattle.packet_show.specs.Redir.{field_text, redir_line, redir_words, control_fields, data_fields};
 

@@ -1,7 +1,7 @@
 //! The line of a URB request.
 
 ghost use Rattle.std.specs.Prelude.{◌≡◌, ◌++◌, ◌∷◌, IfOk, map, string_bytes};
-ghost use Rattle.packet_stream.specs.Writes.{Appends, AppendsSome};
+ghost use Rattle.usb_base.specs.Writes.{Appends, AppendsSome};
 ghost use Rattle.packet_show.specs.Line.{decimal, numbers, spaced_words};
 ghost use Rattle.packet_show.specs.Urb.{IsShown, urb_line, urb_words, submit_words, unlink_words, desc_word};
 

@@ -2,7 +2,6 @@ pub mod Format
 pub mod Joined
 pub mod Awaited
 pub mod Reads
-pub mod Writes
 pub mod Split
 pub mod Streams
 pub mod Takers

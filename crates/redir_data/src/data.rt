@@ -1,7 +1,7 @@
 //! What packets that move data have in common.
 
 ghost use Rattle.std.specs.Prelude.{◌≡◌, ◌↔◌, IsTrue, flat_map};
-ghost use Rattle.packet_stream.specs.Writes.{AppendsSome};
+ghost use Rattle.usb_base.specs.Writes.{AppendsSome};
 ghost use Rattle.redir_data.specs.Spelling.{form_of, carries, data_count, bulk, periodic, fixed_of};
 ghost use Rattle.redir_data.specs.Ranges.{HasItsData};
 ghost use Rattle.redir_data.specs.inner.Past.{with_body};

@@ -1,7 +1,7 @@
 //! Writes packets that move data.
 
 ghost use Rattle.std.specs.Prelude.{◌≡◌, ◌++◌, ◌≤◌, false, length, OnOk, OnErr};
-ghost use Rattle.packet_stream.specs.Writes.{AppendsSome};
+ghost use Rattle.usb_base.specs.Writes.{AppendsSome};
 ghost use Rattle.redir_wire.specs.Header.{is_wide, head_bytes, IdFits};
 ghost use Rattle.redir_wire.specs.declared.header.TheConstants.{MAX_LENGTH};
 ghost use Rattle.redir_data.specs.Spelling.{size_of, header_of, fixed_fields};

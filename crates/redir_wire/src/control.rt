@@ -1,7 +1,7 @@
 //! What packets that move no data have in common: their type, their length, and their fields in the order of the wire.
 
 ghost use Rattle.std.specs.Prelude.{false, ◌≡◌, ◌≤◌, flat_map};
-ghost use Rattle.packet_stream.specs.Writes.{AppendsSome};
+ghost use Rattle.usb_base.specs.Writes.{AppendsSome};
 ghost use Rattle.redir_wire.specs.Spelling.{kind_of, length_of, words_length, fields_of};
 ghost use Rattle.redir_wire.specs.Ranges.{IsWritable};
 

@@ -1,7 +1,7 @@
 //! The fields of packets: in which forms they are written, of which the wire's is one.
 
 ghost use Rattle.std.specs.Prelude.{List, ℕ};
-ghost use Rattle.packet_stream.specs.Writes.{AppendsSome};
+ghost use Rattle.usb_base.specs.Writes.{AppendsSome};
 ghost use Rattle.std.specs.Int.{w16, w32};
 ghost use Rattle.redir_wire.specs.Words.{numbers as numbers_bytes};
 ghost use Rattle.redir_wire.specs.Field.{Field, Bytes as ByteFields, Shorts, Longs, ByteTable, ShortTable, Lower, Upper, field_bytes};

@@ -1,7 +1,7 @@
 //! Writes packets that move no data.
 
 ghost use Rattle.std.specs.Prelude.{◌≡◌, ◌<◌, ◌^◌, ◌++◌, true, false, OnOk, OnErr};
-ghost use Rattle.packet_stream.specs.Writes.{AppendsSome};
+ghost use Rattle.usb_base.specs.Writes.{AppendsSome};
 ghost use Rattle.redir_wire.specs.Header.{head_bytes, IdFits};
 ghost use Rattle.redir_wire.specs.Written.{CanWrite, packet_bytes};
 

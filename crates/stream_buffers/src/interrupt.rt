@@ -1,7 +1,7 @@
 //! What an interrupt request is given of the packets that fill it.
 
 ghost use Rattle.std.specs.Prelude.{◌≡◌, ◌+◌, ◌<◌, ◌≤◌, length, take, drop, IfOk, OnOk, OnErr};
-ghost use Rattle.packet_stream.specs.Writes.{AppendsSome};
+ghost use Rattle.usb_base.specs.Writes.{AppendsSome};
 ghost use Rattle.stream_buffers.specs.Interrupt.{fitting_status, bodies_to, interrupt_cut_at};
 ghost use Rattle.stream_buffers.specs.declared.up.TheConstants.{MAX_HELD};
 ghost use Rattle.stream_buffers.specs.Fillings.{cut_by, filling_body};

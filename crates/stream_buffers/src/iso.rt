@@ -1,7 +1,7 @@
 //! What an isochronous request is given: of each of its packets what fits into its descriptor.
 
 ghost use Rattle.std.specs.Prelude.{◌≡◌, ◌≤◌, ◌<◌, ◌^◌, ◌∷◌, [], ℕ, None, length, IfOk, IfSome, IsTrue, MatchOption, OnErr};
-ghost use Rattle.packet_stream.specs.Writes.{AppendsSome};
+ghost use Rattle.usb_base.specs.Writes.{AppendsSome};
 ghost use Rattle.usb_base.specs.declared.limits.TheConstants.{MAX_PACKETS};
 ghost use Rattle.usbip_urb.specs.Buffers.{laid};
 ghost use Rattle.usbip_urb.specs.Spelling.{descs_bytes};

@@ -1,5 +1,6 @@
 pub mod Number
 pub mod Firsts
+pub mod Writes
 pub mod Reason
 pub mod Refusal
 pub mod Speed

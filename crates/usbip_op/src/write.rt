@@ -6,7 +6,7 @@ ghost use Rattle.usbip_op.specs.Ranges.{IsInRange, IsWritable, way_of};
 ghost use Rattle.packet_stream.specs.Format.{reading, Whole};
 ghost use Rattle.usbip_op.specs.Packets.{packets_of};
 ghost use Rattle.usbip_op.specs.declared.packet.OpPacket.{OpPacket as Packet};
-ghost use Rattle.packet_stream.specs.Writes.{Appends, AppendsSome};
+ghost use Rattle.usb_base.specs.Writes.{Appends, AppendsSome};
 
 use crate::code::{OP_REP_DEVLIST, OP_REP_IMPORT, OP_REQ_DEVLIST, OP_REQ_IMPORT, USBIP_VERSION};
 use crate::packet::{DeviceRow, IfaceRow, Listed, OpPacket};

@@ -1,7 +1,7 @@
 //! Packets written.
 
 ghost use Rattle.std.specs.Prelude.{◌≡◌, ◌+◌, ◌*◌, ◌++◌, ◌∷◌, length};
-ghost use Rattle.packet_stream.specs.Writes.{Appends, AppendsSome};
+ghost use Rattle.usb_base.specs.Writes.{Appends, AppendsSome};
 ghost use Rattle.usbip_urb.specs.declared.packet.UrbPacket.TheVariants.{Submit as SubmitPacket, RetSubmit as RetSubmitPacket, Unlink as UnlinkPacket, RetUnlink as RetUnlinkPacket};
 ghost use Rattle.usbip_urb.specs.Spelling.{spelling, words, ret_submit_words, desc_words, descs_bytes};
 ghost use Rattle.usbip_urb.specs.Ranges.{IsWritable};

@@ -13,7 +13,7 @@ ghost use Rattle.gate_history.specs.write.Asked.{HasItsPackets};
 ghost use Rattle.gate_history.specs.client.Carried.{IsLaid};
 ghost use Rattle.gate_core.specs.inner.state.SentIds.{ids_after, starts_of, sent_ids_of, after_starts, bytes_of};
 ghost use Rattle.gate_core.specs.inner.state.Holds.{IsKept, Holds, Does, StopsShort};
-ghost use Rattle.packet_stream.specs.Writes.{Begins};
+ghost use Rattle.usb_base.specs.Writes.{Begins};
 
 use crate::state::kept::Kept;
 use gate_history::{Note, Request};

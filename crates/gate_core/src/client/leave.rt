@@ -13,7 +13,7 @@ ghost use Rattle.gate_history.specs.step.Meaning.{mark_as};
 ghost use Rattle.gate_history.specs.write.Notes.{when};
 ghost use Rattle.gate_history.specs.step.Wants.{GivesSome};
 ghost use Rattle.gate_core.specs.inner.state.Holds.{IsKept, Holds, Does, StopsShort, HasLeft};
-ghost use Rattle.packet_stream.specs.Writes.{Begins};
+ghost use Rattle.usb_base.specs.Writes.{Begins};
 ghost use Rattle.gate_parts.specs.state.Rows.{cancel_bytes, is_cancelled_row};
 
 use crate::state::kept::Kept;

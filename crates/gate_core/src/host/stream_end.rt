@@ -6,7 +6,7 @@ ghost use Rattle.unlink_race.specs.Searches.{ended_by};
 ghost use Rattle.gate_parts.specs.state.Rows.{ended_bytes};
 ghost use Rattle.gate_core.specs.inner.host.StreamEnd.{HasDropped, is_told, status_bytes, HasStreamEnd};
 ghost use Rattle.gate_core.specs.inner.state.Holds.{IsKept};
-ghost use Rattle.packet_stream.specs.Writes.{Begins};
+ghost use Rattle.usb_base.specs.Writes.{Begins};
 
 use crate::state::kept::Kept;
 use gate_parts::write_end_of;

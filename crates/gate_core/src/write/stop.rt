@@ -5,7 +5,7 @@ ghost use Rattle.gate_history.specs.state.Ups.{is_ended};
 ghost use Rattle.gate_history.specs.write.Packets.{stop_of};
 ghost use Rattle.gate_core.specs.inner.state.SentIds.{stops_of, sent_ids_of, after_stops, bytes_of};
 ghost use Rattle.gate_core.specs.inner.state.Holds.{IsKept};
-ghost use Rattle.packet_stream.specs.Writes.{Begins};
+ghost use Rattle.usb_base.specs.Writes.{Begins};
 
 use crate::state::kept::Kept;
 use control_route::Route;

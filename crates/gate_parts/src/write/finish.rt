@@ -12,7 +12,7 @@ ghost use Rattle.usbip_urb.specs.declared.client.ClientPacket.TheVariants.{Urb};
 ghost use Rattle.gate_history.specs.declared.note.Note.TheVariants.{Answered};
 ghost use Rattle.gate_history.specs.host.Responses.{told_outcome};
 ghost use Rattle.gate_parts.specs.host.Responses.{response_view, IsAnswer, IsCounted, has_won};
-ghost use Rattle.packet_stream.specs.Writes.{Begins};
+ghost use Rattle.usb_base.specs.Writes.{Begins};
 ghost use Rattle.unlink_race.specs.Endings.{ending_of};
 ghost use Rattle.unlink_race.specs.Searches.{ended_by};
 ghost use Rattle.gate_parts.specs.write.Outputs.{with_answers};

@@ -2,7 +2,7 @@
 
 ghost use Rattle.std.specs.Prelude.{◌≡◌, ◌++◌, ◌≤◌, ◌<◌, ◌^◌, get_or, if◌then◌else◌, OnOk, OnErr};
 ghost use Rattle.usb_base.specs.Endpoint.{no_endpoint};
-ghost use Rattle.packet_stream.specs.Writes.{Begins};
+ghost use Rattle.usb_base.specs.Writes.{Begins};
 ghost use Rattle.redir_wire.specs.declared.packet.TheConstants.Caps.{MAX_PACKET_SIZE};
 ghost use Rattle.redir_wire.specs.Capability.{has};
 ghost use Rattle.redir_wire.specs.Ranges.{Ranges};

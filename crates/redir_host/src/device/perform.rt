@@ -5,7 +5,7 @@ ghost use Rattle.std.specs.List.{find, flat_map, AllByRecursion};
 ghost use Rattle.control_route.specs.declared.route.Route.TheVariants as route;
 ghost use Rattle.usb_base.specs.Status.{is_success as is_success_status};
 ghost use Rattle.model_device.specs.Transfer.{IsOutcome};
-ghost use Rattle.packet_stream.specs.Writes.{Begins};
+ghost use Rattle.usb_base.specs.Writes.{Begins};
 ghost use Rattle.redir_host.specs.declared.state.request.Request.{Request as Asked};
 ghost use Rattle.redir_host.specs.write.Answers.{answer};
 ghost use Rattle.redir_host.specs.device.Changes.{changed, cleared};

@@ -4,7 +4,7 @@ ghost use Rattle.std.specs.Prelude.{◌≡◌, ◌++◌, false, Some, None, if�
 ghost use Rattle.std.specs.List.{find, AllByRecursion};
 ghost use Rattle.redir_data.specs.declared.packet.RedirPacket.TheVariants.{Plain};
 ghost use Rattle.model_device.specs.Transfer.{is_control as is_control_endpoint};
-ghost use Rattle.packet_stream.specs.Writes.{Begins};
+ghost use Rattle.usb_base.specs.Writes.{Begins};
 ghost use Rattle.redir_wire.specs.Header.{IdFits, is_wide};
 ghost use Rattle.redir_host.specs.guest.Asking.{asking_of};
 ghost use Rattle.redir_host.specs.step.Machine.{bytes_of};

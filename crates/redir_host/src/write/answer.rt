@@ -2,7 +2,7 @@
 
 ghost use Rattle.std.specs.Prelude.{◌≡◌, ◌++◌, false, OnOk, OnErr};
 ghost use Rattle.std.specs.List.{AllByRecursion};
-ghost use Rattle.packet_stream.specs.Writes.{Begins};
+ghost use Rattle.usb_base.specs.Writes.{Begins};
 ghost use Rattle.redir_wire.specs.Header.{IdFits, is_wide};
 ghost use Rattle.chapter9.specs.Standard.{ended};
 ghost use Rattle.redir_host.specs.write.Answers.{alt_in, answer_by, cancelled};

@@ -15,7 +15,7 @@ use Rattle.gate_history.specs.state.Flight.{wide_ids}
 use Rattle.gate_history.specs.state.StreamIds.{stream_ids_after}
 use Rattle.gate_history.specs.write.Packets.{stop_of, stops}
 use Rattle.redir_data.specs.Sent.{sent_packet_bytes}
-use Rattle.packet_stream.specs.Writes.{Begins}
+use Rattle.usb_base.specs.Writes.{Begins}
 use Rattle.gate_parts.specs.write.Outputs.{HasSome}
 use Rattle.gate_core.specs.inner.state.Holds.{StopsShort}
 use Rattle.gate_core.specs.inner.state.SentIds.{flying_in, ids_after, with_ids, after_stops, bytes_of}

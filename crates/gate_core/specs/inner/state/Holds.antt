@@ -31,7 +31,7 @@ use Rattle.gate_history.specs.declared.request.Request.{Request}
 pub use Rattle.gate_core.specs.step.Stands.{Holds}
 use Rattle.gate_history.specs.write.Asked.{HasItsPackets}
 use Rattle.gate_parts.specs.state.Rows.{kind_of, IsFine, IsRead}
-use Rattle.packet_stream.specs.Writes.{Begins}
+use Rattle.usb_base.specs.Writes.{Begins}
 
 -- ---- standing for a state
 

@@ -1,6 +1,6 @@
 use Rattle.std.proofs.Common.{◌≡◌, ◌++◌, drop}
 use Rattle.std.specs.List.{flat_map}
-use Rattle.packet_stream.specs.Writes.{Begins}
+use Rattle.usb_base.specs.Writes.{Begins}
 use Rattle.gate_history.specs.write.Refusals.{refusal_in}
 use Rattle.gate_history.proofs.note.push_refusals.Given as goal
 

@@ -3,7 +3,7 @@ use Rattle.std.proofs.Common.{◌≡◌, List, Result, Ok, Err, [], take, length
 use Rattle.std.specs.Prelude.{OnErr}
 use Rattle.std.proofs.Math.Seq.{take-append_seam}
 use Rattle.std.proofs.lemmas.List.{append-nil}
-use Rattle.packet_stream.specs.Writes.{Begins}
+use Rattle.usb_base.specs.Writes.{Begins}
 
 -- a list begins itself
 pub begins_itself : {X T E : Type 0} (r : Result T E) (xs : List X) → OnErr r (Begins xs xs)

@@ -1,6 +1,6 @@
 use Rattle.std.proofs.Common.{◌≡◌, ◌++◌, false}
 use Rattle.std.specs.List.{AllByRecursion as Each}
-use Rattle.packet_stream.specs.Writes.{Begins}
+use Rattle.usb_base.specs.Writes.{Begins}
 use Rattle.redir_wire.specs.Header.{IdFits, is_wide}
 use Rattle.redir_host.specs.step.Makes.{flushed_bytes}
 use Rattle.redir_host.proofs.write.answer.write_flushed.Given as goal

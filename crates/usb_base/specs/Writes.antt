@@ -1,4 +1,4 @@
--- What a writer leaves.
+-- What a writer leaves: the items behind what was there, all of them or none, or some of them.
 use Rattle.std.specs.Prelude.{◌≡◌, List, ◌++◌, Result, Ok, Err}
 
 -- it appends these items to the list, or leaves the list as it was
