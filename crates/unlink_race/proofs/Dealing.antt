@@ -1,4 +1,4 @@
--- Requests are numbered anew, one after another.
+-- Requests are ranked anew, one after another.
 use Rattle.std.proofs.Common.{◌≡◌, ℕ, ◌+◌, ◌<◌, ◌≤◌, List, length, map, get_or, set, Some, refl, ap, sym, subst, ◌∙◌, arith, inl, inr}
 use Rattle.std.specs.List.{slice_get}
 use Rattle.std.specs.Option.{option_map}
@@ -10,7 +10,7 @@ use Rattle.urb_arena.specs.Lanes.{replaced, count}
 use Rattle.unlink_race.specs.declared.live.Live.{Live}
 use Rattle.unlink_race.specs.Inner.Listed.{IsKeyed}
 use Rattle.unlink_race.specs.Inner.Placed.{keys_of}
-use Rattle.unlink_race.specs.Inner.Sound.{entry_of, in_order, numbers_of, HasDealt, IsSound, Rises}
+use Rattle.unlink_race.specs.Inner.Sound.{entry_of, in_order, ranks_of, HasDealt, IsSound, Rises}
 use Rattle.unlink_race.proofs.Columns.{map-set, map_unchanged}
 use Rattle.unlink_race.proofs.Ids.{no_live}
 use Rattle.unlink_race.proofs.Lanes.{found_replaced, others_replaced, count_replaced}
@@ -21,26 +21,26 @@ use Rattle.unlink_race.proofs.Rows.{SameBut, length-listed, took_at, changed_at}
 abbrev key_of : ℕ → ℕ
 key_of k = k
 
-abbrev number_of : ℕ × Live → ℕ
-number_of entry = entry.0
+abbrev rank_of : ℕ × Live → ℕ
+rank_of entry = entry.0
 
 abbrev live_of : ℕ × Live → Live
 live_of entry = entry.1
 
--- the first n have their places as numbers
+-- the first n have their places as ranks
 abbrev pub Dealt : ArenaView (ℕ × Live) → List ℕ → ℕ → Type 0
-Dealt arena rows n = (j : ℕ) → j < n → get_or (numbers_of arena rows) j 0 ≡ j
+Dealt arena rows n = (j : ℕ) → j < n → get_or (ranks_of arena rows) j 0 ≡ j
 
-pub long_numbers : (arena : ArenaView (ℕ × Live)) (rows : List ℕ) → IsKeyed key_of (entry_of arena) rows → length (numbers_of arena rows) ≡ length rows
-long_numbers arena rows kept = length-map (in_order arena rows) number_of ∙ length-listed key_of (entry_of arena) rows kept
+pub long_ranks : (arena : ArenaView (ℕ × Live)) (rows : List ℕ) → IsKeyed key_of (entry_of arena) rows → length (ranks_of arena rows) ≡ length rows
+long_ranks arena rows kept = length-map (in_order arena rows) rank_of ∙ length-listed key_of (entry_of arena) rows kept
 
 pub none_dealt : (arena : ArenaView (ℕ × Live)) (rows : List ℕ) → IsKeyed key_of (entry_of arena) rows → HasDealt arena arena rows
 none_dealt arena rows kept = record { kept = kept; lives = refl; count = refl; capacity = refl; lanes = refl; keys_stay = refl }
 
-pub all_dealt : (arena : ArenaView (ℕ × Live)) (rows : List ℕ) (n : ℕ) → IsKeyed key_of (entry_of arena) rows → length rows ≤ n → Dealt arena rows n → Rises 0 (numbers_of arena rows) (length rows)
+pub all_dealt : (arena : ArenaView (ℕ × Live)) (rows : List ℕ) (n : ℕ) → IsKeyed key_of (entry_of arena) rows → length rows ≤ n → Dealt arena rows n → Rises 0 (ranks_of arena rows) (length rows)
 all_dealt arena rows n kept all dealt =
-    let long = long_numbers arena rows kept in
-    rises_dealt 0 (numbers_of arena rows) (length rows) (omega (arith, long)) (λ j within. let at = dealt j (omega (arith, within, long, all)) in omega (arith, at))
+    let long = long_ranks arena rows kept in
+    rises_dealt 0 (ranks_of arena rows) (length rows) (omega (arith, long)) (λ j within. let at = dealt j (omega (arith, within, long, all)) in omega (arith, at))
 
 module _ {old arena : ArenaView (ℕ × Live)} {rows : List ℕ} (d : HasDealt old arena rows) (i : ℕ) (r : ℕ) (within : i < length rows) (read : r ≡ get_or rows i r) where
   long_here : length (in_order arena rows) ≡ length rows
@@ -78,21 +78,21 @@ module _ {old arena : ArenaView (ℕ × Live)} {rows : List ℕ} (d : HasDealt o
 
     pub more_dealt : Dealt arena rows i → Dealt arena' rows (i + 1)
     more_dealt dealt j below =
-        let numbers : numbers_of arena' rows ≡ set (numbers_of arena rows) i i = ap (map number_of) whole ∙ map-set number_of (in_order arena rows) i (i, entry.1) in
-        let long = long_numbers arena rows d.kept in
-        ap (λ ns. get_or ns j 0) numbers ∙ elim (cases_lt j i) [
-          | inl under ↦ get_or-set_other (numbers_of arena rows) i j i 0 (λ e. omega (arith, e, under)) ∙ dealt j under
+        let ranks : ranks_of arena' rows ≡ set (ranks_of arena rows) i i = ap (map rank_of) whole ∙ map-set rank_of (in_order arena rows) i (i, entry.1) in
+        let long = long_ranks arena rows d.kept in
+        ap (λ ns. get_or ns j 0) ranks ∙ elim (cases_lt j i) [
+          | inl under ↦ get_or-set_other (ranks_of arena rows) i j i 0 (λ e. omega (arith, e, under)) ∙ dealt j under
           | inr over ↦ (
               let same : j ≡ i = omega (arith, over, below) in
-              ap (λ k. get_or (set (numbers_of arena rows) i i) k 0) same ∙ get_or-set_same (numbers_of arena rows) i i 0 (omega (arith, within, long)) ∙ sym same)
+              ap (λ k. get_or (set (ranks_of arena rows) i i) k 0) same ∙ get_or-set_same (ranks_of arena rows) i i 0 (omega (arith, within, long)) ∙ sym same)
         ]
 
 -- what is sound stays so, by each name of the rows
 pub dealt_by : {old arena : ArenaView (ℕ × Live)} {rows rows' : List ℕ} → rows' ≡ rows → HasDealt old arena rows' → HasDealt old arena rows
 dealt_by {old = old} {arena = arena} same d = let P : List ℕ → Type 0 = λ rs. HasDealt old arena rs in subst P same d
 
-pub rises_by : (arena : ArenaView (ℕ × Live)) {rows rows' : List ℕ} (high : ℕ) → rows' ≡ rows → Rises 0 (numbers_of arena rows') high → Rises 0 (numbers_of arena rows) high
-rises_by arena high same rises = let P : List ℕ → Type 0 = λ rs. Rises 0 (numbers_of arena rs) high in subst P same rises
+pub rises_by : (arena : ArenaView (ℕ × Live)) {rows rows' : List ℕ} (high : ℕ) → rows' ≡ rows → Rises 0 (ranks_of arena rows') high → Rises 0 (ranks_of arena rows) high
+rises_by arena high same rises = let P : List ℕ → Type 0 = λ rs. Rises 0 (ranks_of arena rs) high in subst P same rises
 
 pub sound_dealt : {old arena : ArenaView (ℕ × Live)} {rows : List ℕ} → HasDealt old arena rows → IsSound old rows → IsSound arena rows
 sound_dealt d s =

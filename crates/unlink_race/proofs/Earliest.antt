@@ -21,26 +21,26 @@ key_of r = r.0
 abbrev pub lives : List (ℕ × Live) → List Live
 lives es = map (λ e. e.1) es
 
-abbrev pub numbers : List (ℕ × Live) → List ℕ
-numbers es = map (λ e. e.0) es
+abbrev pub ranks : List (ℕ × Live) → List ℕ
+ranks es = map (λ e. e.0) es
 
--- ---- by its number it is found at its place
+-- ---- by its rank it is found at its place
 
-pub record At (test : Live → Bool) (es : List (ℕ × Live)) (number : ℕ) : Type 0 where
+pub record At (test : Live → Bool) (es : List (ℕ × Live)) (rank : ℕ) : Type 0 where
   pub place : ℕ
   pub within : place < length es
-  pub is : get_or (numbers es) place 0 ≡ number
+  pub is : get_or (ranks es) place 0 ≡ rank
   pub first : position_or_len test (lives es) ≡ place
 
-pub number_placed : (test : Live → Bool) (es : List (ℕ × Live)) (number : ℕ) → earliest test es ≡ Some number → At test es number
-number_placed test [] number is = let e : None ≡ Some number = is in absurd (cc)
-number_placed test (e ∷ es) number is =
+pub rank_placed : (test : Live → Bool) (es : List (ℕ × Live)) (rank : ℕ) → earliest test es ≡ Some rank → At test es rank
+rank_placed test [] rank is = let e : None ≡ Some rank = is in absurd (cc)
+rank_placed test (e ∷ es) rank is =
     elim (cases_Bool (test e.1)) [
       | inl here ↦ (
-          let same : Some e.0 ≡ Some number = rw here at is in
+          let same : Some e.0 ≡ Some rank = rw here at is in
           record { place = 0; within = omega arith; is = cc; first = rw here refl })
       | inr away ↦ (
-          let later = number_placed test es number (rw away at is) in
+          let later = rank_placed test es rank (rw away at is) in
           let next : 1 + later.place ≡ suc later.place = omega arith in
           let inside = later.within in
           record { place = suc later.place; within = omega (arith, inside); is = later.is; first = rw away (ap (λ n. 1 + n) later.first ∙ next) })
@@ -56,10 +56,10 @@ none_placed test (e ∷ es) is =
 
 -- ---- it is the first of those that pass
 
-abbrev pub first_number : List (ℕ × Live) → Option ℕ
-first_number es = option_map (λ (e : ℕ × Live). e.0) (slice_get es 0)
+abbrev pub first_rank : List (ℕ × Live) → Option ℕ
+first_rank es = option_map (λ (e : ℕ × Live). e.0) (slice_get es 0)
 
-pub earliest_passing : (test : Live → Bool) (es : List (ℕ × Live)) → earliest test es ≡ first_number (passing test es)
+pub earliest_passing : (test : Live → Bool) (es : List (ℕ × Live)) → earliest test es ≡ first_rank (passing test es)
 earliest_passing test [] = refl
 earliest_passing test (e ∷ es) =
     elim (cases_Bool (test e.1)) [
@@ -82,19 +82,19 @@ pub never : (p : Live → Bool) → ((x : Live) → p x ≡ false) → (es : Lis
 never p none [] = refl
 never p none (e ∷ es) = rw (none e.1) (never p none es)
 
-not_below : (p : Live → Bool) (low : ℕ) (es : List (ℕ × Live)) (high number : ℕ) → Rises low (numbers es) high → earliest p es ≡ Some number → low ≤ number
-not_below p low [] high number rises is = let e : None ≡ Some number = is in absurd (cc)
-not_below p low (e ∷ es) high number rises is =
+not_below : (p : Live → Bool) (low : ℕ) (es : List (ℕ × Live)) (high rank : ℕ) → Rises low (ranks es) high → earliest p es ≡ Some rank → low ≤ rank
+not_below p low [] high rank rises is = let e : None ≡ Some rank = is in absurd (cc)
+not_below p low (e ∷ es) high rank rises is =
     elim (cases_Bool (p e.1)) [
       | inl here ↦ (
-          let same : Some e.0 ≡ Some number = rw here at is in
-          let this : e.0 ≡ number = cc in
+          let same : Some e.0 ≡ Some rank = rw here at is in
+          let this : e.0 ≡ rank = cc in
           let first = rises.0 in
           omega (arith, first, this))
-      | inr away ↦ (let later = not_below p (e.0 + 1) es high number rises.1 (rw away at is) in let first = rises.0 in omega (arith, first, later))
+      | inr away ↦ (let later = not_below p (e.0 + 1) es high rank rises.1 (rw away at is) in let first = rises.0 in omega (arith, first, later))
     ]
 
--- a number is the lesser of it and of one behind it
+-- a rank is the lesser of it and of one behind it
 before : (n : ℕ) (o : Option ℕ) → ((m : ℕ) → o ≡ Some m → n ≤ m) → lesser (Some n) o ≡ Some n
 before n None behind = refl
 before n (Some m) behind = let le = behind m refl in ap Some (smaller n m le)
@@ -109,7 +109,7 @@ behind n (Some m) later = let le = later m refl in ap Some (smaller m n le)
     smaller : (a b : ℕ) → b ≤ a → min a b ≡ b
     smaller a b le = omega (arith, le)
 
-pub either : (p q r : Live → Bool) → ((x : Live) → r x ≡ (p x || q x)) → (low : ℕ) (es : List (ℕ × Live)) (high : ℕ) → Rises low (numbers es) high → lesser (earliest p es) (earliest q es) ≡ earliest r es
+pub either : (p q r : Live → Bool) → ((x : Live) → r x ≡ (p x || q x)) → (low : ℕ) (es : List (ℕ × Live)) (high : ℕ) → Rises low (ranks es) high → lesser (earliest p es) (earliest q es) ≡ earliest r es
 either p q r both low [] high rises = refl
 either p q r both low (e ∷ es) high rises =
     let up : (t : Live → Bool) (m : ℕ) → earliest t es ≡ Some m → e.0 ≤ m = λ t m is. (let above = not_below t (e.0 + 1) es high m rises.1 is in omega (arith, above)) in
@@ -189,7 +189,7 @@ module _ (test : Live → Bool) (g : ℕ → Option (ℕ × Live)) (lane : ℕ) 
 
   lane_earliest : (rows : List (ℕ × Live)) (ps : Entries) → IsKeyed key_of g rows → Alike rows (listed key_of g rows) → Backed g ps → keys ps ≡ keys_in lane rows → earliest test (values ps) ≡ earliest (and_in test lane) (listed key_of g rows)
   lane_earliest rows ps kept alike backed same =
-      earliest_passing test (values ps) ∙ ap first_number (lane_passing rows ps kept alike backed same) ∙ sym (earliest_passing (and_in test lane) (listed key_of g rows))
+      earliest_passing test (values ps) ∙ ap first_rank (lane_passing rows ps kept alike backed same) ∙ sym (earliest_passing (and_in test lane) (listed key_of g rows))
 
   -- where each belongs before this lane, one in a lane before it is one of all
   all_below : (rows : List (ℕ × Live)) (es : List (ℕ × Live)) → Alike rows es → AreBelow lane rows → earliest (and_below test lane) es ≡ earliest test es
@@ -206,8 +206,8 @@ widen : (a m : ℕ) (b : Bool) → (ltb a (m + 1) && b) ≡ ((ltb a m && b) || (
 widen a m true = grind (arith, nat_tests)
 widen a m false = grind (arith, nat_tests)
 
--- so the least of the lanes' numbers is that of the earliest of all
-pub least_is : (test : Live → Bool) (g : ℕ → Option (ℕ × Live)) (rows : List (ℕ × Live)) (high : ℕ) → IsKeyed key_of g rows → Alike rows (listed key_of g rows) → Rises 0 (numbers (listed key_of g rows)) high → (lane : ℕ) (pss : List Entries) (so_far : Option ℕ) → ((l : ℕ) → Backed g (get_or pss l [])) → ArePlaced lane (map keys pss) rows → so_far ≡ earliest (and_below test lane) (listed key_of g rows) → least test so_far pss ≡ earliest test (listed key_of g rows)
+-- so the least of the lanes' ranks is that of the earliest of all
+pub least_is : (test : Live → Bool) (g : ℕ → Option (ℕ × Live)) (rows : List (ℕ × Live)) (high : ℕ) → IsKeyed key_of g rows → Alike rows (listed key_of g rows) → Rises 0 (ranks (listed key_of g rows)) high → (lane : ℕ) (pss : List Entries) (so_far : Option ℕ) → ((l : ℕ) → Backed g (get_or pss l [])) → ArePlaced lane (map keys pss) rows → so_far ≡ earliest (and_below test lane) (listed key_of g rows) → least test so_far pss ≡ earliest test (listed key_of g rows)
 least_is test g rows high kept alike rises lane [] so_far backed placed is = is ∙ all_below test g lane rows (listed key_of g rows) alike placed
 least_is test g rows high kept alike rises lane (ps ∷ pss) so_far backed placed is =
     let this = lane_earliest test g lane rows ps kept alike (backed 0) placed.0 in

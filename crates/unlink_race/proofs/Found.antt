@@ -19,7 +19,7 @@ key_found test ks xs = option_map (λ (r : ℕ × Live). r.0) (find (λ (r : ℕ
 pub record IsFound (test : Live → Bool) (g : ℕ → Option (ℕ × Live)) (es : List (ℕ × Live)) (k : ℕ) : Type 0 where
   pub entry : ℕ × Live
   pub is : g k ≡ Some entry
-  pub number : earliest test es ≡ Some entry.0
+  pub rank : earliest test es ≡ Some entry.0
   pub live : find test (lives es) ≡ Some entry.1
 
 module _ (test : Live → Bool) (g : ℕ → Option (ℕ × Live)) where
@@ -30,10 +30,10 @@ module _ (test : Live → Bool) (g : ℕ → Option (ℕ × Live)) where
         | inl here ↦ (
             let one : Some j ≡ Some k = rw here at is in
             let same : j ≡ k = cc in
-            record { entry = x; is = ap g (sym same) ∙ there; number = rw here refl; live = rw here refl })
+            record { entry = x; is = ap g (sym same) ∙ there; rank = rw here refl; live = rw here refl })
         | inr other ↦ (
             let later = behind (rw other at is) in
-            record { entry = later.entry; is = later.is; number = rw other later.number; live = rw other later.live })
+            record { entry = later.entry; is = later.is; rank = rw other later.rank; live = rw other later.live })
       ]
 
   pub found : (ks : List ℕ) → IsKeyed itself g ks → (k : ℕ) → key_found test ks (lives (listed itself g ks)) ≡ Some k → IsFound test g (listed itself g ks) k

@@ -1,4 +1,4 @@
--- A binary search of the keys by the numbers of their requests.
+-- A binary search of the keys by the ranks of their requests.
 use Rattle.std.proofs.Common.{◌≡◌, ◌≢◌, ◌==◌, ℕ, zero, suc, ◌+◌, ◌<◌, ◌≤◌, List, [], ◌∷◌, length, get_or, Option, Some, None, Result, Ok, Err, refl, ap, sym, ◌∙◌, arith, inl, inr}
 use Rattle.std.specs.List.{position}
 use Rattle.std.specs.List.Sorted.{IsSearchInRange, IsBinarySearchResult, IsNonDecreasingBy}
@@ -16,15 +16,15 @@ use Rattle.std.proofs.lemmas.Option.{slice_get-get_or}
 use Rattle.urb_arena.specs.ArenaView.{ArenaView}
 use Rattle.unlink_race.specs.declared.live.Live.{Live}
 use Rattle.unlink_race.specs.Inner.Listed.{IsKeyed}
-use Rattle.unlink_race.specs.Inner.Sound.{entry_of, in_order, numbers_of, Rises}
-use Rattle.unlink_race.proofs.Dealing.{long_numbers}
+use Rattle.unlink_race.specs.Inner.Sound.{entry_of, in_order, ranks_of, Rises}
+use Rattle.unlink_race.proofs.Dealing.{long_ranks}
 use Rattle.unlink_race.proofs.Ids.{no_live}
 use Rattle.unlink_race.proofs.Rows.{length-listed, took_at}
 
 abbrev key_of : ℕ → ℕ
 key_of k = k
 
--- each rising number is below those behind it
+-- each rising rank is below those behind it
 pub rises_at : (low : ℕ) (ns : List ℕ) (high i j : ℕ) → Rises low ns high → i < j → j < length ns → get_or ns i 0 < get_or ns j 0
 rises_at low [] high i j rises before within = absurd (omega (arith, within))
 rises_at low (n ∷ ns) high zero zero rises before within = absurd (omega (arith, before))
@@ -37,18 +37,18 @@ rises_at low (n ∷ ns) high zero (suc j) rises before within = let above = at_l
 rises_at low (n ∷ ns) high (suc i) zero rises before within = absurd (omega (arith, before))
 rises_at low (n ∷ ns) high (suc i) (suc j) rises before within = rises_at (n + 1) ns high i j rises.1 (omega (arith, before)) (omega (arith, within))
 
--- the number that a key leads to
-abbrev pub number_at : ArenaView (ℕ × Live) → ℕ → Option ℕ
-number_at arena r = option_map (λ (e : ℕ × Live). e.0) (entry_of arena r)
+-- the rank that a key leads to
+abbrev pub rank_at : ArenaView (ℕ × Live) → ℕ → Option ℕ
+rank_at arena r = option_map (λ (e : ℕ × Live). e.0) (entry_of arena r)
 
 module _ (arena : ArenaView (ℕ × Live)) (keys : List ℕ) (kept : IsKeyed key_of (entry_of arena) keys) where
-  abbrev numbers : List ℕ
-  numbers = numbers_of arena keys
+  abbrev ranks : List ℕ
+  ranks = ranks_of arena keys
 
-  long : length (numbers_of arena keys) ≡ length keys
-  long = long_numbers arena keys kept
+  long : length (ranks_of arena keys) ≡ length keys
+  long = long_ranks arena keys kept
 
-  leads : (i : ℕ) → i < length keys → number_at arena (get_or keys i 0) ≡ Some (get_or (numbers_of arena keys) i 0)
+  leads : (i : ℕ) → i < length keys → rank_at arena (get_or keys i 0) ≡ Some (get_or (ranks_of arena keys) i 0)
   leads i within =
       let all = length-listed key_of (entry_of arena) keys kept in
       let inside : i < length (in_order arena keys) = omega (arith, all, within) in
@@ -57,37 +57,37 @@ module _ (arena : ArenaView (ℕ × Live)) (keys : List ℕ) (kept : IsKeyed key
       ap (option_map (λ (e : ℕ × Live). e.0)) (took.entry ∙ slice_get-get_or (in_order arena keys) i (0, no_live) inside)
       ∙ ap Some (sym (get_or-map (λ (e : ℕ × Live). e.0) (in_order arena keys) i (0, no_live) 0 inside))
 
-  module _ (high : ℕ) (rises : Rises 0 (numbers_of arena keys) high) (number : ℕ) where
-    up : (i j : ℕ) → i < j → j < length keys → get_or (numbers_of arena keys) i 0 < get_or (numbers_of arena keys) j 0
-    up i j before within = rises_at 0 (numbers_of arena keys) high i j rises before (let e = long in omega (arith, within, e))
+  module _ (high : ℕ) (rises : Rises 0 (ranks_of arena keys) high) (rank : ℕ) where
+    up : (i j : ℕ) → i < j → j < length keys → get_or (ranks_of arena keys) i 0 < get_or (ranks_of arena keys) j 0
+    up i j before within = rises_at 0 (ranks_of arena keys) high i j rises before (let e = long in omega (arith, within, e))
 
-    -- the number stands at one place, or at none
-    pub number_at_place : (i : ℕ) → i < length keys → get_or (numbers_of arena keys) i 0 ≡ number → Some i ≡ position (λ n. n == number) (numbers_of arena keys)
-    number_at_place i within is =
+    -- the rank stands at one place, or at none
+    pub rank_at_place : (i : ℕ) → i < length keys → get_or (ranks_of arena keys) i 0 ≡ rank → Some i ≡ position (λ n. n == rank) (ranks_of arena keys)
+    rank_at_place i within is =
         let e = long in
-        let inside : i < length (numbers_of arena keys) = omega (arith, within, e) in
-        let at = position_or_len_is (λ n. n == number) (numbers_of arena keys) i 0 (omega (arith, inside)) (λ k before. ne_eqb _ number (λ same. (let less = up k i before within in omega (arith, less, same, is)))) (λ _. eq-eqb _ number is) in
-        rw (at, lt-ltb i (length (numbers_of arena keys)) inside) refl
+        let inside : i < length (ranks_of arena keys) = omega (arith, within, e) in
+        let at = position_or_len_is (λ n. n == rank) (ranks_of arena keys) i 0 (omega (arith, inside)) (λ k before. ne_eqb _ rank (λ same. (let less = up k i before within in omega (arith, less, same, is)))) (λ _. eq-eqb _ rank is) in
+        rw (at, lt-ltb i (length (ranks_of arena keys)) inside) refl
 
-    pub number_first : 0 < length keys → number_at arena (get_or keys 0 0) ≡ Some number → Some 0 ≡ position (λ n. n == number) (numbers_of arena keys)
-    number_first some is =
-        let e : Some (get_or (numbers_of arena keys) 0 0) ≡ Some number = sym (leads 0 some) ∙ is in
-        number_at_place 0 some (cc)
+    pub rank_first : 0 < length keys → rank_at arena (get_or keys 0 0) ≡ Some rank → Some 0 ≡ position (λ n. n == rank) (ranks_of arena keys)
+    rank_first some is =
+        let e : Some (get_or (ranks_of arena keys) 0 0) ≡ Some rank = sym (leads 0 some) ∙ is in
+        rank_at_place 0 some (cc)
 
-    number_nowhere : ((k : ℕ) → k < length keys → get_or (numbers_of arena keys) k 0 ≢ number) → None ≡ position (λ n. n == number) (numbers_of arena keys)
-    number_nowhere none =
+    rank_nowhere : ((k : ℕ) → k < length keys → get_or (ranks_of arena keys) k 0 ≢ rank) → None ≡ position (λ n. n == rank) (ranks_of arena keys)
+    rank_nowhere none =
         let e = long in
-        let n = length (numbers_of arena keys) in
-        let at = position_or_len_is (λ n. n == number) (numbers_of arena keys) n 0 (omega arith) (λ k before. ne_eqb _ number (none k (omega (arith, before, e)))) (λ past. absurd (omega (arith, past))) in
+        let n = length (ranks_of arena keys) in
+        let at = position_or_len_is (λ n. n == rank) (ranks_of arena keys) n 0 (omega arith) (λ k before. ne_eqb _ rank (none k (omega (arith, before, e)))) (λ past. absurd (omega (arith, past))) in
         rw (at, le-ltb n n (omega arith)) refl
 
     abbrev compared : ℕ → Ordering
-    compared r = option_cmp nat_cmp (number_at arena r) (Some number)
+    compared r = option_cmp nat_cmp (rank_at arena r) (Some rank)
 
-    compared_at : (i : ℕ) → i < length keys → compared (get_or keys i 0) ≡ nat_cmp (get_or (numbers_of arena keys) i 0) number
-    compared_at i within = ap (λ o. option_cmp nat_cmp o (Some number)) (leads i within)
+    compared_at : (i : ℕ) → i < length keys → compared (get_or keys i 0) ≡ nat_cmp (get_or (ranks_of arena keys) i 0) rank
+    compared_at i within = ap (λ o. option_cmp nat_cmp o (Some rank)) (leads i within)
 
-    ordered : (a b : ℕ) → a ≤ b → ordering_index (nat_cmp a number) ≤ ordering_index (nat_cmp b number)
+    ordered : (a b : ℕ) → a ≤ b → ordering_index (nat_cmp a rank) ≤ ordering_index (nat_cmp b rank)
     ordered a b le = grind (arith, nat_tests)
 
     rise : IsNonDecreasingBy (λ r. ordering_index (compared r)) keys
@@ -99,10 +99,10 @@ module _ (arena : ArenaView (ℕ × Live)) (keys : List ℕ) (kept : IsKeyed key
               rw (compared_at i (omega (arith, le, within)), compared_at j within) (ordered _ _ (omega (arith, less))))
         ])
 
-    pub halved : (r : Result ℕ ℕ) → IsSearchInRange r (length keys) → IsBinarySearchResult compared keys r → result_ok r ≡ position (λ n. n == number) (numbers_of arena keys)
-    halved (Ok i) within equal = number_at_place i within (ranked _ number _ (sym (sym (compared_at i within) ∙ equal 0)))
-    halved (Err i) within parted = number_nowhere (λ k inside same.
+    pub halved : (r : Result ℕ ℕ) → IsSearchInRange r (length keys) → IsBinarySearchResult compared keys r → result_ok r ≡ position (λ n. n == rank) (ranks_of arena keys)
+    halved (Ok i) within equal = rank_at_place i within (ranked _ rank _ (sym (sym (compared_at i within) ∙ equal 0)))
+    halved (Err i) within parted = rank_nowhere (λ k inside same.
         elim (cases_lt k i) [
-          | inl before ↦ (let less : get_or (numbers_of arena keys) k 0 < number = ranked _ number _ (sym (sym (compared_at k inside) ∙ (parted rise).0 k 0 (omega arith) before)) in omega (arith, less, same))
-          | inr after ↦ (let more : number < get_or (numbers_of arena keys) k 0 = ranked _ number _ (sym (sym (compared_at k inside) ∙ (parted rise).1 k 0 after inside)) in omega (arith, more, same))
+          | inl before ↦ (let less : get_or (ranks_of arena keys) k 0 < rank = ranked _ rank _ (sym (sym (compared_at k inside) ∙ (parted rise).0 k 0 (omega arith) before)) in omega (arith, less, same))
+          | inr after ↦ (let more : rank < get_or (ranks_of arena keys) k 0 = ranked _ rank _ (sym (sym (compared_at k inside) ∙ (parted rise).1 k 0 after inside)) in omega (arith, more, same))
         ])

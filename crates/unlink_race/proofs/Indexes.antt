@@ -12,7 +12,7 @@ use Rattle.std.proofs.lemmas.Slice.Zip.{length-zip}
 use Rattle.std.proofs.Math.Bool.{and-false, or-true}
 use Rattle.unlink_race.specs.declared.live.Live.{Live}
 use Rattle.unlink_race.specs.declared.by_number.By.{By}
-use Rattle.unlink_race.specs.declared.by_number.By.TheVariants.{Number, Id}
+use Rattle.unlink_race.specs.declared.by_number.By.TheVariants.{Seqnum, Id}
 use Rattle.unlink_race.specs.declared.index.Index.{Index}
 use Rattle.unlink_race.specs.Firsts.{without_first}
 use Rattle.unlink_race.specs.Searches.{changes}
@@ -227,13 +227,13 @@ module _ {keys : List ℕ} {lives : List Live} {index : Index} (s : IsIndexed ke
   index_changed i x y is kind seqnum same_id =
       record {
         long = s.long ∙ sym (length-set lives i y);
-        numbers = same_column s.numbers (zip keys (set lives i y)) (column_changed (any_by Number) (number_by Number) keys lives i x y is refl seqnum);
+        seqnums = same_column s.seqnums (zip keys (set lives i y)) (column_changed (any_by Seqnum) (number_by Seqnum) keys lives i x y is refl seqnum);
         held = same_column s.held (zip keys (set lives i y)) (column_changed (any_by Id) (number_by Id) keys lives i x y is (rw kind refl) same_id);
         changes = s.changes ∙ sym (count_changed changes lives i x y is (rw kind refl));
       }
 
-  pub number_room : length index.numbers ≤ length lives
-  number_room = let a = order_short s.numbers in let b = zip_short keys lives s.long in omega (arith, a, b)
+  pub seqnum_room : length index.seqnums ≤ length lives
+  seqnum_room = let a = order_short s.seqnums in let b = zip_short keys lives s.long in omega (arith, a, b)
 
   pub held_room : length index.held ≤ length lives
   held_room = let a = order_short s.held in let b = zip_short keys lives s.long in omega (arith, a, b)
@@ -242,12 +242,12 @@ module _ {keys : List ℕ} {lives : List Live} {index : Index} (s : IsIndexed ke
   changes_few = let a = s.changes in let b = count_by-le-length changes lives in omega (arith, a, b)
 
   -- the parts are written out, so that the callers' clauses fit
-  pub index_pushed : (index' : Index) (k : ℕ) (x : Live) → IsOrderOf Number (zip keys lives ++ (k, x) ∷ []) index'.numbers → IsOrderOf Id (zip keys lives ++ (k, x) ∷ []) index'.held → index'.changes ≡ index.changes + cond (changes x) 1 0 → IsIndexed (keys ++ k ∷ []) (lives ++ x ∷ []) index'
+  pub index_pushed : (index' : Index) (k : ℕ) (x : Live) → IsOrderOf Seqnum (zip keys lives ++ (k, x) ∷ []) index'.seqnums → IsOrderOf Id (zip keys lives ++ (k, x) ∷ []) index'.held → index'.changes ≡ index.changes + cond (changes x) 1 0 → IsIndexed (keys ++ k ∷ []) (lives ++ x ∷ []) index'
   index_pushed index' k x numbers held more =
       let whole = zip_pushed keys lives k x s.long in
       record {
         long = (let a = length-append keys (k ∷ []) in let b = length-append lives (x ∷ []) in let c = s.long in omega (arith, a, b, c));
-        numbers = order_of whole numbers;
+        seqnums = order_of whole numbers;
         held = order_of whole held;
         changes = more ∙ ap (λ n. n + cond (changes x) 1 0) s.changes ∙ sym (count_pushed changes lives x);
       }
@@ -257,12 +257,12 @@ module _ {keys : List ℕ} {lives : List Live} {index : Index} (s : IsIndexed ke
     pub change_counted : cond (changes x) 1 0 ≤ index.changes
     change_counted = omega (arith, s.changes, count_removed changes lives i x live)
 
-    pub index_removed : (index' : Index) → IsOrderOf Number (remove (zip keys lives) i) index'.numbers → IsOrderOf Id (remove (zip keys lives) i) index'.held → index'.changes + cond (changes x) 1 0 ≡ index.changes → IsIndexed (remove keys i) (remove lives i) index'
+    pub index_removed : (index' : Index) → IsOrderOf Seqnum (remove (zip keys lives) i) index'.seqnums → IsOrderOf Id (remove (zip keys lives) i) index'.held → index'.changes + cond (changes x) 1 0 ≡ index.changes → IsIndexed (remove keys i) (remove lives i) index'
     index_removed index' numbers held less =
         let left = zip_removed keys lives i in
         record {
           long = (let a = length-remove keys i (slice_get_within keys i k key) in let b = length-remove lives i (slice_get_within lives i x live) in let c = s.long in omega (arith, a, b, c));
-          numbers = order_of left numbers;
+          seqnums = order_of left numbers;
           held = order_of left held;
           changes = omega (arith, less, s.changes, count_removed changes lives i x live);
         }

@@ -1,4 +1,4 @@
--- Rising numbers, as one comes behind them and as one goes.
+-- Rising ranks, as one comes behind them and as one goes.
 use Rattle.std.proofs.Common.{◌≡◌, ℕ, zero, suc, ◌+◌, ◌<◌, ◌≤◌, List, [], ◌∷◌, ◌++◌, length, get_or, arith}
 use Rattle.std.specs.List.{remove}
 use Rattle.unlink_race.specs.Inner.Sound.{Rises}

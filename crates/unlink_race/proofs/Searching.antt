@@ -18,10 +18,10 @@ use Rattle.unlink_race.specs.Searches.{waits_at, waits_for, ended_by}
 use Rattle.unlink_race.specs.Inner.Earliest.{passing, earliest, least}
 use Rattle.unlink_race.specs.Inner.Lane.{lane_of}
 use Rattle.unlink_race.specs.Inner.Listed.{IsKeyed, listed}
-use Rattle.unlink_race.specs.Inner.Sound.{entry_of, in_order, lives_of, numbers_of, Rises, IsSound}
-use Rattle.unlink_race.proofs.Earliest.{number_placed, none_placed, first_number, earliest_passing, lives_passing, never, Alike, all_backed, keys_home, and_in, and_below, lane_passing, least_is}
+use Rattle.unlink_race.specs.Inner.Sound.{entry_of, in_order, lives_of, ranks_of, Rises, IsSound}
+use Rattle.unlink_race.proofs.Earliest.{rank_placed, none_placed, first_rank, earliest_passing, lives_passing, never, Alike, all_backed, keys_home, and_in, and_below, lane_passing, least_is}
 use Rattle.unlink_race.proofs.Found.{key_found, IsFound, found, found_none}
-use Rattle.unlink_race.proofs.Halving.{number_at_place}
+use Rattle.unlink_race.proofs.Halving.{rank_at_place}
 use Rattle.unlink_race.proofs.Leading.{by_key}
 use Rattle.unlink_race.proofs.Rows.{length-listed}
 use Rattle.unlink_race.proofs.Walks.{values}
@@ -37,11 +37,11 @@ waits_there ep (Stream at interface) =
       | inr other ↦ rw (ne_eqb at ep other) (and-false (endpoint_index at == endpoint_index ep))
     ]
 
--- the place of a request, from its number
-pub record IsPlaced (test : Live → Bool) (arena : ArenaView (ℕ × Live)) (keys : List ℕ) (xs : List Live) (number : ℕ) : Type 0 where
+-- the place of a request, from its rank
+pub record IsPlaced (test : Live → Bool) (arena : ArenaView (ℕ × Live)) (keys : List ℕ) (xs : List Live) (rank : ℕ) : Type 0 where
   pub place : ℕ
   pub within : place < length keys
-  pub is : get_or (numbers_of arena keys) place 0 ≡ number
+  pub is : get_or (ranks_of arena keys) place 0 ≡ rank
   pub first : position test xs ≡ Some place
 
 module _ {arena : ArenaView (ℕ × Live)} {keys : List ℕ} (s : IsSound arena keys) where
@@ -75,7 +75,7 @@ module _ {arena : ArenaView (ℕ × Live)} {keys : List ℕ} (s : IsSound arena 
 
   pub waiting_is : (ep byte lane : ℕ) → byte ≡ ep → lane ≡ endpoint_index ep → lane < ENDPOINTS → earliest (ended_by (Told byte)) (values (get_or arena.lanes lane [])) ≡ earliest (waits_for ep) (in_order arena keys)
   waiting_is ep byte lane same at low =
-      earliest_passing (ended_by (Told byte)) (values (get_or arena.lanes lane [])) ∙ ap first_number (waiting_are ep byte lane same at low) ∙ sym (earliest_passing (waits_for ep) (in_order arena keys))
+      earliest_passing (ended_by (Told byte)) (values (get_or arena.lanes lane [])) ∙ ap first_rank (waiting_are ep byte lane same at low) ∙ sym (earliest_passing (waits_for ep) (in_order arena keys))
 
   -- the nth of them
   pub nth_waiting : {xs : List Live} → lives_of arena keys ≡ xs → (ep byte lane nth : ℕ) → byte ≡ ep → lane ≡ endpoint_index ep → lane < ENDPOINTS → option_map (λ (e : ℕ × Live). e.1) (slice_get (passing (ended_by (Told byte)) (values (get_or arena.lanes lane []))) nth) ≡ slice_get (filter (waits_for ep) xs) nth
@@ -86,7 +86,7 @@ module _ {arena : ArenaView (ℕ × Live)} {keys : List ℕ} (s : IsSound arena 
       ∙ ap (λ (ls : List Live). slice_get (filter (waits_for ep) ls) nth) v
 
   -- the least of the lanes' first that pass is the earliest of all that pass
-  pub least_passing : (test : Live → Bool) (high : ℕ) → Rises 0 (numbers_of arena keys) high → least test None arena.lanes ≡ earliest test (in_order arena keys)
+  pub least_passing : (test : Live → Bool) (high : ℕ) → Rises 0 (ranks_of arena keys) high → least test None arena.lanes ≡ earliest test (in_order arena keys)
   least_passing test high rises =
       least_is test (entry_of arena) rows high kept alike (rw whole rises) 0 arena.lanes None (λ l. all_backed arena.lanes keyed l [] (get_or arena.lanes l []) refl) s.placed (sym (never (and_below test 0) (λ x. ap (λ b. b && test x) (le-ltb (lane_of x.kind) 0 (omega arith))) (listed key_of (entry_of arena) rows)))
       ∙ ap (earliest test) whole
@@ -95,20 +95,20 @@ module _ {arena : ArenaView (ℕ × Live)} {keys : List ℕ} (s : IsSound arena 
     long_lives : length xs ≡ length (in_order arena keys)
     long_lives = ap length (sym v) ∙ length-map (in_order arena keys) (λ (e : ℕ × Live). e.1)
 
-    at_place : (number : ℕ) → earliest test (in_order arena keys) ≡ Some number → IsPlaced test arena keys xs number
-    at_place number is =
-        let at = number_placed test (in_order arena keys) number is in
+    at_place : (rank : ℕ) → earliest test (in_order arena keys) ≡ Some rank → IsPlaced test arena keys xs rank
+    at_place rank is =
+        let at = rank_placed test (in_order arena keys) rank is in
         let inside : at.place < length keys = (let w = at.within in let e = long_entries in omega (arith, w, e)) in
         let first : position_or_len test xs ≡ at.place = ap (position_or_len test) (sym v) ∙ at.first in
         let there : ltb at.place (length xs) ≡ true = lt-ltb _ _ (let w = at.within in let e = long_lives in omega (arith, w, e)) in
         record { place = at.place; within = inside; is = at.is; first = rw (first, there) refl }
 
-    -- what a search of these keys by the number gives
-    pub search_gives : (keys' : List ℕ) (result : Option ℕ) (number high : ℕ) → keys' ≡ keys → earliest test (in_order arena keys) ≡ Some number → Rises 0 (numbers_of arena keys) high → ((high : ℕ) → IsKeyed itself (entry_of arena) keys' → Rises 0 (numbers_of arena keys') high → result ≡ position (λ n. n == number) (numbers_of arena keys')) → result ≡ position test xs
-    search_gives keys' result number high same is rises told =
-        let at = at_place number is in
-        let P : List ℕ → Type 0 = λ ks. (high : ℕ) → IsKeyed itself (entry_of arena) ks → Rises 0 (numbers_of arena ks) high → result ≡ position (λ n. n == number) (numbers_of arena ks) in
-        subst P same told high s.kept rises ∙ sym (number_at_place arena keys s.kept high rises number at.place at.within at.is) ∙ sym at.first
+    -- what a search of these keys by the rank gives
+    pub search_gives : (keys' : List ℕ) (result : Option ℕ) (rank high : ℕ) → keys' ≡ keys → earliest test (in_order arena keys) ≡ Some rank → Rises 0 (ranks_of arena keys) high → ((high : ℕ) → IsKeyed itself (entry_of arena) keys' → Rises 0 (ranks_of arena keys') high → result ≡ position (λ n. n == rank) (ranks_of arena keys')) → result ≡ position test xs
+    search_gives keys' result rank high same is rises told =
+        let at = at_place rank is in
+        let P : List ℕ → Type 0 = λ ks. (high : ℕ) → IsKeyed itself (entry_of arena) ks → Rises 0 (ranks_of arena ks) high → result ≡ position (λ n. n == rank) (ranks_of arena ks) in
+        subst P same told high s.kept rises ∙ sym (rank_at_place arena keys s.kept high rises rank at.place at.within at.is) ∙ sym at.first
 
     pub unplaced : earliest test (in_order arena keys) ≡ None → position test xs ≡ None
     unplaced is =
@@ -132,12 +132,12 @@ module _ {arena : ArenaView (ℕ × Live)} {keys : List ℕ} (s : IsSound arena 
           let one : f.entry ≡ e = cc in
           ap (find test) (sym v) ∙ f.live ∙ ap (λ (x : ℕ × Live). Some x.1) one
 
-      pub numbered : (k : ℕ) (e : ℕ × Live) → index ≡ Some k → entry_of arena k ≡ Some e → earliest test (in_order arena keys) ≡ Some e.0
-      numbered k e is there =
+      pub ranked : (k : ℕ) (e : ℕ × Live) → index ≡ Some k → entry_of arena k ≡ Some e → earliest test (in_order arena keys) ≡ Some e.0
+      ranked k e is there =
           let f = led k is in
           let same : Some f.entry ≡ Some e = sym f.is ∙ there in
           let one : f.entry ≡ e = cc in
-          f.number ∙ ap (λ (x : ℕ × Live). Some x.0) one
+          f.rank ∙ ap (λ (x : ℕ × Live). Some x.0) one
 
       pub finds_none : index ≡ None → find test xs ≡ None
       finds_none is = ap (find test) (sym v) ∙ (found_none test (entry_of arena) keys s.kept (sym told ∙ is)).1

@@ -15,7 +15,7 @@ use Rattle.unlink_race.specs.declared.index.Index.{Index}
 use Rattle.unlink_race.specs.Inner.Indexed.{Stand, IsIndexed}
 use Rattle.unlink_race.specs.Inner.Lane.{lane_of}
 use Rattle.unlink_race.specs.Inner.Placed.{keys_of, ArePlaced}
-use Rattle.unlink_race.specs.Inner.Sound.{entry_of, in_order, lives_of, numbers_of, Rises, IsSound}
+use Rattle.unlink_race.specs.Inner.Sound.{entry_of, in_order, lives_of, ranks_of, Rises, IsSound}
 use Rattle.unlink_race.proofs.Columns.{map-remove, map-set, map_unchanged}
 use Rattle.unlink_race.proofs.Ids.{no_live}
 use Rattle.unlink_race.proofs.Lanes.{found_pushed, others_pushed, count_pushed, others_removed, found_replaced, others_replaced, count_replaced}
@@ -39,7 +39,7 @@ by_keys {kss' = kss'} {rows = rows} same rows_same placed =
     let Q : List (ℕ × Live) → Type 0 = λ rs. ArePlaced 0 kss' rs in
     subst Q (sym rows_same) (subst P (sym same) placed)
 
--- and the numbers rise by each name
+-- and the ranks rise by each name
 pub rising : {ns ms : List ℕ} (high : ℕ) → ms ≡ ns → Rises 0 ns high → Rises 0 ms high
 rising high same rises = rw same rises
 
@@ -73,7 +73,7 @@ module _ {arena : ArenaView (ℕ × Live)} {keys : List ℕ} (s : IsSound arena 
   pub key_at : (i k : ℕ) → i < length xs → k ≡ get_or keys i k → slice_get keys i ≡ Some k
   key_at i k within read = slice_get-get_or keys i k (omega (arith, within, long)) ∙ ap Some (sym read)
 
-  pub removed : (arena' : ArenaView (ℕ × Live)) (keys' : List ℕ) (i k : ℕ) → i < length xs → k ≡ get_or keys i k → arena' ≡ arena_view (map (without k) arena.lanes) arena.capacity → count arena'.lanes + 1 ≡ count arena.lanes → keys' ≡ remove keys i → IsSound arena' keys' × (lives_of arena' keys' ≡ remove xs i) × (numbers_of arena' keys' ≡ remove (numbers_of arena keys) i)
+  pub removed : (arena' : ArenaView (ℕ × Live)) (keys' : List ℕ) (i k : ℕ) → i < length xs → k ≡ get_or keys i k → arena' ≡ arena_view (map (without k) arena.lanes) arena.capacity → count arena'.lanes + 1 ≡ count arena.lanes → keys' ≡ remove keys i → IsSound arena' keys' × (lives_of arena' keys' ≡ remove xs i) × (ranks_of arena' keys' ≡ remove (ranks_of arena keys) i)
   removed arena' keys' i k within read made less left =
       let at : i < length keys = omega (arith, within, long) in
       let others : SameBut itself k (entry_of arena) (entry_of arena') = λ j other. ap (λ (a : ArenaView (ℕ × Live)). entry_of a j) made ∙ others_removed j k other arena.lanes in
@@ -96,20 +96,20 @@ module _ {arena : ArenaView (ℕ × Live)} {keys : List ℕ} (s : IsSound arena 
       )
 
   -- a request is put behind the others, under a key that had none
-  module _ (arena' : ArenaView (ℕ × Live)) (lane number k : ℕ) (x : Live) (in_lane : lane < ENDPOINTS) (vacant : entry_of arena k ≡ None) (made : arena' ≡ arena_view (set arena.lanes lane (get_or arena.lanes lane [] ++ (k, (number, x)) ∷ [])) arena.capacity) where
+  module _ (arena' : ArenaView (ℕ × Live)) (lane rank k : ℕ) (x : Live) (in_lane : lane < ENDPOINTS) (vacant : entry_of arena k ≡ None) (made : arena' ≡ arena_view (set arena.lanes lane (get_or arena.lanes lane [] ++ (k, (rank, x)) ∷ [])) arena.capacity) where
     inside : lane < length arena.lanes
     inside = omega (arith, in_lane, s.lanes)
 
-    pub pushed_there : entry_of arena' k ≡ Some (number, x)
-    pushed_there = ap (λ (a : ArenaView (ℕ × Live)). entry_of a k) made ∙ found_pushed k (number, x) arena.lanes lane inside vacant
+    pub pushed_there : entry_of arena' k ≡ Some (rank, x)
+    pushed_there = ap (λ (a : ArenaView (ℕ × Live)). entry_of a k) made ∙ found_pushed k (rank, x) arena.lanes lane inside vacant
 
-    pub pushed : (keys' : List ℕ) → length xs < MAX_LIVE → lane ≡ lane_of x.kind → keys' ≡ keys ++ k ∷ [] → IsSound arena' keys' × (lives_of arena' keys' ≡ xs ++ x ∷ []) × (numbers_of arena' keys' ≡ numbers_of arena keys ++ number ∷ [])
+    pub pushed : (keys' : List ℕ) → length xs < MAX_LIVE → lane ≡ lane_of x.kind → keys' ≡ keys ++ k ∷ [] → IsSound arena' keys' × (lives_of arena' keys' ≡ xs ++ x ∷ []) × (ranks_of arena' keys' ≡ ranks_of arena keys ++ rank ∷ [])
     pushed keys' free its_lane whole =
-        let others : SameBut itself k (entry_of arena) (entry_of arena') = λ j other. ap (λ (a : ArenaView (ℕ × Live)). entry_of a j) made ∙ others_pushed j k (number, x) other arena.lanes lane in
-        let put = put_last itself (entry_of arena) (entry_of arena') keys k (number, x) vacant pushed_there others s.kept in
+        let others : SameBut itself k (entry_of arena) (entry_of arena') = λ j other. ap (λ (a : ArenaView (ℕ × Live)). entry_of a j) made ∙ others_pushed j k (rank, x) other arena.lanes lane in
+        let put = put_last itself (entry_of arena) (entry_of arena') keys k (rank, x) vacant pushed_there others s.kept in
         let longer = length-append keys (k ∷ []) in
-        let more : count arena'.lanes ≡ count arena.lanes + 1 = ap (λ (a : ArenaView (ℕ × Live)). count a.lanes) made ∙ count_pushed (k, (number, x)) arena.lanes lane inside in
-        let all_in : lives_of arena' (keys ++ k ∷ []) ≡ xs ++ x ∷ [] = ap (map (λ (e : ℕ × Live). e.1)) put.whole ∙ map-append (λ (e : ℕ × Live). e.1) (in_order arena keys) ((number, x) ∷ []) ∙ ap (λ ys. ys ++ x ∷ []) v in
+        let more : count arena'.lanes ≡ count arena.lanes + 1 = ap (λ (a : ArenaView (ℕ × Live)). count a.lanes) made ∙ count_pushed (k, (rank, x)) arena.lanes lane inside in
+        let all_in : lives_of arena' (keys ++ k ∷ []) ≡ xs ++ x ∷ [] = ap (map (λ (e : ℕ × Live). e.1)) put.whole ∙ map-append (λ (e : ℕ × Live). e.1) (in_order arena keys) ((rank, x) ∷ []) ∙ ap (λ ys. ys ++ x ∷ []) v in
         rw whole (
           record {
             kept = put.kept;
@@ -117,13 +117,13 @@ module _ {arena : ArenaView (ℕ × Live)} {keys : List ℕ} (s : IsSound arena 
             bound = omega (arith, longer, long, free);
             capacity = ap (λ (a : ArenaView (ℕ × Live)). a.capacity) made ∙ s.capacity;
             lanes = ap (λ (a : ArenaView (ℕ × Live)). length a.lanes) made ∙ length-set arena.lanes lane _ ∙ s.lanes;
-            placed = by_keys (ap keys_of made) (ap (zip (keys ++ k ∷ [])) all_in ∙ zip_pushed keys xs k x (sym long)) (placed_pushed 0 arena.lanes lane (zip keys xs) (k, x) (number, x) inside (sym its_lane ∙ sym (zero-add lane)) placed);
+            placed = by_keys (ap keys_of made) (ap (zip (keys ++ k ∷ [])) all_in ∙ zip_pushed keys xs k x (sym long)) (placed_pushed 0 arena.lanes lane (zip keys xs) (k, x) (rank, x) inside (sym its_lane ∙ sym (zero-add lane)) placed);
           },
           all_in,
-          ap (map (λ (e : ℕ × Live). e.0)) put.whole ∙ map-append (λ (e : ℕ × Live). e.0) (in_order arena keys) ((number, x) ∷ []),
+          ap (map (λ (e : ℕ × Live). e.0)) put.whole ∙ map-append (λ (e : ℕ × Live). e.0) (in_order arena keys) ((rank, x) ∷ []),
         )
 
-  pub changed : (arena' : ArenaView (ℕ × Live)) (i k : ℕ) (entry : ℕ × Live) (y : Live) → i < length xs → k ≡ get_or keys i k → entry_of arena k ≡ Some entry → arena' ≡ arena_view (map (replaced k (entry.0, y)) arena.lanes) arena.capacity → y.kind ≡ entry.1.kind → IsSound arena' keys × (lives_of arena' keys ≡ set xs i y) × (numbers_of arena' keys ≡ numbers_of arena keys)
+  pub changed : (arena' : ArenaView (ℕ × Live)) (i k : ℕ) (entry : ℕ × Live) (y : Live) → i < length xs → k ≡ get_or keys i k → entry_of arena k ≡ Some entry → arena' ≡ arena_view (map (replaced k (entry.0, y)) arena.lanes) arena.capacity → y.kind ≡ entry.1.kind → IsSound arena' keys × (lives_of arena' keys ≡ set xs i y) × (ranks_of arena' keys ≡ ranks_of arena keys)
   changed arena' i k entry y within read is made kind =
       let there : entry_of arena' k ≡ Some (entry.0, y) = ap (λ (a : ArenaView (ℕ × Live)). entry_of a k) made ∙ found_replaced k (entry.0, y) arena.lanes ∙ ap (option_map (λ _. (entry.0, y))) is in
       let others : SameBut itself k (entry_of arena) (entry_of arena') = λ j other. ap (λ (a : ArenaView (ℕ × Live)). entry_of a j) made ∙ others_replaced j k (entry.0, y) other arena.lanes in

@@ -19,8 +19,8 @@ use usbip_urb::MAX_LIVE;
 /// What requests are found by.
 #[derive(Clone, Copy)]
 pub enum By {
-    /// The submit's number.
-    Number,
+    /// The submit's seqnum.
+    Seqnum,
     /// The id of the packet whose answer ends a wire or route request.
     Id,
 }
@@ -30,7 +30,7 @@ impl By {
         ensures { result ≡ number_by self live.now }
     {
         match self {
-            By::Number => u64::from(live.seqnum),
+            By::Seqnum => u64::from(live.seqnum),
             By::Id => live.id,
         }
     }

@@ -1,4 +1,4 @@
-//! Where the requests in a table are found by their numbers and ids, so that no search walks them.
+//! Where the requests in a table are found by their seqnums and ids, so that no search walks them.
 
 ghost use Rattle.std.specs.Prelude.{◌≡◌, ◌<◌, ℕ, List, [], ◌∷◌, ◌++◌, length, remove, slice_get, Some, option_map, if◌then◌else◌};
 ghost use Rattle.std.specs.List.{find, list_any, zip};
@@ -13,12 +13,12 @@ use crate::live::Live;
 use urb_arena::{Arena, Key};
 use usbip_urb::MAX_LIVE;
 
-/// The keys of the requests in a table in the order of their numbers, and those of wire and route requests in that of
+/// The keys of the requests in a table in the order of their seqnums, and those of wire and route requests in that of
 /// their ids; and how many requests change the device's interfaces. It holds no request, and of one that has ended
 /// nothing. What it needs of a request it reads in the arena.
 #[derive(Drop)]
 pub struct Index {
-    numbers: Keys,
+    seqnums: Keys,
     // of the wire and route requests
     held: Keys,
     changes: usize,
@@ -57,7 +57,7 @@ impl Index {
         ensures { IsIndexed [] [] result }
     {
         Index {
-            numbers: Keys::new(),
+            seqnums: Keys::new(),
             held: Keys::new(),
             changes: 0,
         }
@@ -68,7 +68,7 @@ impl Index {
         ensures { (keys : List ℕ) (lives : List Live) → IsIndexed keys lives self.now → Stand arena.now.lanes (zip keys lives) → result ≡ option_map (λ (r : ℕ × Live). r.0) (find (λ (r : ℕ × Live). found_by by number r.1) (zip keys lives)) }
     {
         match by {
-            By::Number => first(arena, &self.numbers, By::Number, number),
+            By::Seqnum => first(arena, &self.seqnums, By::Seqnum, number),
             By::Id => first(arena, &self.held, By::Id, number),
         }
     }
@@ -85,7 +85,7 @@ impl Index {
         requires { (keys : List ℕ) × (lives : List Live) × (length lives < MAX_LIVE) × IsIndexed keys lives self.old }
         ensures { (keys : List ℕ) (lives : List Live) → IsIndexed keys lives self.old → Stand arena.now.lanes (zip keys lives) → IsIndexed (keys ++ key ∷ []) (lives ++ live.now ∷ []) self.new }
     {
-        put(arena, &mut self.numbers, By::Number, key, live);
+        put(arena, &mut self.seqnums, By::Seqnum, key, live);
         put_id(arena, &mut self.held, key, live);
         self.changes += change_of(live);
     }
@@ -95,7 +95,7 @@ impl Index {
         requires { (keys : List ℕ) × (lives : List Live) × (place : ℕ) × (slice_get keys place ≡ Some key) × (slice_get lives place ≡ Some live.now) × Stand arena.now.lanes (zip keys lives) × IsIndexed keys lives self.old }
         ensures { (keys : List ℕ) (lives : List Live) (place : ℕ) → slice_get keys place ≡ Some key → slice_get lives place ≡ Some live.now → Distinct (λ k. k) keys → Stand arena.now.lanes (zip keys lives) → IsIndexed keys lives self.old → IsIndexed (remove keys place) (remove lives place) self.new }
     {
-        take(arena, &mut self.numbers, By::Number, key, live);
+        take(arena, &mut self.seqnums, By::Seqnum, key, live);
         take_id(arena, &mut self.held, key, live);
         self.changes -= change_of(live);
     }

@@ -8,7 +8,7 @@ mod index;
 mod keys;
 mod live;
 mod lives;
-mod numbered;
+mod ranked;
 mod search;
 mod table;
 mod unlink;

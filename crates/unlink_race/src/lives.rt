@@ -105,7 +105,7 @@ impl Lives {
     pub fn has(&self, seqnum: u32) -> bool
         ensures { result ≡ list_any (has_number seqnum) self.now.live }
     {
-        !self.client_gone && self.table.has_number(seqnum)
+        !self.client_gone && self.table.has_seqnum(seqnum)
     }
 
     /// Whether an id is that of a wire or route request, live or abandoned.
@@ -130,7 +130,7 @@ impl Lives {
         ensures ok { OnOk result (self.new ≡ record self.old { live = self.old.live ++ live ∷ [] }) }
         ensures err { OnErr result (self.new ≡ self.old) }
     {
-        if self.table.has_number(live.seqnum) {
+        if self.table.has_seqnum(live.seqnum) {
             return Err(NotAccepted::SeqInFlight(live.seqnum));
         }
         if self.table.len() == MAX_LIVE {
@@ -176,7 +176,7 @@ impl Lives {
         if self.client_gone {
             return None;
         }
-        self.table.place_of_number(seqnum)
+        self.table.place_of_seqnum(seqnum)
     }
 
     /// The request at a place among those in flight, live or abandoned.

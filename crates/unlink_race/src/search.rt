@@ -1,4 +1,4 @@
-//! Searches of the requests in their lanes, by the numbers that say when they were accepted.
+//! Searches of the requests in their lanes, by the ranks that say when they were accepted.
 
 ghost use Rattle.std.specs.Prelude.{◌≡◌, ◌<◌, true, [], None, length, map, get_or, slice_get, option_copied};
 ghost use Rattle.std.specs.Option.{option_map};
@@ -11,8 +11,8 @@ use crate::live::{Live, StreamEnd};
 use urb_arena::{Arena, Key};
 use usb_base::ENDPOINTS;
 
-/// The number of the request of a key.
-pub fn number_of(arena: &Arena<(u64, Live)>, key: Key) -> Option<u64>
+/// The rank of the request of a key.
+pub fn rank_of(arena: &Arena<(u64, Live)>, key: Key) -> Option<u64>
     ensures { result ≡ option_map (λ entry. entry.0) (find_in key arena.now.lanes) }
 {
     Some(arena.get(key)?.0)
@@ -44,7 +44,7 @@ pub fn nth_in_lane<'a>(
     None
 }
 
-/// The number of the earliest of them.
+/// The rank of the earliest of them.
 pub fn earliest_in_lane(arena: &Arena<(u64, Live)>, lane: usize, end: &StreamEnd) -> Option<u64>
     requires lane { lane < length arena.now.lanes }
     requires keys { ByKey arena.now.lanes }
@@ -53,7 +53,7 @@ pub fn earliest_in_lane(arena: &Arena<(u64, Live)>, lane: usize, end: &StreamEnd
     Some(nth_in_lane(arena, lane, end, 0)?.0)
 }
 
-/// The lesser of two numbers, where there are two.
+/// The lesser of two ranks, where there are two.
 fn earlier(one: Option<u64>, other: Option<u64>) -> Option<u64>
     ensures { result ≡ lesser one other }
 {
@@ -64,16 +64,16 @@ fn earlier(one: Option<u64>, other: Option<u64>) -> Option<u64>
     }
 }
 
-/// The number of the first in a lane: numbers rise from its front on.
+/// The rank of the first in a lane: ranks rise from its front on.
 fn first_in_lane(arena: &Arena<(u64, Live)>, lane: usize) -> Option<u64>
     requires lane { lane < length arena.now.lanes }
     requires keys { ByKey arena.now.lanes }
     ensures { result ≡ earliest (λ live. true) (map (λ p. p.1) (get_or arena.now.lanes lane [])) }
 {
-    number_of(arena, arena.front(lane)?)
+    rank_of(arena, arena.front(lane)?)
 }
 
-/// The number of the earliest of all: one of the lanes' first.
+/// The rank of the earliest of all: one of the lanes' first.
 pub fn first_of_all(arena: &Arena<(u64, Live)>) -> Option<u64>
     requires lanes { length arena.now.lanes ≡ ENDPOINTS }
     requires keys { ByKey arena.now.lanes }
@@ -86,7 +86,7 @@ pub fn first_of_all(arena: &Arena<(u64, Live)>) -> Option<u64>
     first
 }
 
-/// The number of the earliest in all lanes whose stream ends so: one of the lanes' earliest.
+/// The rank of the earliest in all lanes whose stream ends so: one of the lanes' earliest.
 pub fn earliest_of_all(arena: &Arena<(u64, Live)>, end: &StreamEnd) -> Option<u64>
     requires lanes { length arena.now.lanes ≡ ENDPOINTS }
     requires keys { ByKey arena.now.lanes }

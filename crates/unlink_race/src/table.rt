@@ -1,5 +1,5 @@
 //! The table behind `Lives`: the requests in an arena, each in the lane of its endpoint, where those that wait for a
-//! stream are looked for, and beside it their keys in order of acceptance. By its number or its id a request is found
+//! stream are looked for, and beside it their keys in order of acceptance. By its seqnum or its id a request is found
 //! by an index, which says its key.
 
 ghost use Rattle.std.specs.Prelude.{◌≡◌, ◌==◌, ◌<◌, ◌≤◌, ◌+◌, ◌^◌, ℕ, not, true, List, [], ◌∷◌, ◌++◌, length, filter, remove, replicate, get_or, slice_get, slice_set, option_copied, option_map, Some};
@@ -11,7 +11,7 @@ ghost use Rattle.unlink_race.specs.declared.live.Live.{Live};
 ghost use Rattle.unlink_race.specs.Firsts.{without_first};
 ghost use Rattle.unlink_race.specs.Inner.Indexed.{found_by};
 ghost use Rattle.unlink_race.specs.Inner.Listed.{IsKeyed};
-ghost use Rattle.unlink_race.specs.Inner.Sound.{entry_of, numbers_of, Rises, HasDealt};
+ghost use Rattle.unlink_race.specs.Inner.Sound.{entry_of, ranks_of, Rises, HasDealt};
 ghost use Rattle.unlink_race.specs.Unlinking.{unlinked_by};
 ghost use Rattle.unlink_race.specs.Searches.{has_number, has_id, waits_for, touched_by, ended_by, changes};
 
@@ -19,8 +19,8 @@ use crate::by_number::By;
 use crate::index::Index;
 use crate::keys::Keys;
 use crate::live::{Live, StreamEnd};
-use crate::numbered::{mark, renumber};
-use crate::search::{earliest_in_lane, earliest_of_all, first_of_all, nth_in_lane, number_of};
+use crate::ranked::{mark, set_rank};
+use crate::search::{earliest_in_lane, earliest_of_all, first_of_all, nth_in_lane, rank_of};
 use control_route::Route;
 use std::marker::Model;
 use urb_arena::{Arena, Key};
@@ -32,9 +32,9 @@ use usbip_urb::MAX_LIVE;
 #[derive(Drop)]
 pub struct Table {
     // a lane for each endpoint, at its index, and in the first what went by a route, too: each request with its
-    // number, which rises in order of acceptance
+    // rank, which rises in order of acceptance
     arena: Arena<(u64, Live)>,
-    // above all numbers
+    // above all ranks
     next: u64,
     // in order of acceptance
     keys: Keys,
@@ -44,55 +44,55 @@ pub struct Table {
 impl Model for Table {
     ghost use Rattle.std.specs.Prelude.{List};
     ghost use Rattle.unlink_race.specs.declared.live.Live.{Live};
-    ghost use Rattle.unlink_race.specs.Inner.Sound.{lives_of, numbers_of, Rises, IsSound};
+    ghost use Rattle.unlink_race.specs.Inner.Sound.{lives_of, ranks_of, Rises, IsSound};
     ghost use Rattle.unlink_race.specs.Inner.Indexed.{IsIndexed};
 
     ghost Value = { List Live };
 
     ghost view = { λ t. lives_of t.arena t.keys };
 
-    ghost invariant = { λ t. IsSound t.arena t.keys × IsIndexed t.keys (lives_of t.arena t.keys) t.index × Rises 0 (numbers_of t.arena t.keys) t.next };
+    ghost invariant = { λ t. IsSound t.arena t.keys × IsIndexed t.keys (lives_of t.arena t.keys) t.index × Rises 0 (ranks_of t.arena t.keys) t.next };
 }
 
-/// Whether it is the first's number: most requests end first of all.
-fn is_first(arena: &Arena<(u64, Live)>, keys: &[Key], number: u64) -> bool
-    ensures { result ≡ true → (0 < length keys.now) × (option_map (λ (entry : ℕ × Live). entry.0) (find_in (get_or keys.now 0 0) arena.now.lanes) ≡ Some number) }
+/// Whether it is the first's rank: most requests end first of all.
+fn is_first(arena: &Arena<(u64, Live)>, keys: &[Key], rank: u64) -> bool
+    ensures { result ≡ true → (0 < length keys.now) × (option_map (λ (entry : ℕ × Live). entry.0) (find_in (get_or keys.now 0 0) arena.now.lanes) ≡ Some rank) }
 {
     match keys.first() {
-        Some(key) => number_of(arena, *key) == Some(number),
+        Some(key) => rank_of(arena, *key) == Some(rank),
         None => false,
     }
 }
 
-/// The place of the key whose request has this number: the numbers rise with the keys.
-fn place_numbered(arena: &Arena<(u64, Live)>, keys: &[Key], number: u64) -> Option<usize>
-    ensures { (high : ℕ) → IsKeyed (λ k. k) (entry_of arena.now) keys.now → Rises 0 (numbers_of arena.now keys.now) high → result ≡ position (λ n. n == number) (numbers_of arena.now keys.now) }
+/// The place of the key whose request has this rank: the ranks rise with the keys.
+fn place_ranked(arena: &Arena<(u64, Live)>, keys: &[Key], rank: u64) -> Option<usize>
+    ensures { (high : ℕ) → IsKeyed (λ k. k) (entry_of arena.now) keys.now → Rises 0 (ranks_of arena.now keys.now) high → result ≡ position (λ n. n == rank) (ranks_of arena.now keys.now) }
 {
-    if is_first(arena, keys, number) {
+    if is_first(arena, keys, rank) {
         return Some(0);
     }
-    let found = keys.binary_search_by_key(&Some(number), |key| number_of(arena, *key));
+    let found = keys.binary_search_by_key(&Some(rank), |key| rank_of(arena, *key));
     found.ok()
 }
 
-/// Numbers the requests anew from 0, in their order.
+/// Ranks the requests anew from 0, in their order.
 fn deal(arena: &mut Arena<(u64, Live)>, keys: &[Key])
     requires { IsKeyed (λ k. k) (entry_of arena.old) keys.now × (length keys.now ≤ MAX_LIVE) }
     ensures dealt { HasDealt arena.old arena.new keys.now }
-    ensures numbers { Rises 0 (numbers_of arena.new keys.now) (length keys.now) }
+    ensures ranks { Rises 0 (ranks_of arena.new keys.now) (length keys.now) }
 {
     for (place, key) in keys.iter().enumerate() {
-        renumber(arena, *key, place as u64);
+        set_rank(arena, *key, place as u64);
     }
 }
 
-/// The number for one that comes behind the others. They are numbered anew before it would be the greatest there is.
-fn next_number(arena: &mut Arena<(u64, Live)>, keys: &[Key], next: u64) -> u64
+/// The rank of one that comes behind the others. They are ranked anew before it would be the greatest there is.
+fn next_rank(arena: &mut Arena<(u64, Live)>, keys: &[Key], next: u64) -> u64
     requires kept { IsKeyed (λ k. k) (entry_of arena.old) keys.now × (length keys.now ≤ MAX_LIVE) }
-    requires rises { Rises 0 (numbers_of arena.old keys.now) next }
+    requires rises { Rises 0 (ranks_of arena.old keys.now) next }
     ensures bound { result + 1 < 2 ^ 64 }
     ensures dealt { HasDealt arena.old arena.new keys.now }
-    ensures rises { Rises 0 (numbers_of arena.new keys.now) result }
+    ensures rises { Rises 0 (ranks_of arena.new keys.now) result }
 {
     if next < u64::MAX {
         return next;
@@ -125,12 +125,12 @@ impl Table {
         self.keys.len()
     }
 
-    /// Whether a request has this number.
-    pub fn has_number(&self, seqnum: u32) -> bool
+    /// Whether a request has this seqnum.
+    pub fn has_seqnum(&self, seqnum: u32) -> bool
         ensures { result ≡ list_any (has_number seqnum) self.now }
     {
         self.index
-            .first(&self.arena, By::Number, u64::from(seqnum))
+            .first(&self.arena, By::Seqnum, u64::from(seqnum))
             .is_some()
     }
 
@@ -156,7 +156,7 @@ impl Table {
     {
         let key = self.index.first(&self.arena, by, number)?;
         let entry = self.arena.get(key).unwrap();
-        place_numbered(&self.arena, &self.keys, entry.0)
+        place_ranked(&self.arena, &self.keys, entry.0)
     }
 
     /// The first request that flies with this id.
@@ -166,11 +166,11 @@ impl Table {
         self.found(By::Id, id)
     }
 
-    /// Where the first request with this number stands.
-    pub fn place_of_number(&self, seqnum: u32) -> Option<usize>
+    /// Where the first request with this seqnum stands.
+    pub fn place_of_seqnum(&self, seqnum: u32) -> Option<usize>
         ensures { result ≡ position (has_number seqnum) self.now }
     {
-        self.place_found(By::Number, u64::from(seqnum))
+        self.place_found(By::Seqnum, u64::from(seqnum))
     }
 
     /// Where the first request that flies with this id stands.
@@ -186,8 +186,8 @@ impl Table {
     {
         // This endpoint's stream ends so, and no other.
         let end = StreamEnd::Told(ep.byte());
-        let number = earliest_in_lane(&self.arena, ep.index(), &end)?;
-        place_numbered(&self.arena, &self.keys, number)
+        let rank = earliest_in_lane(&self.arena, ep.index(), &end)?;
+        place_ranked(&self.arena, &self.keys, rank)
     }
 
     /// The nth, from the earliest on, of the requests that wait for packets of this endpoint's stream.
@@ -204,16 +204,16 @@ impl Table {
         ensures { result ≡ position (touched_by route.now) self.now }
     {
         let end = StreamEnd::Change(*route);
-        let number = earliest_of_all(&self.arena, &end)?;
-        place_numbered(&self.arena, &self.keys, number)
+        let rank = earliest_of_all(&self.arena, &end)?;
+        place_ranked(&self.arena, &self.keys, rank)
     }
 
     /// Where the earliest of all stands.
     pub fn place_first(&self) -> Option<usize>
         ensures { result ≡ position (λ live. true) self.now }
     {
-        let number = first_of_all(&self.arena)?;
-        place_numbered(&self.arena, &self.keys, number)
+        let rank = first_of_all(&self.arena)?;
+        place_ranked(&self.arena, &self.keys, rank)
     }
 
     /// Whether a request changes the configuration or an interface.
@@ -248,9 +248,9 @@ impl Table {
         requires { length self.old < MAX_LIVE }
         ensures { self.new ≡ self.old ++ live ∷ [] }
     {
-        let number = next_number(&mut self.arena, &self.keys, self.next);
-        self.next = number + 1;
-        let pushed = self.arena.push_back(live.kind.lane(), (number, live));
+        let rank = next_rank(&mut self.arena, &self.keys, self.next);
+        self.next = rank + 1;
+        let pushed = self.arena.push_back(live.kind.lane(), (rank, live));
         let key = pushed.ok().unwrap();
         let entry = self.arena.get(key).unwrap();
         self.index.note(&self.arena, key, &entry.1);

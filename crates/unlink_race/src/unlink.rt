@@ -55,7 +55,7 @@ pub fn unlink(table: &mut Table, target: u32, by: u32) -> UnlinkTold
     ensures told { result ≡ told_of (find (has_number target) table.old) }
     ensures left { table.new ≡ left_by target by (find (has_number target) table.old) table.old }
 {
-    let place = match table.place_of_number(target) {
+    let place = match table.place_of_seqnum(target) {
         Some(place) => place,
         None => return UnlinkTold::NotLive,
     };

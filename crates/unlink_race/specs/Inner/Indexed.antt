@@ -5,17 +5,17 @@ use Rattle.std.specs.List.Sorted.{IsNonDecreasingBy}
 use Rattle.urb_arena.specs.Lanes.{find_in}
 use Rattle.unlink_race.specs.declared.live.Live.{Live}
 use Rattle.unlink_race.specs.declared.by_number.By.{By}
-use Rattle.unlink_race.specs.declared.by_number.By.TheVariants.{Number, Id}
+use Rattle.unlink_race.specs.declared.by_number.By.TheVariants.{Seqnum, Id}
 use Rattle.unlink_race.specs.declared.index.Index.{Index}
 use Rattle.unlink_race.specs.Searches.{goes_by_id, changes}
 
 abbrev pub number_by : By → Live → ℕ
-number_by Number live = live.seqnum
+number_by Seqnum live = live.seqnum
 number_by Id live = live.id
 
 -- which requests are to be found
 abbrev pub any_by : By → Live → Bool
-any_by Number live = true
+any_by Seqnum live = true
 any_by Id live = goes_by_id live
 
 abbrev pub found_by : By → ℕ → Live → Bool
@@ -66,9 +66,9 @@ pub record IsOrderOf (by : By) (requests : List (ℕ × Live)) (keys : List ℕ)
   pub rises : IsNonDecreasingBy (λ p. p.0) pairs
   pub ordering : IsOrdering pairs (column (any_by by) (number_by by) requests)
 
--- by the submits' numbers, and by the ids of wire and route requests
+-- by the submits' seqnums, and by the ids of wire and route requests
 pub record IsIndexed (keys : List ℕ) (lives : List Live) (index : Index) : Type 0 where
   pub long : length keys ≡ length lives
-  pub numbers : IsOrderOf Number (zip keys lives) index.numbers
+  pub seqnums : IsOrderOf Seqnum (zip keys lives) index.seqnums
   pub held : IsOrderOf Id (zip keys lives) index.held
   pub changes : index.changes ≡ count_by changes lives

@@ -10,26 +10,26 @@ use Rattle.unlink_race.specs.Requests.{Requests}
 use Rattle.unlink_race.specs.Inner.Listed.{IsKeyed, listed}
 use Rattle.unlink_race.specs.Inner.Placed.{keys_of, ArePlaced}
 
--- the request of a key, with its number, in whichever lane it stands
+-- the request of a key, with its rank, in whichever lane it stands
 abbrev pub entry_of : ArenaView (ℕ × Live) → ℕ → Option (ℕ × Live)
 entry_of arena k = find_in k arena.lanes
 
--- the requests with their numbers, in order of acceptance
+-- the requests with their ranks, in order of acceptance
 abbrev pub in_order : ArenaView (ℕ × Live) → List ℕ → List (ℕ × Live)
 in_order arena keys = listed (λ k. k) (entry_of arena) keys
 
 abbrev pub lives_of : ArenaView (ℕ × Live) → List ℕ → List Live
 lives_of arena keys = map (λ entry. entry.1) (in_order arena keys)
 
-abbrev pub numbers_of : ArenaView (ℕ × Live) → List ℕ → List ℕ
-numbers_of arena keys = map (λ entry. entry.0) (in_order arena keys)
+abbrev pub ranks_of : ArenaView (ℕ × Live) → List ℕ → List ℕ
+ranks_of arena keys = map (λ entry. entry.0) (in_order arena keys)
 
--- the numbers rise: none is below low, and each is below high
+-- the ranks rise: none is below low, and each is below high
 abbrev pub Rises : ℕ → List ℕ → ℕ → Type 0
 Rises low [] high = low ≤ high
 Rises low (n ∷ ns) high = (low ≤ n) × Rises (n + 1) ns high
 
--- the requests are the same in another arena, and may have other numbers there
+-- the requests are the same in another arena, and may have other ranks there
 pub record HasDealt (old new : ArenaView (ℕ × Live)) (keys : List ℕ) : Type 0 where
   pub kept : IsKeyed (λ k. k) (entry_of new) keys
   pub lives : lives_of new keys ≡ lives_of old keys

@@ -15,4 +15,4 @@ leads pss lane (p ∷ ps) k keys is first =
 
 pub returns : goal.returns
 returns c =
-    c.number_of.ensures ∙ leads c.args.arena.now.lanes c.args.lane (get_or c.args.arena.now.lanes c.args.lane []) c.in_ok-front.field-0 c.requires.keys refl c.in_ok-front.ensures
+    c.rank_of.ensures ∙ leads c.args.arena.now.lanes c.args.lane (get_or c.args.arena.now.lanes c.args.lane []) c.in_ok-front.field-0 c.requires.keys refl c.in_ok-front.ensures

@@ -8,7 +8,7 @@ use Rattle.unlink_race.proofs.index.Index.forget.Goals as goal
 pub take-requires : goal.take-requires
 take-requires c =
     let r = c.requires in
-    (zip r.0 r.1, r.2, r.5, r.6.numbers, refl, zip_at r.0 r.1 r.2 c.args.key c.args.live.now r.3 r.4)
+    (zip r.0 r.1, r.2, r.5, r.6.seqnums, refl, zip_at r.0 r.1 r.2 c.args.key c.args.live.now r.3 r.4)
 
 pub take_id-requires : goal.take_id-requires
 take_id-requires c =
@@ -26,4 +26,4 @@ returns c =
     let apart_rows = distinct_zipped keys lives apart in
     let counted = change_counted indexed place c.args.key c.args.live.now key live in
     let fewer : (c.args.self.now.changes - c.change_of.result) + cond (changes c.args.live.now) 1 0 ≡ c.args.self.now.changes = omega (arith, c.change_of.ensures, counted) in
-    index_removed indexed place c.args.key c.args.live.now key live _ (c.take.ensures (zip keys lives) place stand indexed.numbers refl at apart_rows) (c.take_id.ensures (zip keys lives) place stand indexed.held at apart_rows) fewer
+    index_removed indexed place c.args.key c.args.live.now key live _ (c.take.ensures (zip keys lives) place stand indexed.seqnums refl at apart_rows) (c.take_id.ensures (zip keys lives) place stand indexed.held at apart_rows) fewer

@@ -6,12 +6,12 @@ use Rattle.unlink_race.proofs.table.Table.place_first.Goals as goal
 pub first_of_all-requires-clause-keys : goal.first_of_all-requires-clause-keys
 first_of_all-requires-clause-keys c = keyed c.self.invariant.0
 
-pub returns-in_err-number : goal.returns-in_err-number
-returns-in_err-number c =
+pub returns-in_err-rank : goal.returns-in_err-rank
+returns-in_err-rank c =
     let earliest_is = least_passing c.self.invariant.0 (λ (live : Live). true) c.self.inside.next c.self.invariant.2 in
-    c.from_residual.ensures ∙ sym (unplaced c.self.invariant.0 c.self.view_is (λ (live : Live). true) (sym earliest_is ∙ sym c.first_of_all.ensures ∙ c.in_err-number.was))
+    c.from_residual.ensures ∙ sym (unplaced c.self.invariant.0 c.self.view_is (λ (live : Live). true) (sym earliest_is ∙ sym c.first_of_all.ensures ∙ c.in_err-rank.was))
 
 pub returns : goal.returns
 returns c =
     let earliest_is = least_passing c.self.invariant.0 (λ (live : Live). true) c.self.inside.next c.self.invariant.2 in
-    search_gives c.self.invariant.0 c.self.view_is (λ (live : Live). true) c.deref.result.now c.place_numbered.result c.in_ok-number.number c.self.inside.next c.deref.ensures (sym earliest_is ∙ sym c.first_of_all.ensures ∙ c.in_ok-number.was) c.self.invariant.2 c.place_numbered.ensures
+    search_gives c.self.invariant.0 c.self.view_is (λ (live : Live). true) c.deref.result.now c.place_ranked.result c.in_ok-rank.rank c.self.inside.next c.deref.ensures (sym earliest_is ∙ sym c.first_of_all.ensures ∙ c.in_ok-rank.was) c.self.invariant.2 c.place_ranked.ensures

@@ -1,7 +1,7 @@
 use Rattle.std.proofs.Common.{refl, ap, sym, ◌∙◌}
 use Rattle.std.specs.Option.{option_copied}
 use Rattle.unlink_race.specs.Inner.Indexed.{found_by}
-use Rattle.unlink_race.proofs.Searching.{led, led_nowhere, numbered, search_gives, unplaced}
+use Rattle.unlink_race.proofs.Searching.{led, led_nowhere, ranked, search_gives, unplaced}
 use Rattle.unlink_race.proofs.Tables.{standing}
 use Rattle.unlink_race.proofs.Told.{lent}
 use Rattle.unlink_race.proofs.table.Table.place_found.Goals as goal
@@ -15,5 +15,5 @@ unwrap-entry-requires c = let found = led c.self.invariant.0 c.self.view_is (fou
 
 pub returns : goal.returns
 returns c =
-    let earliest_is = numbered c.self.invariant.0 c.self.view_is (found_by c.args.by c.args.number) c.first.result (c.first.ensures _ _ c.self.invariant.1 (standing c.self.invariant.0 refl)) c.in_ok-key.key c.unwrap-entry.result.now c.in_ok-key.was (sym c.get.ensures ∙ ap option_copied c.unwrap-entry.ensures) in
-    search_gives c.self.invariant.0 c.self.view_is (found_by c.args.by c.args.number) c.deref.result.now c.place_numbered.result c.unwrap-entry.result.now.0 c.self.inside.next c.deref.ensures earliest_is c.self.invariant.2 c.place_numbered.ensures
+    let earliest_is = ranked c.self.invariant.0 c.self.view_is (found_by c.args.by c.args.number) c.first.result (c.first.ensures _ _ c.self.invariant.1 (standing c.self.invariant.0 refl)) c.in_ok-key.key c.unwrap-entry.result.now c.in_ok-key.was (sym c.get.ensures ∙ ap option_copied c.unwrap-entry.ensures) in
+    search_gives c.self.invariant.0 c.self.view_is (found_by c.args.by c.args.number) c.deref.result.now c.place_ranked.result c.unwrap-entry.result.now.0 c.self.inside.next c.deref.ensures earliest_is c.self.invariant.2 c.place_ranked.ensures

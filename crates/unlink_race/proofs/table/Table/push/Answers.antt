@@ -12,20 +12,20 @@ use Rattle.unlink_race.proofs.table.Table.push.Goals as goal
 
 pub push_back-pushed-requires : goal.push_back-pushed-requires
 push_back-pushed-requires c =
-    let dealt = sound_dealt (dealt_by c.deref.ensures c.next_number-number.ensures.dealt) c.self.invariant.0 in
+    let dealt = sound_dealt (dealt_by c.deref.ensures c.next_rank-rank.ensures.dealt) c.self.invariant.0 in
     omega (arith, c.lane.ensures.bound, dealt.lanes)
 
 pub unwrap-key-requires : goal.unwrap-key-requires
 unwrap-key-requires c =
     let free = c.requires in
     let all = long c.self.invariant.0 c.self.view_is in
-    let dealt = sound_dealt (dealt_by c.deref.ensures c.next_number-number.ensures.dealt) c.self.invariant.0 in
+    let dealt = sound_dealt (dealt_by c.deref.ensures c.next_rank-rank.ensures.dealt) c.self.invariant.0 in
     c.ok.ensures.variant ∙ no_error _ c.push_back-pushed.result c.push_back-pushed.ensures.err (λ v told. (let full = told.1 in omega (arith, free, all, full, dealt.all, dealt.capacity)))
 
 pub unwrap-entry-requires : goal.unwrap-entry-requires
 unwrap-entry-requires c =
     let told = told_ok _ c.push_back-pushed.result c.unwrap-key.result (sym c.ok.ensures.value ∙ c.unwrap-key.ensures) c.push_back-pushed.ensures.ok in
-    let dealt = dealt_by c.deref.ensures c.next_number-number.ensures.dealt in
+    let dealt = dealt_by c.deref.ensures c.next_rank-rank.ensures.dealt in
     lent c.get.result _ (c.get.ensures ∙ pushed_there (sound_dealt dealt c.self.invariant.0) (dealt.lives ∙ c.self.view_is) _ _ _ _ c.args.live c.lane.ensures.bound told.1 told.2)
 
 pub note-requires : goal.note-requires
@@ -37,8 +37,8 @@ push-requires c = let all = long c.self.invariant.0 c.self.view_is in omega (ari
 pub invariant_of-self : goal.invariant_of-self
 invariant_of-self c =
     let told = told_ok _ c.push_back-pushed.result c.unwrap-key.result (sym c.ok.ensures.value ∙ c.unwrap-key.ensures) c.push_back-pushed.ensures.ok in
-    let number = c.next_number-number.ensures in
-    let dealt = dealt_by c.deref.ensures number.dealt in
+    let rank = c.next_rank-rank.ensures in
+    let dealt = dealt_by c.deref.ensures rank.dealt in
     let sound = sound_dealt dealt c.self.invariant.0 in
     let view = dealt.lives ∙ c.self.view_is in
     let there = pushed_there sound view _ _ _ _ c.args.live c.lane.ensures.bound told.1 told.2 in
@@ -46,15 +46,15 @@ invariant_of-self c =
     let early = pushed sound view _ _ _ _ c.args.live c.lane.ensures.bound told.1 told.2 _ c.requires c.lane.ensures.value refl in
     let all_stand = standing early.0 early.1 in
     let stand = stand_front c.push_back-pushed.new.self.lanes (zip c.self.inside.keys c.args.self.now) (c.unwrap-key.result, c.args.live) (rw (← zip_pushed c.self.inside.keys c.args.self.now c.unwrap-key.result c.args.live (sym (long c.self.invariant.0 c.self.view_is))) all_stand) in
-    let same : Some c.unwrap-entry.result.now ≡ Some (c.next_number-number.result, c.args.live) = sym (ap option_copied c.unwrap-entry.ensures) ∙ c.get.ensures ∙ there in
-    let one : c.unwrap-entry.result.now ≡ (c.next_number-number.result, c.args.live) = cc in (
+    let same : Some c.unwrap-entry.result.now ≡ Some (c.next_rank-rank.result, c.args.live) = sym (ap option_copied c.unwrap-entry.ensures) ∙ c.get.ensures ∙ there in
+    let one : c.unwrap-entry.result.now ≡ (c.next_rank-rank.result, c.args.live) = cc in (
       whole.0,
       indexed_by c.push.ensures (ap (λ (e : ℕ × Live). c.args.self.now ++ e.1 ∷ []) one ∙ sym whole.1) (c.note.ensures c.self.inside.keys c.args.self.now (indexed c.self.view_is c.self.invariant.1) stand),
-      rising _ whole.2 (rises_pushed 0 _ _ (rises_by c.next_number-number.new.arena c.next_number-number.result c.deref.ensures number.rises)),
+      rising _ whole.2 (rises_pushed 0 _ _ (rises_by c.next_rank-rank.new.arena c.next_rank-rank.result c.deref.ensures rank.rises)),
     )
 
 pub returns : goal.returns
 returns c =
     let told = told_ok _ c.push_back-pushed.result c.unwrap-key.result (sym c.ok.ensures.value ∙ c.unwrap-key.ensures) c.push_back-pushed.ensures.ok in
-    let dealt = dealt_by c.deref.ensures c.next_number-number.ensures.dealt in
+    let dealt = dealt_by c.deref.ensures c.next_rank-rank.ensures.dealt in
     (pushed (sound_dealt dealt c.self.invariant.0) (dealt.lives ∙ c.self.view_is) _ _ _ _ c.args.live c.lane.ensures.bound told.1 told.2 _ c.requires c.lane.ensures.value c.push.ensures).1

@@ -1,4 +1,4 @@
-//! A request in its cell of the arena, with the number that says when it was accepted.
+//! A request in its cell of the arena, with the rank that says when it was accepted.
 
 ghost use Rattle.std.specs.Prelude.{◌≡◌, ℕ, Some, map};
 ghost use Rattle.urb_arena.specs.ArenaView.{arena_view};
@@ -18,11 +18,11 @@ pub fn mark(arena: &mut Arena<(u64, Live)>, key: Key, by: u32)
     entry.1.unlinker = Some(by);
 }
 
-/// Gives the request of a key another number.
-pub fn renumber(arena: &mut Arena<(u64, Live)>, key: Key, number: u64)
+/// Gives the request of a key another rank.
+pub fn set_rank(arena: &mut Arena<(u64, Live)>, key: Key, rank: u64)
     requires { (entry : ℕ × Live) × (find_in key arena.old.lanes ≡ Some entry) }
-    ensures { (entry : ℕ × Live) → find_in key arena.old.lanes ≡ Some entry → arena.new ≡ arena_view (map (replaced key (number, entry.1)) arena.old.lanes) arena.old.capacity }
+    ensures { (entry : ℕ × Live) → find_in key arena.old.lanes ≡ Some entry → arena.new ≡ arena_view (map (replaced key (rank, entry.1)) arena.old.lanes) arena.old.capacity }
 {
     let entry = arena.get_mut(key).unwrap();
-    entry.0 = number;
+    entry.0 = rank;
 }

@@ -3,7 +3,7 @@ use Rattle.std.specs.List.{list_any}
 use Rattle.unlink_race.specs.Searches.{has_number}
 use Rattle.unlink_race.proofs.Indexes.{zip_any}
 use Rattle.unlink_race.proofs.Tables.{indexed, standing}
-use Rattle.unlink_race.proofs.table.Table.has_number.Goals as goal
+use Rattle.unlink_race.proofs.table.Table.has_seqnum.Goals as goal
 
 pub returns : goal.returns
 returns c =
