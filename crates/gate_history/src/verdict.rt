@@ -43,7 +43,7 @@ pub struct Situation {
 }
 
 /// The longest transfer where a packet has 16 bits for its length.
-pub const MAX_NARROW: u32 = 65_535;
+pub const MAX_NARROW: u32 = u16::MAX as u32;
 
 /// A law: the number that definitions name is this.
 pub fn narrow_limit()

@@ -9,20 +9,21 @@ use Rattle.redir_data.specs.declared.packet.RedirPacket.{RedirPacket}
 use Rattle.redir_data.specs.declared.packet.RedirPacket.TheVariants.{Carrying}
 use Rattle.usb_base.specs.Number.{part}
 use Rattle.usbip_urb.specs.declared.packet.IsoDesc.{IsoDesc}
+use Rattle.usbip_urb.specs.declared.code.TheConstants.{MAX_PACKET_LENGTH}
 use Rattle.usbip_urb.specs.Buffers.{laid_from, laid, stretch, total}
 use Rattle.gate_history.specs.write.Answers.{sent_whole}
 use Rattle.gate_history.proofs.lemmas.Lists.{Each}
 
 record Parts (place : ℕ) (d : IsoDesc) (ds : List IsoDesc) (n : ℕ) : Type 0 where
-  few : d.length ≤ 65535
+  few : d.length ≤ MAX_PACKET_LENGTH
   behind : place ≤ d.offset
   rest : laid_from (d.offset + d.length) ds n ≡ true
 
 parts : (place : ℕ) (d : IsoDesc) (ds : List IsoDesc) (n : ℕ) → laid_from place (d ∷ ds) n ≡ true → Parts place d ds n
-parts place d ds n h = of (nat_le d.length 65535) (nat_le place d.offset) refl refl h
+parts place d ds n h = of (nat_le d.length MAX_PACKET_LENGTH) (nat_le place d.offset) refl refl h
   where
-    of : (a b : Bool) → nat_le d.length 65535 ≡ a → nat_le place d.offset ≡ b → (a && b && laid_from (d.offset + d.length) ds n) ≡ true → Parts place d ds n
-    of true true e f h = record { few = leb-true d.length 65535 e; behind = leb-true place d.offset f; rest = h }
+    of : (a b : Bool) → nat_le d.length MAX_PACKET_LENGTH ≡ a → nat_le place d.offset ≡ b → (a && b && laid_from (d.offset + d.length) ds n) ≡ true → Parts place d ds n
+    of true true e f h = record { few = leb-true d.length MAX_PACKET_LENGTH e; behind = leb-true place d.offset f; rest = h }
     of true false e f h = absurd (false≢true h)
     of false b e f h = absurd (false≢true h)
 
@@ -43,7 +44,7 @@ pub no_desc : IsoDesc
 no_desc = record { offset = 0; length = 0; actual = 0; status = pos 0 }
 
 pub record IsWithin (d : IsoDesc) (n : ℕ) : Type 0 where
-  pub few : d.length ≤ 65535
+  pub few : d.length ≤ MAX_PACKET_LENGTH
   pub within : d.offset + d.length ≤ n
 
 within-from : (place : ℕ) (ds : List IsoDesc) (n k : ℕ) → laid_from place ds n ≡ true → k < length ds → IsWithin (get_or ds k no_desc) n
@@ -72,7 +73,7 @@ length-stretch ds body k h here =
     let w = within-from 0 ds (length body) k h here in
     ap (λ (b : List ℕ). length b) (stretch-is ds body k here) ∙ length-part (get_or ds k no_desc).offset (get_or ds k no_desc).length body w.within
 
-pub few-stretch : (ds : List IsoDesc) (body : List ℕ) (k : ℕ) → laid ds (length body) ≡ true → k < length ds → length (stretch ds body k) ≤ 65535
+pub few-stretch : (ds : List IsoDesc) (body : List ℕ) (k : ℕ) → laid ds (length body) ≡ true → k < length ds → length (stretch ds body k) ≤ MAX_PACKET_LENGTH
 few-stretch ds body k h here = let w = within-from 0 ds (length body) k h here in omega (arith, length-stretch ds body k h here, w.few)
 
 -- the packet of a stretch
