@@ -10,7 +10,7 @@ use std::alloc::Global;
 use usb_base::{EpAddr, EpTable, Memory, Outcome, StreamPacket, Transfer};
 
 /// The most bytes of a packet that a device sends by itself: the length field of its packet has 16 bits.
-pub const MAX_STREAM_PACKET: usize = 65_535;
+pub const MAX_STREAM_PACKET: usize = u16::MAX as usize;
 
 /// A law: the number that definitions name is this.
 pub fn stream_packet_limit()

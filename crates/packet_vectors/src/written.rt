@@ -152,7 +152,9 @@ fn push_parts(answer: &RetSubmit, out: &mut Output) {
 
 /// Appends an isochronous packet to the device with these data, as it is written behind what stands in front.
 pub fn push_iso_out(endpoint: u8, id: u64, caps: Caps, body: &[u8], out: &mut Output) {
-    if body.len() > 65_535 || !caps.contains(Caps::WIDE_IDS) && id > u64::from(u32::MAX) {
+    if body.len() > usize::from(u16::MAX)
+        || !caps.contains(Caps::WIDE_IDS) && id > u64::from(u32::MAX)
+    {
         return out.refuse();
     }
     let mut written = started(out);
