@@ -13,10 +13,10 @@ pub fn array_at<const N: usize>(bytes: &[u8], place: usize) -> [u8; N]
     requires { place + N ≤ length bytes.now }
     ensures { result ≡ part place N bytes.now }
 {
-    match bytes[place..].first_chunk::<N>() {
-        Some(field) => *field,
-        None => [0; N],
-    }
+    let Some(field) = bytes[place..].first_chunk::<N>() else {
+        unreachable!();
+    };
+    *field
 }
 
 /// The big-endian u16 at a place.
