@@ -1,4 +1,4 @@
-use Rattle.std.proofs.Common.{◌≡◌, ◌*◌, ◌++◌, length}
+use Rattle.std.proofs.Common.{◌≡◌, ℕ, List, ◌*◌, ◌++◌, length}
 use Rattle.std.specs.Slice.Iter.{chunks_rest, chunks_size}
 use Rattle.hex.specs.Hex.{encode_lower}
 use Rattle.usb_base.specs.declared.digits.TheConstants.{AT_ONCE}
@@ -10,4 +10,4 @@ invariant-loop-front l =
     × goal.iterator-loop-front.is_finite l.front-iterator
     × (chunks_size l.front-iterator ≡ AT_ONCE)
     × (length l.digits ≡ 2 * AT_ONCE)
-    × (l.text ++ encode_lower (chunks_rest l.front-iterator) ≡ l.fn.text ++ encode_lower l.fn.bytes)
+    × ((done : List ℕ) × ((l.text ≡ l.fn.text ++ encode_lower done) × (done ++ chunks_rest l.front-iterator ≡ l.fn.bytes)))
