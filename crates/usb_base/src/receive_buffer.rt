@@ -2,7 +2,7 @@
 
 ghost use Rattle.std.specs.Prelude.{◌≡◌, ◌++◌, ◌<◌, [], length, IsTrue, ◌↔◌, OnOk, OnErr};
 
-use crate::list::{Bytes, LONG, List, ROOM};
+use crate::list::{Bytes, LONG, ROOM};
 use crate::memory::Memory;
 use crate::packet_bytes::PacketBytes;
 use std::alloc::Global;
@@ -157,28 +157,5 @@ impl PacketBytes for ReceiveBuffer {
         part.advance(from);
         part.cut(len);
         Ok(part)
-    }
-}
-
-/// The list of a stream's bytes, which begins anywhere behind the room that it has in front.
-impl List<u8> {
-    /// Moves the bytes up to the room that a long list has before them, where that is worth it for so many more.
-    fn settle(&mut self, more: usize) -> Result<(), Memory>
-        ensures { self.new ≡ self.old }
-    {
-        if self.items.is_empty() {
-            self.items.extend_from_slice(&[0; ROOM])?;
-            self.front = ROOM;
-        } else if self.front > ROOM && self.is_movable(more) {
-            let dropped = self.front - ROOM;
-            self.front = ROOM;
-            self.skip(dropped);
-        }
-        Ok(())
-    }
-
-    /// Whether the bytes are no more than those that were dropped before them, or have no room for so many behind them.
-    fn is_movable(&self, more: usize) -> bool {
-        self.len() <= self.front || self.capacity().saturating_sub(self.items.len()) < more
     }
 }

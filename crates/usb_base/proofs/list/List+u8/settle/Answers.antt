@@ -1,6 +1,6 @@
 use Rattle.std.proofs.Common.{◌≡◌, ℕ, ◌+◌, ◌-◌, ap, ◌∙◌, drop, length-drop, arith}
 use Rattle.std.proofs.lemmas.List.{drop-drop}
-use Rattle.usb_base.proofs.receive_buffer.List+u8.settle.Goals as goal
+use Rattle.usb_base.proofs.list.List+u8.settle.Goals as goal
 
 pub skip-requires : goal.skip-requires
 skip-requires c = omega (arith, c.self.invariant, length-drop 64 c.self.inside.items.items)
