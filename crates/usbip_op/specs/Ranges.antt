@@ -1,6 +1,6 @@
 -- Which fields packets may have.
 use Rattle.std.specs.Prelude.{◌≡◌, ◌≢◌, ◌↔◌, ℕ, ◌≤◌, ◌<◌, ◌^◌, List, [], length, IsSome, IfSome, All}
-use Rattle.usbip_op.specs.declared.code.TheConstants.{MAX_DEVICES}
+use Rattle.usbip_op.specs.declared.code.TheConstants.{BUS_ID_SIZE, MAX_DEVICES}
 use Rattle.usbip_op.specs.declared.packet.DeviceRow.{DeviceRow}
 use Rattle.usbip_op.specs.declared.packet.Listed.{Listed}
 use Rattle.usbip_op.specs.declared.packet.OpPacket.{OpPacket}
@@ -12,7 +12,7 @@ use Rattle.usbip_op.specs.declared.packet.OpWay.TheVariants.{Request, Reply}
 
 pub record IsDevice (d : DeviceRow) : Type 0 where
   pub path_length : length d.path ≡ 256
-  pub busid_length : length d.busid ≡ 32
+  pub busid_length : length d.busid ≡ BUS_ID_SIZE
   pub busnum_fits : d.busnum < 2 ^ 32
   pub devnum_fits : d.devnum < 2 ^ 32
   pub speed_fits : d.speed < 2 ^ 32
@@ -22,7 +22,7 @@ pub record IsDevice (d : DeviceRow) : Type 0 where
 
 abbrev pub IsInRange : OpPacket → Type 0
 IsInRange (ReqDevlist status) = status < 2 ^ 32
-IsInRange (ReqImport status busid) = (status < 2 ^ 32) × (length busid ≡ 32)
+IsInRange (ReqImport status busid) = (status < 2 ^ 32) × (length busid ≡ BUS_ID_SIZE)
 IsInRange (RepDevlist status devices) = (status < 2 ^ 32) × All (λ l. IsDevice l.device) devices
 IsInRange (RepImport status device) = (status < 2 ^ 32) × IfSome device IsDevice
 

@@ -5,7 +5,7 @@ use Rattle.usb_base.specs.Number.{be_at}
 use Rattle.packet_stream.specs.Format.{Check, Format}
 use Rattle.usb_base.specs.declared.reason.Reason.{Reason}
 use Rattle.usb_base.specs.declared.reason.Reason.TheVariants.{Count}
-use Rattle.usbip_op.specs.declared.code.TheConstants.{OP_REP_DEVLIST, OP_REP_IMPORT, MAX_DEVICES}
+use Rattle.usbip_op.specs.declared.code.TheConstants.{DEVICE_SIZE, HEADER_SIZE, LIST_HEADER_SIZE, MAX_DEVICES, OP_REP_DEVLIST, OP_REP_IMPORT}
 use Rattle.usbip_op.specs.declared.packet.OpPacket.{OpPacket}
 use Rattle.usbip_op.specs.declared.packet.OpPacket.TheVariants.{RepDevlist, RepImport}
 use Rattle.usbip_op.specs.Rows.{rows_size, rows_at}
@@ -17,7 +17,7 @@ use Rattle.usbip_op.specs.Requests.{version_check, code_check}
 
 -- a list reply with status 0 tells a count, once its head is there
 abbrev pub has_count : List ℕ → Bool
-has_count b = nat_le 8 (length b) && ((be_at w16 2 b == OP_REP_DEVLIST) && (be_at w32 4 b == 0))
+has_count b = nat_le HEADER_SIZE (length b) && ((be_at w16 2 b == OP_REP_DEVLIST) && (be_at w32 4 b == 0))
 
 -- which is at most 1,024
 abbrev pub count_check : Check Reason
@@ -29,19 +29,19 @@ reply_checks = version_check ∷ code_check OP_REP_DEVLIST OP_REP_IMPORT ∷ cou
 -- with a status other than 0 a reply ends after its head
 abbrev pub reply_size_by : ℕ → ℕ → List ℕ → ℕ
 reply_size_by code status b =
-    if not (status == 0) then 8
-    else if code == OP_REP_DEVLIST then 12 + rows_size listed_form (be_at w32 8 b) (drop 12 b)
-    else 320
+    if not (status == 0) then HEADER_SIZE
+    else if code == OP_REP_DEVLIST then LIST_HEADER_SIZE + rows_size listed_form (be_at w32 8 b) (drop LIST_HEADER_SIZE b)
+    else HEADER_SIZE + DEVICE_SIZE
 
 -- before its head is there the least that a reply may have
 abbrev pub reply_size : List ℕ → ℕ
-reply_size b = if nat_lt (length b) 8 then 8 else reply_size_by (be_at w16 2 b) (be_at w32 4 b) b
+reply_size b = if nat_lt (length b) HEADER_SIZE then HEADER_SIZE else reply_size_by (be_at w16 2 b) (be_at w32 4 b) b
 
 abbrev pub list_reply_by : ℕ → List ℕ → OpPacket
-list_reply_by status b = RepDevlist status (if status == 0 then rows_at listed_form (be_at w32 8 b) (drop 12 b) else [])
+list_reply_by status b = RepDevlist status (if status == 0 then rows_at listed_form (be_at w32 8 b) (drop LIST_HEADER_SIZE b) else [])
 
 abbrev pub import_reply_by : ℕ → List ℕ → OpPacket
-import_reply_by status b = RepImport status (if status == 0 then Some (device_at (drop 8 b)) else None)
+import_reply_by status b = RepImport status (if status == 0 then Some (device_at (drop HEADER_SIZE b)) else None)
 
 abbrev pub reply_by : ℕ → ℕ → List ℕ → OpPacket
 reply_by code status b = if code == OP_REP_DEVLIST then list_reply_by status b else import_reply_by status b

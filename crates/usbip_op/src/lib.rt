@@ -13,8 +13,8 @@ mod request;
 mod write;
 
 pub use code::{
-    MAX_DEVICES, OP_REP_DEVLIST, OP_REP_IMPORT, OP_REQ_DEVLIST, OP_REQ_IMPORT, USBIP_VERSION,
-    protocol_numbers,
+    BUS_ID_SIZE, DEVICE_SIZE, HEADER_SIZE, INTERFACE_SIZE, LIST_HEADER_SIZE, MAX_DEVICES,
+    OP_REP_DEVLIST, OP_REP_IMPORT, OP_REQ_DEVLIST, OP_REQ_IMPORT, USBIP_VERSION, protocol_numbers,
 };
 pub use exported::{BUS_ID, BUS_NUMBER, DEVICE_NUMBER};
 pub use next::next_op;

@@ -1,5 +1,6 @@
 //! The list and import packets of USB/IP, as plain data.
 
+use crate::code::BUS_ID_SIZE;
 use packet_stream::{Read, ReadError};
 use usb_base::List;
 
@@ -9,7 +10,7 @@ use usb_base::List;
 #[derive(Clone, Copy)]
 pub struct DeviceRow {
     pub path: [u8; 256],
-    pub busid: [u8; 32],
+    pub busid: [u8; BUS_ID_SIZE],
     pub busnum: u32,
     pub devnum: u32,
     pub speed: u32,
@@ -56,7 +57,7 @@ pub enum OpPacket {
     /// Asks for a device (OP_REQ_IMPORT, 40 bytes). Any status is kept.
     ReqImport {
         status: u32,
-        busid: [u8; 32],
+        busid: [u8; BUS_ID_SIZE],
     },
     /// The list (OP_REP_DEVLIST), of at most 1,024 devices; with a status other than 0, 8 bytes.
     RepDevlist {

@@ -8,7 +8,7 @@ ghost use Rattle.usbip_op.specs.Packets.{packets_of, takes_memory};
 ghost use Rattle.usbip_op.specs.declared.packet.OpWay.{OpWay as Way};
 
 use crate::check::wrong_head;
-use crate::code::{OP_REQ_DEVLIST, OP_REQ_IMPORT};
+use crate::code::{BUS_ID_SIZE, HEADER_SIZE, OP_REQ_DEVLIST, OP_REQ_IMPORT};
 use crate::packet::{OpError, OpRead, OpWay};
 use crate::reply::read_reply;
 use crate::request::OpRequest;
@@ -57,16 +57,17 @@ pub fn read_request(bytes: &[u8]) -> Result<Read<OpRequest>, OpError>
         return Ok(Read::Short);
     }
     if be_u16_at(bytes, 2) == OP_REQ_DEVLIST {
-        if bytes.len() < 8 {
+        if bytes.len() < HEADER_SIZE {
             return Ok(Read::Short);
         }
         let status = be_u32_at(bytes, 4);
-        return Ok(Read::Whole(OpRequest::devlist(status), 8));
+        return Ok(Read::Whole(OpRequest::devlist(status), HEADER_SIZE));
     }
-    if bytes.len() < 40 {
+    let size = HEADER_SIZE + BUS_ID_SIZE;
+    if bytes.len() < size {
         return Ok(Read::Short);
     }
     let status = be_u32_at(bytes, 4);
     let busid = array_at(bytes, 8);
-    Ok(Read::Whole(OpRequest::import(status, busid), 40))
+    Ok(Read::Whole(OpRequest::import(status, busid), size))
 }

@@ -1,29 +1,26 @@
 //! Replies read.
 
-ghost use Rattle.std.specs.Prelude.{◌≡◌, ◌+◌, ◌*◌, ◌≤◌, ◌<◌, length, map, OnErr, IfOk, Some};
-ghost use Rattle.usb_base.specs.Number.{byte_at, be_at};
+ghost use Rattle.std.specs.Prelude.{◌≡◌, ◌≤◌, ◌<◌, length, map, OnErr, IfOk, Some};
+ghost use Rattle.usb_base.specs.Number.{be_at};
 ghost use Rattle.packet_stream.specs.Format.{reading};
 ghost use Rattle.std.specs.Int.{w16};
 ghost use Rattle.usbip_op.specs.Rows.{rows_at, rows_size, IsRowsSize};
-ghost use Rattle.usbip_op.specs.Devices.{device_at, interface_at, listed_at, listed_form};
+ghost use Rattle.usbip_op.specs.Devices.{device_at, interface_at, listed_at, listed_form, listed_size};
 ghost use Rattle.usbip_op.specs.Replies.{replies};
 ghost use Rattle.packet_stream.specs.Reads.{told, Answers};
 ghost use Rattle.usbip_op.specs.Packets.{takes_memory};
 ghost use Rattle.usbip_op.specs.declared.code.TheConstants.{USBIP_VERSION as version, OP_REP_DEVLIST as list_code, OP_REP_IMPORT as import_code};
 
 use crate::check::wrong_head;
-use crate::code::{MAX_DEVICES, OP_REP_DEVLIST, OP_REP_IMPORT};
+use crate::code::{
+    DEVICE_SIZE, HEADER_SIZE, INTERFACE_SIZE, LIST_HEADER_SIZE, MAX_DEVICES, OP_REP_DEVLIST,
+    OP_REP_IMPORT,
+};
 use crate::packet::{
     DeviceRow, IfaceRow, IfaceRows, Listed, ListedRows, OpError, OpPacket, OpRead,
 };
 use std::alloc::Global;
 use usb_base::{List, Memory, Reason, array_at, be_u16_at, be_u32_at};
-
-/// How many bytes a device has, without its interfaces.
-pub(crate) const DEVICE_SIZE: usize = 312;
-
-/// How many bytes an interface has.
-pub(crate) const INTERFACE_SIZE: usize = 4;
 
 /// Reads the reply at the front of the bytes.
 pub(crate) fn read_reply(alloc: Global, bytes: &[u8]) -> Result<OpRead, OpError>
@@ -32,7 +29,7 @@ pub(crate) fn read_reply(alloc: Global, bytes: &[u8]) -> Result<OpRead, OpError>
     if let Some((place, reason)) = wrong_head(bytes, OP_REP_DEVLIST, OP_REP_IMPORT) {
         return Err(OpError::Refused { place, reason });
     }
-    if bytes.len() < 8 {
+    if bytes.len() < HEADER_SIZE {
         return Ok(OpRead::Short);
     }
     if be_u16_at(bytes, 2) == OP_REP_IMPORT {
@@ -44,34 +41,37 @@ pub(crate) fn read_reply(alloc: Global, bytes: &[u8]) -> Result<OpRead, OpError>
 fn import_reply(bytes: &[u8]) -> OpRead
     requires version { be_at w16 0 bytes.now ≡ version }
     requires code { be_at w16 2 bytes.now ≡ import_code }
-    requires head { 8 ≤ length bytes.now }
+    requires head { HEADER_SIZE ≤ length bytes.now }
     ensures { told (Ok result) ≡ Some (reading replies bytes.now) }
 {
     let status = be_u32_at(bytes, 4);
     if status == 0 {
-        if bytes.len() < 8 + DEVICE_SIZE {
+        if bytes.len() < HEADER_SIZE + DEVICE_SIZE {
             return OpRead::Short;
         }
-        let (_, row) = bytes.split_at(8);
+        let (_, row) = bytes.split_at(HEADER_SIZE);
         let device = Some(device_at(row));
-        return OpRead::Whole(OpPacket::RepImport { status, device }, 8 + DEVICE_SIZE);
+        return OpRead::Whole(
+            OpPacket::RepImport { status, device },
+            HEADER_SIZE + DEVICE_SIZE,
+        );
     }
     let device = None;
-    OpRead::Whole(OpPacket::RepImport { status, device }, 8)
+    OpRead::Whole(OpPacket::RepImport { status, device }, HEADER_SIZE)
 }
 
 fn list_reply(alloc: Global, bytes: &[u8]) -> Result<OpRead, OpError>
     requires version { be_at w16 0 bytes.now ≡ version }
     requires code { be_at w16 2 bytes.now ≡ list_code }
-    requires head { 8 ≤ length bytes.now }
+    requires head { HEADER_SIZE ≤ length bytes.now }
     ensures { Answers takes_memory result (reading replies bytes.now) }
 {
     let status = be_u32_at(bytes, 4);
     if status != 0 {
         let devices = List::new(alloc);
-        return Ok(OpRead::Whole(OpPacket::RepDevlist { status, devices }, 8));
+        return Ok(OpRead::Whole(OpPacket::RepDevlist { status, devices }, HEADER_SIZE));
     }
-    if bytes.len() < 12 {
+    if bytes.len() < LIST_HEADER_SIZE {
         return Ok(OpRead::Short);
     }
     let count = be_u32_at(bytes, 8);
@@ -81,12 +81,15 @@ fn list_reply(alloc: Global, bytes: &[u8]) -> Result<OpRead, OpError>
             reason: Reason::Count,
         });
     }
-    let (_, rows) = bytes.split_at(12);
+    let (_, rows) = bytes.split_at(LIST_HEADER_SIZE);
     let Some(size) = rows_size(count, rows) else {
         return Ok(OpRead::Short);
     };
     let devices = listed_rows(alloc, count, rows)?;
-    Ok(OpRead::Whole(OpPacket::RepDevlist { status, devices }, 12 + size))
+    Ok(OpRead::Whole(
+        OpPacket::RepDevlist { status, devices },
+        LIST_HEADER_SIZE + size,
+    ))
 }
 
 /// How many bytes so many devices have with their interfaces, or none where they are not all there.
@@ -99,7 +102,7 @@ fn rows_size(count: u32, bytes: &[u8]) -> Option<usize>
         if row.len() < DEVICE_SIZE {
             return None;
         }
-        let row_size = DEVICE_SIZE + row[311] as usize * INTERFACE_SIZE;
+        let row_size = DEVICE_SIZE + row[DEVICE_SIZE - 1] as usize * INTERFACE_SIZE;
         if row.len() < row_size {
             return None;
         }
@@ -126,7 +129,7 @@ fn listed_rows(alloc: Global, count: u32, bytes: &[u8]) -> Result<ListedRows, Me
 }
 
 fn listed_row(alloc: Global, bytes: &[u8]) -> Result<Listed, Memory>
-    requires { 312 + byte_at 311 bytes.now * 4 ≤ length bytes.now }
+    requires { listed_size bytes.now ≤ length bytes.now }
     ensures { IfOk result (λ row. row ≡ listed_at bytes.now) }
 {
     let (_, behind) = bytes.split_at(DEVICE_SIZE);
@@ -152,7 +155,7 @@ fn interface_rows(alloc: Global, chunks: &[[u8; INTERFACE_SIZE]]) -> Result<Ifac
 }
 
 fn device_at(bytes: &[u8]) -> DeviceRow
-    requires { 312 ≤ length bytes.now }
+    requires { DEVICE_SIZE ≤ length bytes.now }
     ensures { result ≡ device_at bytes.now }
 {
     DeviceRow {
@@ -169,6 +172,6 @@ fn device_at(bytes: &[u8]) -> DeviceRow
         protocol: bytes[308],
         configuration: bytes[309],
         configurations: bytes[310],
-        interfaces: bytes[311],
+        interfaces: bytes[DEVICE_SIZE - 1],
     }
 }

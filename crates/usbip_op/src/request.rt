@@ -3,6 +3,7 @@
 ghost use Rattle.std.specs.Prelude.{◌≡◌};
 ghost use Rattle.usbip_op.specs.declared.packet.OpPacket.TheVariants.{ReqDevlist, ReqImport};
 
+use crate::code::BUS_ID_SIZE;
 use crate::packet::OpPacket;
 use std::marker::Model;
 
@@ -12,7 +13,7 @@ use std::marker::Model;
 pub struct OpRequest {
     status: u32,
     /// The device that an import asks for.
-    busid: Option<[u8; 32]>,
+    busid: Option<[u8; BUS_ID_SIZE]>,
 }
 
 impl Model for OpRequest {
@@ -36,7 +37,7 @@ impl OpRequest {
     }
 
     /// Asks for this device.
-    pub(crate) fn import(status: u32, busid: [u8; 32]) -> OpRequest
+    pub(crate) fn import(status: u32, busid: [u8; BUS_ID_SIZE]) -> OpRequest
         ensures { result ≡ ReqImport status busid }
     {
         OpRequest {

@@ -20,11 +20,11 @@ returns-then-bytes-lt4-clause-exact c = search rules
 pub returns-then-bytes-lt4-clause-stands : goal.returns-then-bytes-lt4-clause-stands
 returns-then-bytes-lt4-clause-stands c = stands-so c.args.bytes.now (λ i. omega (arith, c.type_inv.bytes i)) (returns-then-bytes-lt4-clause-exact c)
 
-pub returns-then-bytes-lt8-clause-exact : goal.returns-then-bytes-lt8-clause-exact
-returns-then-bytes-lt8-clause-exact c = search rules
+pub returns-then-bytes-lt-HEADER_SIZE-clause-exact : goal.returns-then-bytes-lt-HEADER_SIZE-clause-exact
+returns-then-bytes-lt-HEADER_SIZE-clause-exact c = search rules
 
-pub returns-then-bytes-lt8-clause-stands : goal.returns-then-bytes-lt8-clause-stands
-returns-then-bytes-lt8-clause-stands c = stands-so c.args.bytes.now (λ i. omega (arith, c.type_inv.bytes i)) (returns-then-bytes-lt8-clause-exact c)
+pub returns-then-bytes-lt-HEADER_SIZE-clause-stands : goal.returns-then-bytes-lt-HEADER_SIZE-clause-stands
+returns-then-bytes-lt-HEADER_SIZE-clause-stands c = stands-so c.args.bytes.now (λ i. omega (arith, c.type_inv.bytes i)) (returns-then-bytes-lt-HEADER_SIZE-clause-exact c)
 
 pub returns-then-be_u16_at-eq-OP_REQ_DEVLIST-clause-exact : goal.returns-then-be_u16_at-eq-OP_REQ_DEVLIST-clause-exact
 returns-then-be_u16_at-eq-OP_REQ_DEVLIST-clause-exact c = search rules
@@ -32,11 +32,11 @@ returns-then-be_u16_at-eq-OP_REQ_DEVLIST-clause-exact c = search rules
 pub returns-then-be_u16_at-eq-OP_REQ_DEVLIST-clause-stands : goal.returns-then-be_u16_at-eq-OP_REQ_DEVLIST-clause-stands
 returns-then-be_u16_at-eq-OP_REQ_DEVLIST-clause-stands c = stands-so c.args.bytes.now (λ i. omega (arith, c.type_inv.bytes i)) (returns-then-be_u16_at-eq-OP_REQ_DEVLIST-clause-exact c)
 
-pub returns-then-bytes-lt40-clause-exact : goal.returns-then-bytes-lt40-clause-exact
-returns-then-bytes-lt40-clause-exact c = search rules
+pub returns-then-bytes-size-clause-exact : goal.returns-then-bytes-size-clause-exact
+returns-then-bytes-size-clause-exact c = search rules
 
-pub returns-then-bytes-lt40-clause-stands : goal.returns-then-bytes-lt40-clause-stands
-returns-then-bytes-lt40-clause-stands c = stands-so c.args.bytes.now (λ i. omega (arith, c.type_inv.bytes i)) (returns-then-bytes-lt40-clause-exact c)
+pub returns-then-bytes-size-clause-stands : goal.returns-then-bytes-size-clause-stands
+returns-then-bytes-size-clause-stands c = stands-so c.args.bytes.now (λ i. omega (arith, c.type_inv.bytes i)) (returns-then-bytes-size-clause-exact c)
 
 pub returns-clause-exact : goal.returns-clause-exact
 returns-clause-exact c = search rules
