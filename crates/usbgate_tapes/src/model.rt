@@ -70,16 +70,17 @@ pub fn do_line<G: Gadget>(system: &mut System<G>, line: &TapeLine) -> Result<Opt
     ensures told { IfOk result (λ told. IsSome told → IsSome (step_said line.now)) }
     ensures err { OnErr result (IsSome (step_said line.now)) }
 {
-    match line {
-        TapeLine::Client(piece) => Ok(Some(system.step(Step::Client(piece.as_slice()))?)),
-        TapeLine::ClientEnd => Ok(Some(system.step(Step::ClientEnd)?)),
-        TapeLine::ToHost(count) => Ok(Some(system.step(Step::ToHost(*count))?)),
-        TapeLine::ToGate(count) => Ok(Some(system.step(Step::ToGate(*count))?)),
-        TapeLine::Perform(ep) => Ok(Some(system.step(Step::Perform(*ep))?)),
-        TapeLine::Offer(ep) => Ok(Some(system.step(Step::Offer(*ep))?)),
-        TapeLine::Unplug => Ok(Some(system.step(Step::Unplug)?)),
-        TapeLine::Skip | TapeLine::Host(_) | TapeLine::HostEnd => Ok(None),
-    }
+    let step = match line {
+        TapeLine::Client(piece) => Step::Client(piece.as_slice()),
+        TapeLine::ClientEnd => Step::ClientEnd,
+        TapeLine::ToHost(count) => Step::ToHost(*count),
+        TapeLine::ToGate(count) => Step::ToGate(*count),
+        TapeLine::Perform(ep) => Step::Perform(*ep),
+        TapeLine::Offer(ep) => Step::Offer(*ep),
+        TapeLine::Unplug => Step::Unplug,
+        TapeLine::Skip | TapeLine::Host(_) | TapeLine::HostEnd => return Ok(None),
+    };
+    Ok(Some(system.step(step)?))
 }
 
 impl<G: Gadget> TapeCommand for ModelRun<G> {
