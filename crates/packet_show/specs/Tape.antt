@@ -9,6 +9,8 @@ use Rattle.hex.specs.declared.error.FromHexError.{FromHexError}
 use Rattle.packet_show.specs.declared.tape.TapeKind.{TapeKind}
 use Rattle.packet_show.specs.declared.tape.TapeKind.TheVariants.{Replay, Model}
 use Rattle.packet_show.specs.declared.tape.TapeLine.{TapeLine}
+use Rattle.packet_show.specs.declared.tape.LineError.{LineError}
+use Rattle.packet_show.specs.declared.tape.LineError.TheVariants as error
 use Rattle.packet_show.specs.declared.tape.TapeLine.TheVariants.{Skip, Client, ClientEnd, Host, HostEnd, ToHost, ToGate, Perform, Offer, Unplug}
 use Rattle.packet_show.specs.Line.{SPACE, letter}
 use Rattle.packet_show.specs.Number.{number_of}
@@ -85,3 +87,8 @@ takes_memory (Some line) = has_bytes line
 -- want of memory is one value, whichever call has told it
 abbrev pub want : Memory
 want = record { 0 = tt }
+
+-- how an error is printed
+abbrev pub error_text : LineError → List ℕ
+error_text error.Bad = codes "not a line of such a tape"
+error_text (error.Memory memory) = codes "out of memory"

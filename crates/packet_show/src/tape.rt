@@ -1,11 +1,13 @@
 //! The lines of a tape.
 
 ghost use Rattle.std.specs.Prelude.{◌≡◌, Some, None, true, is_some, IfOk};
-ghost use Rattle.packet_show.specs.Tape.{tape_line, bytes_of, endpoint_of, takes_memory, replay_line, model_line, want};
+ghost use Rattle.packet_show.specs.Tape.{tape_line, bytes_of, endpoint_of, takes_memory, replay_line, model_line, want, error_text};
 
 use crate::number::read_number;
 use hex::{FromHex, FromHexError};
 use std::alloc::{AllocError, Global};
+use std::error::Error;
+use std::fmt;
 use usb_base::{Bytes, EpAddr, Memory};
 
 /// How many bytes a tape may have, the LFs of its lines counted.
@@ -53,6 +55,19 @@ pub enum LineError {
     /// No memory was left for the bytes of a piece.
     Memory(Memory),
 }
+
+impl fmt::Display for LineError {
+    ghost output = { λ error. Some (error_text error) };
+
+    fn fmt<W: fmt::Write>(&self, f: &mut fmt::Formatter<W>) -> fmt::Result {
+        match self {
+            LineError::Bad => write!(f, "not a line of such a tape"),
+            LineError::Memory(memory) => write!(f, "{memory}"),
+        }
+    }
+}
+
+impl Error for LineError {}
 
 impl From<Memory> for LineError {
     ghost use Rattle.packet_show.specs.declared.tape.LineError.TheVariants as line;
