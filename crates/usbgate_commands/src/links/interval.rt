@@ -19,7 +19,7 @@ pub fn interval_units()
 {}
 
 /// The shortest interval in microseconds of the IN endpoints among these descriptors that have one.
-#[tactic(auto, using(crate::proofs::Intervals::shorter_assoc))]
+#[tactic(auto, using(crate::proofs::lemmas::links::Intervals::shorter_assoc))]
 pub fn shortest_micros(speed: Speed, parts: &[Part]) -> Option<u64>
     ensures { result ≡ shortest speed parts.now }
 {

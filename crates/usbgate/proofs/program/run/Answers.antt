@@ -7,12 +7,12 @@ use Rattle.usbgate_tapes.specs.model.Made.{made, loaded}
 use Rattle.usbgate_tapes.specs.Printout.{tape_printout, printed, usage}
 use Rattle.usbgate_commands.specs.links.Recording.{records}
 use Rattle.usbgate_commands.specs.links.Serves.{known_of}
-use Rattle.usbgate_commands.proofs.Served.{links-stand, link-fault-of, link-stands}
+use Rattle.usbgate_commands.proofs.lemmas.links.Served.{links-stand, link-fault-of, link-stands}
 use Rattle.usbgate_tapes.proofs.lemmas.model.Simulated.{unsimulated}
 use Rattle.usbgate_tapes.proofs.lemmas.Unread.{leaves-none}
 use Rattle.usbgate.proofs.Asked.{reads-tape, leaves-asked, writes-asked, serves-asked, lends-asked}
 use Rattle.usbgate.proofs.Simulated.{simulates-device, simulates-count}
-use Rattle.usbgate_commands.proofs.Logs.{run-unserved, run-unlent}
+use Rattle.usbgate_commands.proofs.lemmas.links.Logs.{run-unserved, run-unlent}
 use Rattle.usbgate.proofs.program.run.Goals as goal
 
 pub returns-in_default-clause-serves : goal.returns-in_default-clause-serves

@@ -1,5 +1,5 @@
 use Rattle.std.proofs.Common.{rules}
-use Rattle.usbgate_commands.proofs.Logs.{run-unlent}
+use Rattle.usbgate_commands.proofs.lemmas.links.Logs.{run-unlent}
 use Rattle.usbgate_commands.proofs.links.host.host.Goals as goal
 
 pub returns-in-Err : goal.returns-in-Err

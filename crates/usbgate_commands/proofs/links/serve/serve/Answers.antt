@@ -1,5 +1,5 @@
 use Rattle.std.proofs.Common.{refl, inl, rules}
-use Rattle.usbgate_commands.proofs.Logs.{untold}
+use Rattle.usbgate_commands.proofs.lemmas.links.Logs.{untold}
 use Rattle.usbgate_commands.proofs.links.serve.serve.Goals as goal
 
 pub returns-in-Err-clause-serves : goal.returns-in-Err-clause-serves

@@ -16,7 +16,7 @@ use Rattle.usbgate_commands.specs.words.Lending.{AskedLent}
 use Rattle.usbgate_commands.specs.links.Logs.{HasLog, terms_of, terms_lent, RunServes, RunLends}
 use Rattle.usbgate_commands.specs.links.Serves.{Known, known_untaped, device_sends, device_runs_out}
 use Rattle.usbgate_commands.specs.words.Serving.{ServeSettings}
-use Rattle.usbgate_commands.proofs.Served.{unserved, unlent}
+use Rattle.usbgate_commands.proofs.lemmas.links.Served.{unserved, unlent}
 
 -- nothing was told
 pub untold : {K : Type 0} → (gives : K → List ℕ → Result ℕ Failed → K → Type 0) (now : K) → Told gives now now []
