@@ -52,6 +52,7 @@ impl<G: Gadget> System<G> {
         ensures fails { OnErr result (SystemHasFailed self.new) }
         ensures failed { SystemHasFailed self.old → IsErr result × (self.new ≡ self.old) }
     {
+        // Each arm makes its step anew: the borrow checker doesn't cover one that is handed on as it came.
         match step {
             Step::Client(bytes) => {
                 let told = self.inner.step(Step::Client(bytes));
