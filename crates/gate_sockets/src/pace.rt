@@ -5,11 +5,9 @@ ghost use Rattle.std.specs.Duration.{as_nanos};
 ghost use Rattle.std.specs.declared.time.Duration.{Duration as Time};
 ghost use Rattle.gate_sockets.specs.Pace.{next_due, IsLeft, IsLeftBy};
 
+use crate::limits::MADE_UP;
 use crate::network::Network;
 use std::time::Duration;
-
-/// How many intervals are made up for at most, where polls came too late.
-const MADE_UP: u32 = 16;
 
 /// A poll that finds nothing ends an interval, one after another.
 #[derive(Clone, Copy)]

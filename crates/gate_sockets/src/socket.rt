@@ -22,7 +22,7 @@ use std::net::SocketAddr;
 /// How many bytes are read ahead at a time.
 const CHUNK: usize = 16_384;
 
-/// How often in a row.
+/// How many times in a row at most, where each read brings something.
 const CHUNKS: u32 = 256;
 
 /// A connection while there is one, and its counts.
@@ -30,8 +30,9 @@ const CHUNKS: u32 = 256;
 pub(crate) struct Socket<S: Connection> {
     side: Side,
     stream: Option<S>,
-    /// The other end of the link, and why that broke: of the last one where none is up.
+    /// The other end of the link, or of the last one where none is up.
     addr: Option<SocketAddr>,
+    /// Why that link broke, if it did.
     why: Option<io::Error>,
     ahead: Ahead,
     broken: bool,
@@ -123,7 +124,7 @@ impl<S: Connection> Socket<S> {
     }
 
     /// Counts an idle answer.
-    pub(crate) fn rest(&mut self)
+    pub(crate) fn count_idle(&mut self)
         ensures { self.new ≡ idled self.old }
     {
         self.idle = self.idle.saturating_add(1);
@@ -148,7 +149,7 @@ impl<S: Connection> Socket<S> {
             return Polled::Took(given);
         }
         if self.passes_over(ready, network) {
-            self.rest();
+            self.count_idle();
             return Polled::NotYet;
         }
         ready.reads(self.side);
@@ -193,11 +194,11 @@ impl<S: Connection> Socket<S> {
             }
             Step::Blocked if !self.broken => {
                 self.rests = RESTS;
-                self.rest();
+                self.count_idle();
                 Polled::NotYet
             }
             Step::Cut => {
-                self.rest();
+                self.count_idle();
                 Polled::NotYet
             }
             Step::Broken(error) => self.lose(error),

@@ -41,8 +41,9 @@ pub struct TcpDoors<'rt, N: Network + Eprint> {
     door: Option<N::Door>,
     client: Socket<N::Stream>,
     host: Socket<N::Stream>,
-    /// A call has tried to open a link or the door, and a host was dialled.
+    /// A call has tried to open a link or the door.
     used: bool,
+    /// A host was dialled.
     dialled: bool,
     /// It was told that a client can't be let in.
     wants: bool,
@@ -273,7 +274,7 @@ impl<'rt, N: Network + Eprint> Doors for TcpDoors<'rt, N> {
     {
         let came = self.look();
         if !came {
-            self.client.rest();
+            self.client.count_idle();
         }
         Ok(came)
     }
