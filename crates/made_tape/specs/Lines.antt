@@ -1,5 +1,5 @@
 -- The lines of a model's tape, as they are written.
-use Rattle.std.specs.Prelude.{ℕ, List, [], ◌∷◌, ◌++◌, codes}
+use Rattle.std.specs.Prelude.{ℕ, Bool, true, false, List, [], ◌∷◌, ◌++◌, codes}
 use Rattle.std.specs.List.{flat_map}
 use Rattle.std.specs.Fmt.{decimal}
 use Rattle.hex.specs.Hex.{encode_lower}
@@ -19,6 +19,12 @@ words_of (line.ToGate n) = codes "h " ++ decimal n
 words_of (line.Perform ep) = codes "p " ++ encode_lower (ep ∷ [])
 words_of (line.Offer ep) = codes "o " ++ encode_lower (ep ∷ [])
 words_of line.Unplug = codes "x"
+
+-- to say it takes memory, for the bytes of a piece
+abbrev pub takes_memory : TapeLine → Bool
+takes_memory (line.Client bytes) = true
+takes_memory (line.Host bytes) = true
+takes_memory said = false
 
 abbrev pub line_of : TapeLine → List ℕ
 line_of said = words_of said ++ LF ∷ []

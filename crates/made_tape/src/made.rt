@@ -1,7 +1,8 @@
 //! The lines of a made tape, one after another.
 
-ghost use Rattle.std.specs.Prelude.{◌≡◌, ◌∷◌, [], IfOk, OnErr, MatchOption};
-ghost use Rattle.made_tape.specs.Lines.{tape_text};
+ghost use Rattle.std.specs.Prelude.{◌≡◌, ◌∷◌, [], IfOk, OnErr, MatchOption, IsSomeAnd, true};
+ghost use Rattle.std.specs.List.{slice_get};
+ghost use Rattle.made_tape.specs.Lines.{tape_text, takes_memory};
 ghost use Rattle.made_tape.specs.Rounds.{made_lines};
 
 use crate::line::push_line;
@@ -40,10 +41,11 @@ impl MadeTape {
         }
     }
 
-    /// The next line, or none behind the last one. For want of memory no line is passed over.
+    /// The next line, or none behind the last one. For want of memory, which only a piece takes, none is passed over.
     pub fn next_line(&mut self, alloc: Global) -> Result<Option<TapeLine>, Memory>
         ensures line { IfOk result (λ line. MatchOption line (self.old ≡ []) (λ said. self.old ≡ said ∷ self.new)) }
         ensures same { OnErr result (self.new ≡ self.old) }
+        ensures wants { OnErr result (IsSomeAnd (slice_get self.old 0) (λ said. takes_memory said ≡ true)) }
     {
         self.progress.next_line(alloc)
     }

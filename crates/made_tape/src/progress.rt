@@ -1,6 +1,8 @@
 //! How far a made tape has come.
 
-ghost use Rattle.std.specs.Prelude.{◌≡◌, ◌∷◌, [], IfOk, OnErr, MatchOption};
+ghost use Rattle.std.specs.Prelude.{◌≡◌, ◌∷◌, [], IfOk, OnErr, MatchOption, IsSomeAnd, true};
+ghost use Rattle.std.specs.List.{slice_get};
+ghost use Rattle.made_tape.specs.Lines.{takes_memory};
 ghost use Rattle.made_tape.specs.Rounds.{made_lines};
 ghost use Rattle.made_tape.specs.inner.Left.{lines_left};
 
@@ -35,10 +37,11 @@ impl Progress {
         }
     }
 
-    /// The next line, or none behind the last one. For want of memory no line is passed over.
+    /// The next line, or none behind the last one. For want of memory, which only a piece takes, none is passed over.
     pub fn next_line(&mut self, alloc: Global) -> Result<Option<TapeLine>, Memory>
         ensures line { IfOk result (λ line. MatchOption line (lines_left self.old ≡ []) (λ said. lines_left self.old ≡ said ∷ lines_left self.new)) }
         ensures same { OnErr result (lines_left self.new ≡ lines_left self.old) }
+        ensures wants { OnErr result (IsSomeAnd (slice_get (lines_left self.old) 0) (λ said. takes_memory said ≡ true)) }
     {
         self.go_on();
         let [task, rest @ ..] = self.tasks else {

@@ -1,7 +1,8 @@
 //! What a round does, line by line.
 
-ghost use Rattle.std.specs.Prelude.{◌≡◌, IfOk};
+ghost use Rattle.std.specs.Prelude.{◌≡◌, true, IfOk, OnErr};
 ghost use Rattle.usb_base.specs.Endpoint.{IsEndpoint};
+ghost use Rattle.made_tape.specs.Lines.{takes_memory};
 ghost use Rattle.made_tape.specs.Rounds.{said, opening, tasks_of, next_number, size_of};
 
 use crate::packet::{ask, configure, import, send, take_back};
@@ -127,7 +128,8 @@ fn endpoint(byte: u8) -> EpAddr
 
 /// The line of a task in a round.
 pub fn said(alloc: Global, round: u16, number: u32, task: Task) -> Result<TapeLine, Memory>
-    ensures { IfOk result (λ line. line ≡ said round number task) }
+    ensures line { IfOk result (λ line. line ≡ said round number task) }
+    ensures wants { OnErr result (takes_memory (said round number task) ≡ true) }
 {
     Ok(match task {
         Task::Import => TapeLine::Client(import(alloc)?),
