@@ -6,7 +6,7 @@ use Rattle.gate_outside.specs.Calls.{Call}
 use Rattle.usbgate_tapes.specs.declared.status.Status.{Status}
 use Rattle.usbgate_tapes.specs.Printout.{Printout}
 use Rattle.usbgate_tapes.specs.Logs.{RunLeaves, RunWrites}
-use Rattle.usbgate_tapes.proofs.lemmas.Unread.{leaves-unread}
+use Rattle.usbgate_tapes.proofs.lemmas.runs.Unread.{leaves-unread}
 use Rattle.usbgate_commands.specs.declared.words.command.Command.{Command}
 use Rattle.usbgate_commands.specs.declared.words.command.Command.TheVariants.{Serve, Host}
 use Rattle.usbgate_commands.specs.words.Lending.{AskedLent}

@@ -1,9 +1,6 @@
 -- What the proofs of functions cite, by subject.
 pub mod tape
-pub mod Moving
-pub mod Told
-pub mod Unread
-pub mod Going
-pub mod Events
+pub mod runs
+pub mod text
 pub mod model
-pub mod Showing
+pub mod show

@@ -9,7 +9,7 @@ use Rattle.usbgate_commands.specs.links.Recording.{records}
 use Rattle.usbgate_commands.specs.links.Serves.{known_of}
 use Rattle.usbgate_commands.proofs.lemmas.links.Served.{links-stand, link-fault-of, link-stands}
 use Rattle.usbgate_tapes.proofs.lemmas.model.Simulated.{unsimulated}
-use Rattle.usbgate_tapes.proofs.lemmas.Unread.{leaves-none}
+use Rattle.usbgate_tapes.proofs.lemmas.runs.Unread.{leaves-none}
 use Rattle.usbgate.proofs.Asked.{reads-tape, leaves-asked, writes-asked, serves-asked, lends-asked}
 use Rattle.usbgate.proofs.Simulated.{simulates-device, simulates-count}
 use Rattle.usbgate_commands.proofs.lemmas.links.Logs.{run-unserved, run-unlent}

@@ -27,7 +27,7 @@ use Rattle.usbgate_tapes.specs.Replay.{has_refusal}
 use Rattle.usbgate_tapes.specs.Text.{told_text}
 use Rattle.usbgate_tapes.specs.inner.model.Model.{HasDone, TakesSaid, has_some}
 use Rattle.usbgate_tapes.specs.inner.tape.TapeReader.{TakesLine}
-use Rattle.usbgate_tapes.proofs.lemmas.Events.{refused-more}
+use Rattle.usbgate_tapes.proofs.lemmas.text.Events.{refused-more}
 
 -- ---- a step tells a refusal where one came about
 

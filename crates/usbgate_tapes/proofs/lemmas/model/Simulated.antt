@@ -20,7 +20,7 @@ use Rattle.usbgate_tapes.specs.model.Simulated.{steps_of, AreSimulated, RunSimul
 use Rattle.usbgate_tapes.specs.inner.model.Loaded.{steps_after}
 use Rattle.usbgate_tapes.specs.inner.model.Model.{HasDone}
 use Rattle.usbgate_tapes.specs.inner.tape.TapeReader.{ReadsTo}
-use Rattle.usbgate_tapes.proofs.lemmas.Going.{comes-too}
+use Rattle.usbgate_tapes.proofs.lemmas.runs.Going.{comes-too}
 use Rattle.usbgate_tapes.proofs.lemmas.model.Loaded.{kept-made}
 
 -- the law of systems

@@ -1,4 +1,4 @@
-use Rattle.usbgate_tapes.proofs.lemmas.Going.{runs-none}
+use Rattle.usbgate_tapes.proofs.lemmas.runs.Going.{runs-none}
 use Rattle.usbgate_tapes.proofs.runs.over_tape.Goals as goal
 
 pub read_pieces-requires-clause-start : goal.read_pieces-requires-clause-start

@@ -5,7 +5,7 @@ use Rattle.gate_outside.specs.Moved.{moved}
 use Rattle.usbgate_tapes.specs.declared.status.Status.{Status}
 use Rattle.usbgate_tapes.specs.inner.tape.TapeReader.{Stepped, end_text}
 use Rattle.usbgate_tapes.proofs.lemmas.tape.Stages.{room-falls}
-use Rattle.usbgate_tapes.proofs.lemmas.Going.{goes-none, goes-written, goes-read, runs-write, runs-read, runs-memory, runs-end, runs-last, read-end, closes-is_quiet, quiet-not_usage, causes-none, causes-read, causes-write}
+use Rattle.usbgate_tapes.proofs.lemmas.runs.Going.{goes-none, goes-written, goes-read, runs-write, runs-read, runs-memory, runs-end, runs-last, read-end, closes-is_quiet, quiet-not_usage, causes-none, causes-read, causes-write}
 use Rattle.usbgate_tapes.proofs.runs.read_pieces.Goals as goal
 
 pub loop-reader-init : goal.loop-reader-init

@@ -1,7 +1,7 @@
 use Rattle.std.proofs.Common.{◌≡◌, ◌<◌, [], length}
 use Rattle.usbgate_tapes.specs.inner.tape.TapeReader.{Stage}
 use Rattle.usbgate_tapes.proofs.lemmas.tape.Stages.{room_of}
-use Rattle.usbgate_tapes.proofs.lemmas.Going.{Goes}
+use Rattle.usbgate_tapes.proofs.lemmas.runs.Going.{Goes}
 use Rattle.usbgate_tapes.proofs.runs.read_pieces.Given as goal
 
 abbrev pub invariant-loop-reader : goal.invariant-loop-reader

@@ -4,7 +4,7 @@ use Rattle.gate_outside.specs.Front.{AppendsFront}
 use Rattle.gate_outside.specs.Moved.{Moves, MovesFront}
 use Rattle.usbgate_tapes.specs.inner.tape.TapeReader.{end_text}
 use Rattle.gate_outside.proofs.Moving.{moves-append}
-use Rattle.usbgate_tapes.proofs.lemmas.Moving.{appends-less, appends-further, moves-further}
+use Rattle.usbgate_tapes.proofs.lemmas.runs.Moving.{appends-less, appends-further, moves-further}
 use Rattle.usbgate_tapes.proofs.lemmas.tape.Wanting.{on_err-of}
 use Rattle.usbgate_tapes.proofs.runs.write_end.Goals as goal
 

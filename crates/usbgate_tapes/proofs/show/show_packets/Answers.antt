@@ -1,7 +1,7 @@
 use Rattle.std.proofs.Common.{◌≡◌, ℕ, Option, Some, Ok, ap, sym, ◌∙◌}
 use Rattle.packet_stream.proofs.Following.{changed_to}
 use Rattle.usbgate_tapes.specs.inner.show.Show.{shown_by}
-use Rattle.usbgate_tapes.proofs.lemmas.Showing.{goes-more, shows-all, shows-handed}
+use Rattle.usbgate_tapes.proofs.lemmas.show.Showing.{goes-more, shows-all, shows-handed}
 use Rattle.usbgate_tapes.proofs.show.show_packets.Goals as goal
 
 pub returns-in_err-place : goal.returns-in_err-place

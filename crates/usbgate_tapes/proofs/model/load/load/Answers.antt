@@ -1,6 +1,6 @@
 use Rattle.usbgate_tapes.specs.model.Made.{loaded}
 use Rattle.usbgate_tapes.specs.Printout.{printed}
-use Rattle.usbgate_tapes.proofs.lemmas.Unread.{wrote-none}
+use Rattle.usbgate_tapes.proofs.lemmas.runs.Unread.{wrote-none}
 use Rattle.usbgate_tapes.proofs.model.load.load.Goals as goal
 
 pub returns-in-Err-clause-leaves : goal.returns-in-Err-clause-leaves

@@ -1,6 +1,6 @@
 use Rattle.usbgate_tapes.specs.model.Made.{made}
 use Rattle.usbgate_tapes.specs.Printout.{printed}
-use Rattle.usbgate_tapes.proofs.lemmas.Unread.{wrote-none}
+use Rattle.usbgate_tapes.proofs.lemmas.runs.Unread.{wrote-none}
 use Rattle.usbgate_tapes.proofs.model.make.make.Goals as goal
 
 pub returns-in-Err-clause-leaves : goal.returns-in-Err-clause-leaves

@@ -2,7 +2,7 @@ use Rattle.std.proofs.Common.{[], ap, subst}
 use Rattle.packet_stream.specs.Split.{reads}
 use Rattle.packet_stream.specs.Streams.{StreamView, Follows}
 use Rattle.usbgate_tapes.specs.inner.show.Show.{shown_by}
-use Rattle.usbgate_tapes.proofs.lemmas.Showing.{sees-end}
+use Rattle.usbgate_tapes.proofs.lemmas.show.Showing.{sees-end}
 use Rattle.usbgate_tapes.proofs.show.Show.begin.Goals as goal
 
 pub returns : goal.returns

@@ -1,5 +1,5 @@
 use Rattle.usbgate_tapes.specs.inner.show.Show.{shown_by}
-use Rattle.usbgate_tapes.proofs.lemmas.Showing.{sees-other}
+use Rattle.usbgate_tapes.proofs.lemmas.show.Showing.{sees-other}
 use Rattle.usbgate_tapes.proofs.show.Show.pass.Goals as goal
 
 pub returns : goal.returns

@@ -2,7 +2,7 @@ use Rattle.std.proofs.Common.{[], ap, subst}
 use Rattle.packet_stream.specs.Split.{reads}
 use Rattle.packet_stream.specs.Streams.{StreamView, Follows}
 use Rattle.usbgate_tapes.specs.inner.show.Show.{shown_by}
-use Rattle.usbgate_tapes.proofs.lemmas.Showing.{shown-none}
+use Rattle.usbgate_tapes.proofs.lemmas.show.Showing.{shown-none}
 use Rattle.usbgate_tapes.proofs.show.Show.start.Goals as goal
 
 pub returns : goal.returns

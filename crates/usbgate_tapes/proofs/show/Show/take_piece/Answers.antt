@@ -4,7 +4,7 @@ use Rattle.usb_base.specs.declared.side.Side.{Side}
 use Rattle.usb_base.specs.Refusal.{refusal_line}
 use Rattle.packet_stream.specs.declared.read.ReadError.{ReadError}
 use Rattle.usbgate_tapes.specs.inner.show.Show.{shown_by, ShowsPackets}
-use Rattle.usbgate_tapes.proofs.lemmas.Showing.{sees-all, sees-wrong}
+use Rattle.usbgate_tapes.proofs.lemmas.show.Showing.{sees-all, sees-wrong}
 use Rattle.usbgate_tapes.proofs.show.Show.take_piece.Goals as goal
 
 pub returns-in-Ok : goal.returns-in-Ok

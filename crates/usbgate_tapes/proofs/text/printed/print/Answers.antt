@@ -1,4 +1,4 @@
-use Rattle.usbgate_tapes.proofs.lemmas.Unread.{wrote-text, wrote-front}
+use Rattle.usbgate_tapes.proofs.lemmas.runs.Unread.{wrote-text, wrote-front}
 use Rattle.usbgate_tapes.proofs.text.printed.print.Goals as goal
 
 pub returns-in-Ok-clause-leaves : goal.returns-in-Ok-clause-leaves

@@ -21,10 +21,10 @@ use Rattle.usbgate_tapes.specs.Wants.{ReadWants, RunsOut}
 use Rattle.usbgate_tapes.specs.inner.tape.TapeReader.{SomeKeeps, Stage, Closes, ReaderRuns, end_text}
 use Rattle.usbgate_tapes.proofs.lemmas.tape.Stages.{text_begins}
 use Rattle.gate_outside.proofs.Moving.{moves-none, moves-append}
-use Rattle.usbgate_tapes.proofs.lemmas.Moving.{at_end}
-use Rattle.usbgate_tapes.proofs.lemmas.Unread.{leaves-none, write-memory}
+use Rattle.usbgate_tapes.proofs.lemmas.runs.Moving.{at_end}
+use Rattle.usbgate_tapes.proofs.lemmas.runs.Unread.{leaves-none, write-memory}
 use Rattle.usbgate_tapes.proofs.lemmas.tape.Wanting.{whole-read}
-use Rattle.usbgate_tapes.proofs.lemmas.Told.{remaining_told, at_end_told, leaves-told}
+use Rattle.usbgate_tapes.proofs.lemmas.runs.Told.{remaining_told, at_end_told, leaves-told}
 
 -- ---- in the middle
 

@@ -12,7 +12,7 @@ use Rattle.usbgate_tapes.specs.Run.{LeavesTold, LeavesWhereTold}
 use Rattle.usbgate_tapes.specs.Printout.{Printout, untaped}
 use Rattle.usbgate_tapes.specs.Logs.{RunLeaves, RunWrites}
 use Rattle.gate_outside.proofs.Moving.{moves-none}
-use Rattle.usbgate_tapes.proofs.lemmas.Told.{leaves-told}
+use Rattle.usbgate_tapes.proofs.lemmas.runs.Told.{leaves-told}
 
 pub write-memory : {A : Type 0} → WriteFault ≡ OutOfMemory → A
 write-memory e = cc

@@ -1,0 +1,2 @@
+-- A stream's packets, as they are shown.
+pub mod Showing

@@ -1,0 +1,2 @@
+-- What a replay prints.
+pub mod Events
