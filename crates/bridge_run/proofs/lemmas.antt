@@ -3,4 +3,3 @@ pub mod served
 pub mod written
 pub mod course
 pub mod log
-pub mod Examples

@@ -6,3 +6,4 @@ pub mod Open
 pub mod Idle
 pub mod Settle
 pub mod Rest
+pub mod Examples

@@ -1,5 +1,5 @@
 -- A round's questions: how serving goes on behind an answer.
-use Rattle.std.proofs.Common.{◌≡◌, ℕ, true, List, length, take, IfSome, Result, sym, ap, ◌∙◌, subst}
+use Rattle.std.proofs.Common.{◌≡◌, ℕ, true, List, length, take, IfSome, Result, ◌∙◌, subst}
 use Rattle.usb_base.specs.declared.side.Side.{Side}
 use Rattle.gate_outside.specs.declared.turn.Polled.{Polled}
 use Rattle.gate_outside.specs.Link.{Link, Door}
@@ -9,7 +9,7 @@ use Rattle.bridge_run.specs.events.Events.{LinkEvent}
 use Rattle.bridge_run.specs.declared.course.rounds.Rounds.{Rounds}
 use Rattle.bridge_run.specs.declared.course.serve_end.ServeEnd.{ServeEnd}
 use Rattle.bridge_run.specs.events.Prescribed.{Prescribed}
-use Rattle.bridge_run.specs.course.Course.{Course, Next, Takes}
+use Rattle.bridge_run.specs.course.Course.{Course, Next}
 use Rattle.bridge_run.specs.declared.course.serving.TheConstants.{POLL_LIMIT}
 use Rattle.bridge_run.specs.course.Calls.{Goes, heard}
 use Rattle.bridge_run.specs.course.Calls.{turned as passed}

@@ -12,7 +12,7 @@ use Rattle.redir_host.specs.declared.write.note.HostNote.{HostNote}
 use Rattle.redir_host.specs.declared.write.note.HostNote.TheVariants as note
 use Rattle.redir_host.specs.step.Acts.{Act, Piece}
 use Rattle.redir_host.specs.step.Machine.{is_refusal}
-use Rattle.redir_host.specs.write.Output.{host_out, act_bytes, act_notes}
+use Rattle.redir_host.specs.write.Output.{host_out, act_bytes}
 use Rattle.redir_host.specs.step.Stands.{HostStands, DoesAct, TakesAct}
 use Rattle.redir_host.proofs.lemmas.step.Acts.{act-out}
 use Rattle.bridge_run.specs.declared.served.lent.Lent.{Lent}

@@ -9,7 +9,7 @@ use Rattle.redir_host.specs.state.Kept.{HostKept as Core}
 use Rattle.redir_host.specs.declared.write.note.HostNote.{HostNote}
 use Rattle.redir_host.specs.step.Acts.{Act, Piece}
 use Rattle.redir_host.specs.step.Machine.{bytes_of, given_by, is_refusal, steps}
-use Rattle.redir_host.specs.write.Output.{host_of, host_out, act_bytes, act_notes}
+use Rattle.redir_host.specs.write.Output.{host_of, host_out, act_bytes}
 use Rattle.redir_host.specs.step.Stands.{Stops, TakesAct}
 use Rattle.redir_host.proofs.lemmas.step.Acts.{act-out, given-append}
 use Rattle.bridge_run.specs.declared.served.lent.Lent.{Lent}

@@ -1,5 +1,5 @@
 -- What waits to be written to the tape: little, and nothing at each end that is no fault.
-use Rattle.std.proofs.Common.{◌≡◌, ℕ, zero, suc, ◌-◌, ◌==◌, ◌<◌, ltb, ◌&&◌, ◌||◌, not, Bool, true, false, cond, List, [], ◌∷◌, length, Option, Some, None, IfSome, refl, sym, ap, ◌∙◌, subst, inl, inr, lit<}
+use Rattle.std.proofs.Common.{◌≡◌, ℕ, zero, suc, ◌-◌, ◌==◌, ◌<◌, ltb, ◌&&◌, ◌||◌, not, Bool, true, false, cond, List, [], ◌∷◌, length, Option, Some, None, IfSome, refl, sym, ap, ◌∙◌, subst, lit<}
 use Rattle.std.proofs.lemmas.Bool.{false≢true, cond_both, ltb-true, not-false}
 use Rattle.usb_base.specs.declared.side.Side.{Side}
 use Rattle.usb_base.specs.declared.side.Side.TheVariants.{Client, Host}
@@ -17,8 +17,8 @@ use Rattle.bridge_run.specs.written.Recorded.{has_any, sends_any, is_last, is_fu
 use Rattle.bridge_run.specs.course.Course.{Setting, Course, Next, Making, AtDoor, AtClient, AtHost, AtEnd, Takes}
 use Rattle.bridge_run.specs.declared.course.serving.TheConstants.{POLL_LIMIT}
 use Rattle.bridge_run.specs.course.Calls.{Outcome, Goes, Stops, course_of, sends_now, is_due, lines_with, put, settle, ends_next, take_event, come, turned, heard, poll, gathered, rest, call, and_then, calls}
-use Rattle.bridge_run.specs.course.Outside.{Outside, gathering, written, HasLines}
-use Rattle.bridge_run.specs.course.Serves.{Reaches, NoneWaits, EndsSo, MayRunOut, CutShort, Leaves}
+use Rattle.bridge_run.specs.course.Outside.{Outside, gathering, written}
+use Rattle.bridge_run.specs.course.Serves.{Reaches, NoneWaits, EndsSo, CutShort, Leaves}
 
 -- ---- an event behind which it ends
 

@@ -1,4 +1,4 @@
-use Rattle.std.proofs.Common.{◌≡◌, ◌-◌, true, ◌∷◌, refl, length, take, sym, ◌∙◌, ap, subst, arith}
+use Rattle.std.proofs.Common.{◌≡◌, ◌-◌, true, ◌∷◌, refl, length, take, sym, ◌∙◌, ap, arith}
 use Rattle.gate_outside.specs.declared.turn.Polled.TheVariants.{Took, NotYet, Ended}
 use Rattle.gate_outside.specs.Link.{Link}
 use Rattle.bridge_run.specs.events.Events.{SidePiece, SideEnd}
