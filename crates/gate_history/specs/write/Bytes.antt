@@ -1,5 +1,5 @@
 -- The bytes of what is sent.
-use Rattle.std.specs.Prelude.{ℕ, List, ◌++◌, codes}
+use Rattle.std.specs.Prelude.{ℕ, List, ◌++◌}
 use Rattle.std.specs.List.{flat_map}
 use Rattle.redir_wire.specs.declared.packet.RedirControl.TheVariants as plain
 use Rattle.redir_wire.specs.Capability.{no_caps, announced, hello_of}
@@ -7,6 +7,7 @@ use Rattle.redir_data.specs.declared.packet.RedirPacket.{RedirPacket}
 use Rattle.redir_data.specs.declared.packet.RedirPacket.TheVariants.{Plain}
 use Rattle.redir_data.specs.Sent.{sent_packet_bytes}
 use Rattle.usbip_urb.specs.ClientPackets.{client_spelling}
+use Rattle.gate_history.specs.declared.sent.TheConstants.{GATEWAY_NAME}
 use Rattle.gate_history.specs.step.Marks.{Mark}
 use Rattle.gate_history.specs.state.State.{State}
 use Rattle.gate_history.specs.write.Output.{to_client, to_host}
@@ -24,7 +25,7 @@ host_bytes_of st m = flat_map (sent_packet_bytes st.agreed) (to_host st m)
 
 -- the gateway's hello: its name, and the capabilities that it announces
 abbrev pub gateway_hello : RedirPacket
-gateway_hello = Plain (plain.Hello (hello_of (codes "usbgate 1") announced))
+gateway_hello = Plain (plain.Hello (hello_of GATEWAY_NAME announced))
 
 abbrev pub out_client : ℕ → List Mark → List ℕ
 out_client first ms = all_of client_bytes_of first ms

@@ -17,7 +17,7 @@ ghost use Rattle.gate_history.specs.step.Marks.{Disconnects};
 ghost use Rattle.gate_history.specs.write.Output.{acknowledgements};
 
 use control_route::Route;
-use gate_history::{PACKETS_PER_URB, Pipe, STREAM_URBS};
+use gate_history::{GATEWAY_NAME, PACKETS_PER_URB, Pipe, STREAM_URBS};
 use redir_data::RedirData;
 use redir_wire::{Caps, Hello, RedirControl, write_control};
 use std::alloc::Global;
@@ -182,7 +182,7 @@ pub fn write_hello(alloc: Global, out: &mut Bytes) -> Result<(), Memory>
     ensures ok { OnOk result (out.new ≡ out.old ++ sent_packet_bytes no_caps (0, gateway_hello)) }
     ensures err { OnErr result (out.new ≡ out.old) }
 {
-    let hello = Hello::of(alloc, b"usbgate 1", Caps::ANNOUNCED)?;
+    let hello = Hello::of(alloc, &GATEWAY_NAME, Caps::ANNOUNCED)?;
     write_control(&RedirControl::Hello(hello), 0, Caps::empty(), out)
 }
 
