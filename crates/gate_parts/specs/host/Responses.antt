@@ -26,6 +26,11 @@ abbrev pub response_view : RawResponse → Response
 response_view (raw.Data endpoint length_place o) = Data endpoint length_place o
 response_view (raw.Status status value) = Status status value
 
+-- a status of success
+abbrev pub has_succeeded : Response → Bool
+has_succeeded (Status status value) = status == 0
+has_succeeded (Data endpoint length_place o) = false
+
 -- what a status gives, with its value or without
 abbrev pub status_outcome : ℕ → Bool → ℕ → Outcome
 status_outcome status tells value = got (status_of status) (if tells then value ∷ [] else [])

@@ -7,7 +7,7 @@ ghost use Rattle.gate_history.specs.declared.request.Request.{Request};
 ghost use Rattle.gate_history.specs.declared.verdict.Verdict.{Verdict};
 ghost use Rattle.redir_data.specs.declared.packet.RedirPacket.TheVariants.{Plain, Carrying};
 ghost use Rattle.gate_history.specs.host.Responses.{Data, outcome, response_of, wire_answer, route_answer, mismatch, mismatched, route_gets, gets as gets_value, told_outcome};
-ghost use Rattle.gate_parts.specs.host.Responses.{response_view, status_outcome, row_answer, row_ep, row_gets, expected_by, stream_in, packet_in};
+ghost use Rattle.gate_parts.specs.host.Responses.{response_view, has_succeeded, status_outcome, row_answer, row_ep, row_gets, expected_by, stream_in, packet_in};
 ghost use Rattle.redir_wire.specs.Header.{head_size};
 ghost use Rattle.gate_history.specs.state.Flight.{wide_ids};
 
@@ -218,7 +218,7 @@ pub fn told_outcome(
     response: Response,
 ) -> Result<Outcome, Memory>
     ensures ok { IfOk result (λ o. (r : Request) (v : Verdict) → r.transfer.wanted ≡ wanted → gets_value v ≡ gets → o ≡ told_outcome r v (response_view response)) }
-    ensures err { OnErr result ((gets ≡ true) × (0 < wanted)) }
+    ensures err { OnErr result ((gets ≡ true) × (0 < wanted) × (has_succeeded (response_view response) ≡ true)) }
 {
     match response {
         Response::Data { outcome, .. } => Ok(outcome),
