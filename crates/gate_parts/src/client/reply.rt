@@ -1,6 +1,6 @@
 //! The replies to list and import requests.
 
-ghost use Rattle.std.specs.Prelude.{◌≡◌, ◌≤◌, length, take, IfOk};
+ghost use Rattle.std.specs.Prelude.{◌≡◌, ◌≤◌, true, length, take, is_some, IfOk, OnErr};
 ghost use Rattle.redir_wire.specs.declared.packet.TheConstants.{MAX_INTERFACES};
 ghost use Rattle.usbip_op.specs.Ranges.{IsWritable};
 ghost use Rattle.gate_history.specs.client.Replies.{rows as rows_of, interface_rows, device_row, list_reply, import_reply, failed_import, is_exported};
@@ -17,6 +17,7 @@ use usbip_op::{
 pub fn list_reply(alloc: Global, facts: &Facts) -> Result<OpPacket, Memory>
     ensures value { IfOk result (λ reply. reply ≡ list_reply facts.now) }
     ensures writable { IfOk result IsWritable }
+    ensures wants { OnErr result (is_some facts.now.connect ≡ true) }
 {
     let mut devices = ListedRows::new(alloc);
     if let Some(connect) = &facts.connect {
@@ -57,7 +58,7 @@ pub fn failed_import() -> OpPacket
 pub fn is_exported(busid: &[u8; 32]) -> bool
     ensures { result ≡ is_exported busid.now }
 {
-    busid.starts_with(b"1-1\0")
+    busid.starts_with(&BUS_ID) && busid[BUS_ID.len()] == 0
 }
 
 // The rows of an interface_info, as many as its count.
