@@ -38,7 +38,7 @@ pub fn decide(here: Situation, request: &Request) -> Verdict
 }
 
 /// A transfer of endpoint 0, whose setup tells its direction and its length once more.
-pub fn by_setup(request: &Request, setup: &Setup) -> Verdict
+fn by_setup(request: &Request, setup: &Setup) -> Verdict
     ensures { result ≡ by_setup request.now setup.now }
 {
     if !request.descs.is_empty() {
@@ -54,7 +54,7 @@ pub fn by_setup(request: &Request, setup: &Setup) -> Verdict
 }
 
 /// A transfer of endpoint 0 that is well asked for, by its route.
-pub fn by_route(route: Route) -> Verdict
+fn by_route(route: Route) -> Verdict
     ensures { result ≡ by_route route }
 {
     match route {
@@ -66,7 +66,7 @@ pub fn by_route(route: Route) -> Verdict
 }
 
 /// A transfer of another endpoint, by what was told of it.
-pub fn by_endpoint(here: Situation, request: &Request) -> Verdict
+fn by_endpoint(here: Situation, request: &Request) -> Verdict
     ensures { result ≡ by_endpoint here request.now }
 {
     let row = here.row;
@@ -89,7 +89,7 @@ pub fn by_endpoint(here: Situation, request: &Request) -> Verdict
 }
 
 /// Whether the packet of such a transfer has 16 bits for its length.
-pub fn is_narrow(here: Situation, request: &Request) -> bool
+fn is_narrow(here: Situation, request: &Request) -> bool
     ensures { result ≡ is_narrow here request.now here.row.kind }
 {
     match here.row.kind {
@@ -100,7 +100,7 @@ pub fn is_narrow(here: Situation, request: &Request) -> bool
 }
 
 /// A transfer of an endpoint that can carry it, by what its endpoint's transfers are.
-pub fn by_kind(request: &Request, row: EpRow) -> Verdict
+fn by_kind(request: &Request, row: EpRow) -> Verdict
     ensures { result ≡ by_kind request.now row row.kind }
 {
     match row.kind {

@@ -54,7 +54,7 @@ pub fn write_lost(alloc: Global, live: &Live, out: &mut Bytes) -> Result<(), Mem
 }
 
 /// Appends the answer of a request that ends with this status, without its packets. For want of memory `out` stands.
-pub fn write_ended(alloc: Global, live: &Live, status: i32, out: &mut Bytes) -> Result<(), Memory>
+fn write_ended(alloc: Global, live: &Live, status: i32, out: &mut Bytes) -> Result<(), Memory>
     requires { HasItsPackets live.now.packets live.now.descs }
     ensures ok { OnOk result (out.new ≡ out.old ++ spelling (without_packets (row_request live.now) status)) }
     ensures err { OnErr result (out.new ≡ out.old) }
@@ -64,7 +64,7 @@ pub fn write_ended(alloc: Global, live: &Live, status: i32, out: &mut Bytes) -> 
 
 /// Appends the answers of a request that the host has answered so: its own, its unlink's, or both. The outcome's body
 /// is moved to `out`, by one copy where it is short; `out` stands for want of memory. It gives how the request ends.
-pub fn write_answers(
+fn write_answers(
     alloc: Global,
     live: &Live,
     outcome: Outcome,
