@@ -61,7 +61,7 @@ pub fn is_exported(busid: &[u8; 32]) -> bool
     busid.starts_with(&BUS_ID) && busid[BUS_ID.len()] == 0
 }
 
-// The rows of an interface_info, as many as its count.
+/// The rows of an interface_info, as many as its count.
 fn counted_rows(alloc: Global, info: &InterfaceInfo) -> Result<IfaceRows, Memory>
     ensures rows { IfOk result (λ rows. rows ≡ take info.now.count (rows_of info.now.class info.now.subclass info.now.protocol)) }
     ensures few { IfOk result (λ rows. length rows ≤ MAX_INTERFACES) }
@@ -79,7 +79,7 @@ fn counted_rows(alloc: Global, info: &InterfaceInfo) -> Result<IfaceRows, Memory
     Ok(rows)
 }
 
-// The interfaces that were told, none before an interface_info.
+/// The interfaces that were told, none before an interface_info.
 fn interface_rows(alloc: Global, info: &Option<InterfaceInfo>) -> Result<IfaceRows, Memory>
     ensures rows { IfOk result (λ rows. rows ≡ interface_rows info.now) }
     ensures few { IfOk result (λ rows. length rows ≤ MAX_INTERFACES) }
@@ -90,7 +90,7 @@ fn interface_rows(alloc: Global, info: &Option<InterfaceInfo>) -> Result<IfaceRo
     }
 }
 
-// How many there are.
+/// How many there are.
 fn interface_count(info: &Option<InterfaceInfo>) -> u8
     ensures { result ≡ length (interface_rows info.now) }
 {
@@ -106,7 +106,7 @@ fn row_count(info: &InterfaceInfo) -> u8
     info.count.min(MAX_INTERFACES) as u8
 }
 
-// The device, as it was told: the only one, under the one bus id.
+/// The device, as it was told: the only one, under the one bus id.
 fn device_row(facts: &Facts, connect: &Connect, interfaces: u8) -> DeviceRow
     ensures { result ≡ record (device_row facts.now connect.now) { interfaces = interfaces } }
 {

@@ -111,7 +111,7 @@ fn answer_kind(kind: &LiveKind) -> u32
     }
 }
 
-// The type of the packet that answers a transfer on the wire.
+/// The type of the packet that answers a transfer on the wire.
 fn wire_answer(kind: EpKind) -> DataKind
     ensures { result ≡ wire_answer kind }
 {
@@ -122,7 +122,7 @@ fn wire_answer(kind: EpKind) -> DataKind
     }
 }
 
-// The type of the packet that answers a route's.
+/// The type of the packet that answers a route's.
 fn route_answer(route: &Route) -> PlainKind
     ensures { result ≡ route_answer route.now }
 {
@@ -132,7 +132,7 @@ fn route_answer(route: &Route) -> PlainKind
     }
 }
 
-// The endpoint of a request in flight, which for a route is 0.
+/// The endpoint of a request in flight, which for a route is 0.
 fn endpoint(kind: &LiveKind) -> u8
     ensures { result ≡ row_ep kind.now }
 {
@@ -178,7 +178,7 @@ pub fn mismatch(
     None
 }
 
-// The host is refused so many bytes behind the packet's first.
+/// The host is refused so many bytes behind the packet's first.
 fn mismatched(place: u64, behind: u64, expected: u32, came: u32) -> Refusal
     ensures { result ≡ mismatched (place + behind) expected came }
 {
@@ -202,7 +202,7 @@ pub fn gets(kind: &LiveKind) -> bool
     }
 }
 
-// Whether the answer of a route tells a value that was asked for.
+/// Whether the answer of a route tells a value that was asked for.
 fn route_gets(route: &Route) -> bool
     ensures { result ≡ route_gets route.now }
 {
@@ -229,7 +229,7 @@ pub fn told_outcome(
     }
 }
 
-// What a status gives, with its value or without.
+/// What a status gives, with its value or without.
 fn status_outcome(alloc: Global, status: u8, tells: bool, value: u8) -> Result<Outcome, Memory>
     ensures ok { IfOk result (λ o. o ≡ status_outcome status tells value) }
     ensures err { OnErr result (tells ≡ true) }

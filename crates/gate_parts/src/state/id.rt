@@ -16,7 +16,7 @@ fn greatest(wide: bool) -> u64
     if wide { u64::MAX } else { u64::from(u32::MAX) }
 }
 
-// The id after this one; 1 comes after the greatest.
+/// The id after this one; 1 comes after the greatest.
 fn id_after(greatest: u64, id: u64) -> u64
     ensures { result ≡ id_after greatest id }
 {
@@ -39,7 +39,7 @@ pub fn draw(lives: &Lives, stream_ids: &StreamIds, wide: bool, last: u64) -> u64
     id
 }
 
-// Whether an id is in flight.
+/// Whether an id is in flight.
 fn is_held(lives: &Lives, stream_ids: &StreamIds, id: u64) -> bool
     ensures { result ≡ holds (ids_in lives.now ++ ids_of_streams stream_ids.now) id }
 {

@@ -81,7 +81,7 @@ pub fn write_ret_unlink(number: u32, status: i32, out: &mut Bytes) -> Result<(),
     write_urb(&UrbPacket::RetUnlink(answer), out)
 }
 
-// An answer has its request's number, and zeros in the other fields of its head.
+/// An answer has its request's number, and zeros in the other fields of its head.
 fn answer_head(number: u32) -> Head
     ensures { result ≡ answer_head number }
 {
@@ -117,7 +117,7 @@ pub fn ret_submit(
     }
 }
 
-// A short read has failed where the client says so.
+/// A short read has failed where the client says so.
 fn told_status(asked: &AnsweredSubmit, status: i32, actual: u32) -> i32
     ensures { result ≡ told_status (asked_view asked.now) status actual }
 {
@@ -129,7 +129,7 @@ fn told_status(asked: &AnsweredSubmit, status: i32, actual: u32) -> i32
     }
 }
 
-// How many isochronous packets have a status other than 0.
+/// How many isochronous packets have a status other than 0.
 fn errors(descs: &[IsoDesc]) -> u32
     requires { length descs.now ≤ MAX_PACKETS }
     ensures { result ≡ length (filter (λ d. is_failed d.status) descs.now) }
@@ -137,7 +137,7 @@ fn errors(descs: &[IsoDesc]) -> u32
     descs.iter().filter(|desc| desc.status != 0).count() as u32
 }
 
-// Isochronous packets of which nothing came have the request's status.
+/// Isochronous packets of which nothing came have the request's status.
 fn echoed(alloc: Global, descs: &[IsoDesc], status: i32) -> Result<Descs, Memory>
     ensures ok { IfOk result (λ echo. echo ≡ echoed status descs.now) }
     ensures err { OnErr result (0 < length descs.now) }
@@ -153,7 +153,7 @@ fn echoed(alloc: Global, descs: &[IsoDesc], status: i32) -> Result<Descs, Memory
     Ok(echo)
 }
 
-// Isochronous packets that were all sent.
+/// Isochronous packets that were all sent.
 fn sent_whole(alloc: Global, descs: &[IsoDesc]) -> Result<Descs, Memory>
     ensures ok { IfOk result (λ sent. sent ≡ sent_whole descs.now) }
     ensures err { OnErr result (0 < length descs.now) }

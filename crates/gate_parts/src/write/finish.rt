@@ -86,7 +86,7 @@ fn write_answers(
     Ok(ending)
 }
 
-// The unlink `by` came too late.
+/// The unlink `by` came too late.
 fn write_late(
     alloc: Global,
     asked: &AnsweredSubmit,

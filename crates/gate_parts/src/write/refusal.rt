@@ -23,7 +23,7 @@ pub fn host_refusal(place: u64, reason: Reason) -> Refusal
     refusal_at(Side::Host, place, reason)
 }
 
-// A refusal of which nothing is kept yet.
+/// A refusal of which nothing is kept yet.
 fn refusal_at(side: Side, place: u64, reason: Reason) -> Refusal
     ensures { result ≡ record { side = side; place = place; reason = reason; kept = None } }
 {
