@@ -15,12 +15,16 @@ pub trait PacketFormat {
     /// What decides how the next packet is read.
     type State: Drop;
 
+    /// What is read.
     type Packet: Drop;
 
+    /// The format of the next packet.
     ghost format: { Self.State → Format Self.Packet Why };
 
+    /// The state behind a packet.
     ghost after: { Self.State → Self.Packet → Self.State };
 
+    /// Whether a packet is kept on the heap, in part at least.
     ghost takes_memory: { Self.Packet → Bool };
 
     /// Takes the packet at the front of the bytes off them, where one is whole. Memory is wanting only for one that
@@ -44,5 +48,6 @@ pub trait PacketFormat {
     fn next(state: &mut Self::State, packet: &Self::Packet)
         ensures { state.new ≡ after state.old packet.now };
 
+    /// In every state what is read is spelled so, and what is spelled so is read.
     ghost sound: { (s : Self.State) → IsSound (format s) };
 }

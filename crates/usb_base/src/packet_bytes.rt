@@ -9,8 +9,10 @@ use std::alloc::Global;
 /// Bytes with a packet at their front: a stream's own, of which a long body is taken as it lies there, or lent ones, of
 /// which it is copied.
 pub trait PacketBytes {
+    /// The bytes that are there.
     ghost contents: { Self → List ℕ };
 
+    /// The same, lent.
     fn as_slice(&self) -> &[u8]
         ensures { result.now ≡ contents self.now };
 
