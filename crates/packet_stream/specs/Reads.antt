@@ -26,8 +26,7 @@ IfTold (Err (error.Memory memory)) Holds = Unit {0}
 -- a whole packet is found that takes memory
 abbrev pub WantsMemory : {P : Type 0} → (P → Bool) → Found P Reason → Type 0
 WantsMemory takes (Whole p n) = takes p ≡ true
-WantsMemory takes Short = ⊥
-WantsMemory takes (Wrong place reason) = ⊥
+WantsMemory takes _ = ⊥
 
 -- the answer is what was found; memory is wanting only where a whole packet takes some
 abbrev pub Answers : {P : Type 0} → (P → Bool) → Result (Read P) ReadError → Found P Reason → Type 0
@@ -39,8 +38,7 @@ Answers takes (Err (error.Memory memory)) found = WantsMemory takes found
 -- a packet that was read is no more among the bytes, and else they stay
 abbrev pub bytes_left : {P : Type 0} → Result (Read P) ReadError → List ℕ → List ℕ
 bytes_left (Ok (read.Whole p n)) bytes = drop n bytes
-bytes_left (Ok read.Short) bytes = bytes
-bytes_left (Err error) bytes = bytes
+bytes_left _ bytes = bytes
 
 -- how an error is printed
 abbrev pub error_text : ReadError → List ℕ
