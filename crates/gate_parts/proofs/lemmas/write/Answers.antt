@@ -3,7 +3,7 @@ use Rattle.std.proofs.Common.{◌≡◌, ℕ, ◌&&◌, Bool, if◌then◌else�
 use Rattle.std.specs.List.{flat_map}
 use Rattle.std.proofs.lemmas.List.{append-nil}
 use Rattle.usbip_urb.specs.Spelling.{spelling}
-use Rattle.std.specs.Prelude.{ℤ, pos}
+use Rattle.std.specs.Prelude.{pos}
 use Rattle.usb_base.specs.declared.status.UsbStatus.{UsbStatus}
 use Rattle.usb_base.specs.declared.status.UsbStatus.TheVariants as status
 use Rattle.usb_base.specs.declared.transfer.Outcome.{Outcome}
@@ -14,12 +14,12 @@ use Rattle.unlink_race.specs.declared.live.LiveKind.TheVariants as live_kind
 use Rattle.unlink_race.specs.declared.ending.Ending.{Ending}
 use Rattle.unlink_race.specs.declared.ending.Ending.TheVariants.{Completed, Unlinked, CompletedThenLate}
 use Rattle.unlink_race.specs.Endings.{ending_of}
-use Rattle.usb_base.specs.declared.errno.TheConstants.{ECONNRESET, ESHUTDOWN}
+use Rattle.usb_base.specs.declared.errno.TheConstants.{ECONNRESET}
 use Rattle.gate_history.specs.declared.request.Request.{Request}
 use Rattle.gate_history.specs.client.Verdict.{is_wire}
 use Rattle.gate_history.specs.step.Marks.{Submission}
-use Rattle.gate_history.specs.write.Answers.{ret_unlink, without_packets, with_outcome}
-use Rattle.gate_history.specs.client.Ends.{is_cancelled, answers_by, lost_answer}
+use Rattle.gate_history.specs.write.Answers.{ret_unlink, with_outcome}
+use Rattle.gate_history.specs.client.Ends.{is_cancelled, answers_by}
 use Rattle.gate_parts.specs.state.Rows.{is_wire_row, IsRowOf, row_request}
 
 -- of a request an answer has these alone
@@ -35,9 +35,6 @@ row-answered s l row = λ i. record {
   descs = row.descs i;
   transfer = record { ep = 0; setup = None; wanted = row.wanted i; body = [] };
 }
-
-pub row-without : (s : Submission) (l : Live) (st : ℤ) → IsRowOf s l → without_packets (row_request l) st ≡ without_packets s.request st
-row-without s l st row = ap (λ (r : Request). without_packets r st) (row-answered s l row)
 
 pub row-outcome : (s : Submission) (l : Live) (o : Outcome) → IsRowOf s l → with_outcome (row_request l) o ≡ with_outcome s.request o
 row-outcome s l o row = ap (λ (r : Request). with_outcome r o) (row-answered s l row)
@@ -88,6 +85,3 @@ pub bytes-two : (s : Submission) (l : Live) (o : Outcome) (x y : UrbPacket) (e :
     spelling x ++ spelling y ≡ flat_map spelling (answers_by s o l.unlinker)
 bytes-two s l o x y e row is two =
     ap (λ (b : List ℕ). spelling x ++ b) (sym (append-nil (spelling y))) ∙ ap (flat_map spelling) (sym two ∙ row-answers s l o e row is)
-
-pub lost-none : (s : Submission) (l : Live) → IsRowOf s l → without_packets (row_request l) ESHUTDOWN ≡ lost_answer s None
-lost-none s l row = row-without s l ESHUTDOWN row
