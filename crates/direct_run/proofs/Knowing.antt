@@ -19,7 +19,7 @@ use Rattle.redir_host.specs.step.Stands.{HostStands}
 use Rattle.gate_history.specs.step.Events.{Event, ClientPiece, ClientEnd, HostPiece, HostEnd, client_bytes, host_bytes}
 use Rattle.gate_core.specs.state.Kept.{GateKept}
 use Rattle.gate_history.specs.write.Readable.{piece_bytes}
-use Rattle.gate_core.specs.step.Stands.{Stands as GateStands}
+use Rattle.gate_core.specs.step.Stands.{GateStands}
 use Rattle.gate_history.proofs.lemmas.Lists.{Each}
 use Rattle.direct_run.specs.Known.{IsKnown}
 use Rattle.direct_run.specs.Packets.{both_caps, Found, read_by_host}

@@ -15,7 +15,7 @@ use Rattle.redir_data.specs.Sent.{sent_packet_bytes}
 use Rattle.gate_history.specs.write.Bytes.{client_bytes_of, host_bytes_of, gateway_hello, out_client, out_host}
 use Rattle.redir_wire.specs.Capability.{no_caps}
 use Rattle.gate_history.specs.Headline.{Gains}
-use Rattle.gate_core.specs.step.Stands.{TakesEvent as GateTakes, Stands as GateStands}
+use Rattle.gate_core.specs.step.Stands.{TakesEvent as GateTakes, GateStands}
 use Rattle.gate_history.proofs.lemmas.step.Events.{event-gives}
 use Rattle.model_device.specs.Meaning.{Meaning}
 use Rattle.redir_host.specs.step.Acts.{Act, guest_bytes}

@@ -3,7 +3,7 @@
 ghost use Rattle.std.specs.Prelude.{◌≡◌, ◌++◌, [], List as ListOf, Some, None, is_some, IfOk, IfErr, OnOk, IsErr, take, drop, true};
 ghost use Rattle.std.specs.List.{flat_map};
 ghost use Rattle.gate_history.specs.step.Events.{Event as PastEvent, HostPiece, event_of};
-ghost use Rattle.gate_core.specs.step.Stands.{Stands as GateStands};
+ghost use Rattle.gate_core.specs.step.Stands.{GateStands};
 ghost use Rattle.redir_host.specs.step.Acts.{Act, Piece, Perform, Offer, Unplug};
 ghost use Rattle.redir_host.specs.step.Stands.{HostStands};
 ghost use Rattle.direct_run.specs.Steps.{Step as PastStep, step_of};

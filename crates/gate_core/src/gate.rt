@@ -8,7 +8,7 @@ ghost use Rattle.gate_history.specs.step.History.{history, rest_length};
 ghost use Rattle.gate_history.specs.write.All.{counts_of};
 ghost use Rattle.gate_history.specs.write.Bytes.{out_host};
 ghost use Rattle.usb_base.specs.declared.limits.TheConstants.{LONGEST_CLIENT_PACKET, LONGEST_HOST_PACKET};
-ghost use Rattle.gate_core.specs.step.Stands.{Stands, StandsFor, TakesEvent, Stops, GateHasFailed};
+ghost use Rattle.gate_core.specs.step.Stands.{GateStands, StandsFor, TakesEvent, StopsInEvent, GateHasFailed};
 
 use crate::step::inner::Inner;
 use gate_history::{Counts, Event, Notes};
@@ -40,7 +40,7 @@ impl Gate {
     /// The gate to which nothing has happened. It appends its hello for the host. Ids are drawn from the first one on.
     pub fn make(alloc: Global, first_id: u64, to_host: &mut Bytes) -> Result<Gate, Memory>
         requires { (1 ≤ first_id) × (first_id ≤ u32.MAX) }
-        ensures made { IfOk result (λ gate. Stands first_id gate []) }
+        ensures made { IfOk result (λ gate. GateStands first_id gate []) }
         ensures sent { OnOk result (to_host.new ≡ to_host.old ++ out_host first_id []) }
         ensures err { OnErr result (to_host.new ≡ to_host.old) }
     {
@@ -59,10 +59,10 @@ impl Gate {
         to_client: &mut Bytes,
         to_host: &mut Bytes,
     ) -> Result<Notes, Memory>
-        ensures takes { IfOk result (λ notes. (first : ℕ) (past : List PastEvent) → Stands first self.old past
+        ensures takes { IfOk result (λ notes. (first : ℕ) (past : List PastEvent) → GateStands first self.old past
             → TakesEvent first self.new past (event_of event.entry) to_client.old to_client.new to_host.old to_host.new notes) }
-        ensures stops { OnErr result ((first : ℕ) (past : List PastEvent) → Stands first self.old past
-            → Stops first self.new past (event_of event.entry) to_client.old to_client.new to_host.old to_host.new) }
+        ensures stops { OnErr result ((first : ℕ) (past : List PastEvent) → GateStands first self.old past
+            → StopsInEvent first self.new past (event_of event.entry) to_client.old to_client.new to_host.old to_host.new) }
         ensures fails { OnErr result (GateHasFailed self.new) }
         ensures failed { GateHasFailed self.old → IsErr result × (self.new ≡ self.old)
             × (to_client.new ≡ to_client.old) × (to_host.new ≡ to_host.old) }
@@ -93,7 +93,7 @@ impl Gate {
 
     /// What has been counted.
     pub fn counts(&self) -> Counts
-        ensures all { (first : ℕ) (events : List PastEvent) → Stands first self.now events → result ≡ counts_of first (history first events) }
+        ensures all { (first : ℕ) (events : List PastEvent) → GateStands first self.now events → result ≡ counts_of first (history first events) }
         ensures items { (first : ℕ) (events : List PastEvent) (items : List PastItem) → StandsFor first self.now events items
             → result ≡ counts_of first (past first items) }
     {
@@ -108,11 +108,11 @@ impl Gate {
 
     /// The number of bytes that are held of packets that weren't taken.
     pub fn held(&self) -> u64
-        // Whatever happened: for want of memory `Stops` says of which packets they are.
+        // Whatever happened: for want of memory `StopsInEvent` says of which packets they are.
         ensures held { result ≡ length self.now.client.held + length self.now.host.held }
-        ensures all { (first : ℕ) (events : List PastEvent) → Stands first self.now events → result ≡ rest_length first events }
+        ensures all { (first : ℕ) (events : List PastEvent) → GateStands first self.now events → result ≡ rest_length first events }
         // Less than the longest packet of each side.
-        ensures few { (first : ℕ) (events : List PastEvent) → Stands first self.now events → result ≤ (LONGEST_CLIENT_PACKET - 1) + (LONGEST_HOST_PACKET - 1) }
+        ensures few { (first : ℕ) (events : List PastEvent) → GateStands first self.now events → result ≤ (LONGEST_CLIENT_PACKET - 1) + (LONGEST_HOST_PACKET - 1) }
     {
         (self.inner.client.held() + self.inner.host.held()) as u64
     }

@@ -22,7 +22,7 @@ pub struct Gateway {
 impl Served for Gateway {
     ghost use Rattle.std.specs.Prelude.{ℕ, is_some};
     ghost use Rattle.bridge_run.specs.declared.served.after_loss.AfterLoss.{AfterLoss as Setting};
-    ghost use Rattle.gate_core.specs.step.Stands.{Stands};
+    ghost use Rattle.gate_core.specs.step.Stands.{GateStands};
     ghost use Rattle.bridge_run.specs.served.Gate.{gate_event, gate_events, gate_sends};
     ghost use Rattle.bridge_run.specs.served.GateStops.{gate_runs_out};
 
@@ -31,7 +31,7 @@ impl Served for Gateway {
 
     ghost sends = { λ first. gate_sends first.0 first.1 };
 
-    ghost stands = { λ first gateway events. (gateway.after_loss ≡ first.0) × Stands first.1 gateway.gate (gate_events events) };
+    ghost stands = { λ first gateway events. (gateway.after_loss ≡ first.0) × GateStands first.1 gateway.gate (gate_events events) };
 
     ghost runs_out = { λ first. gate_runs_out first.1 };
 

@@ -4,7 +4,7 @@ ghost use Rattle.std.specs.Prelude.{◌≡◌, ◌++◌, ◌||◌, [], true, if�
 ghost use Rattle.std.specs.List.{flat_map, list_any};
 ghost use Rattle.redir_host.specs.step.Acts.{Act};
 ghost use Rattle.redir_host.specs.step.Machine.{is_refusal};
-ghost use Rattle.redir_host.specs.step.Stands.{DoesAct, HostStands, Stops};
+ghost use Rattle.redir_host.specs.step.Stands.{DoesAct, HostStands, StopsInAct};
 ghost use Rattle.usb_base.specs.declared.side.Side.TheVariants.{Client};
 ghost use Rattle.bridge_run.specs.events.Events.{SidePiece, event_of, is_quiet};
 ghost use Rattle.bridge_run.specs.served.Lent.{each, used, acts_behind, is_coming, refused_by, refusal_in};
@@ -174,7 +174,7 @@ fn use_endpoint<G: Gadget>(
     ensures does { OnOk result ((first : G) (past : ListOf Act) → HostStands G.meaning first core.old past
         → DoesAct G.meaning first core.new past (act_of how ep) out.old out.new) }
     ensures stops { OnErr result ((first : G) (past : ListOf Act) → HostStands G.meaning first core.old past
-        → Stops G.meaning first past (act_of how ep) out.old out.new) }
+        → StopsInAct G.meaning first past (act_of how ep) out.old out.new) }
 {
     match how {
         Use::Perform => {

@@ -3,7 +3,7 @@ use Rattle.std.specs.Prelude.{◌≡◌, List, ◌∷◌, ◌++◌}
 use Rattle.std.specs.List.{flat_map}
 use Rattle.gate_history.specs.step.Events.{Event}
 use Rattle.gate_history.specs.write.Notes.{notes_of}
-use Rattle.gate_core.specs.step.Stands.{Stands as GateStands}
+use Rattle.gate_core.specs.step.Stands.{GateStands}
 use Rattle.model_device.specs.Meaning.{Meaning}
 use Rattle.redir_host.specs.step.Acts.{Act}
 use Rattle.redir_host.specs.step.Stands.{HostStands}

@@ -84,7 +84,7 @@ pub record HasAll {S P : Type 0} (r : Reader S P Reason) (start : Position S) (k
   pub fits : AreBytes bytes
 
 -- the gate works, and stands for all items of these events
-pub record Stands (first : ℕ) (g : GateKept) (events : List Event) : Type 0 where
+pub record GateStands (first : ℕ) (g : GateKept) (events : List Event) : Type 0 where
   pub works : g.failed ≡ false
   pub translates : Translates first g.items (arrivals events)
   pub client : HasAll client_reader client_start g.client (client_bytes events) (asked (arrivals events)) (client_over (history first events))
@@ -92,7 +92,7 @@ pub record Stands (first : ℕ) (g : GateKept) (events : List Event) : Type 0 wh
 
 -- it stands for some events
 abbrev pub HasPast : GateKept → Type 0
-HasPast g = ∥ ((first : ℕ) × ((events : List Event) × Stands first g events)) ∥₁
+HasPast g = ∥ ((first : ℕ) × ((events : List Event) × GateStands first g events)) ∥₁
 
 abbrev pub IsReady : GateKept → Type 0
 IsReady g = g.failed ≡ false → HasPast g
@@ -100,12 +100,12 @@ IsReady g = g.failed ≡ false → HasPast g
 -- ---- one event more
 
 pub record TakesEvent (first : ℕ) (new : GateKept) (events : List Event) (e : Event) (client_old client_new host_old host_new : List ℕ) (notes : List Note) : Type 0 where
-  pub stands : Stands first new (e ∷ events)
+  pub stands : GateStands first new (e ∷ events)
   pub sends : EventSends first events e client_old client_new host_old host_new notes
 
 -- memory ran out within an event: the first of its items were taken, what they send was sent, and the gate stands for
 -- them; or not even its bytes have come
-pub record Stops (first : ℕ) (new : GateKept) (events : List Event) (e : Event) (client_old client_new host_old host_new : List ℕ) : Type 0 where
+pub record StopsInEvent (first : ℕ) (new : GateKept) (events : List Event) (e : Event) (client_old client_new host_old host_new : List ℕ) : Type 0 where
   pub taken : List Item
   pub later : List Item
   pub parts : brought events e ≡ taken ++ later

@@ -2,7 +2,7 @@
 
 ghost use Rattle.std.specs.Prelude.{◌≡◌, ◌≤◌, [], IfOk};
 ghost use Rattle.gate_history.specs.step.Events.{ClientPiece, ClientEnd, HostPiece, HostEnd};
-ghost use Rattle.gate_core.specs.step.Stands.{HasPast, Stands};
+ghost use Rattle.gate_core.specs.step.Stands.{HasPast, GateStands};
 ghost use Rattle.gate_core.specs.inner.step.Steps.{TakesEvent, kept_of};
 
 use crate::step::taker::ItemTaker;
@@ -31,7 +31,7 @@ impl Inner {
     /// The gate to which nothing has happened.
     pub fn make(alloc: Global, first_id: u64) -> Result<Inner, Memory>
         requires { 1 ≤ first_id }
-        ensures { IfOk result (λ gate. Stands first_id (kept_of gate) []) }
+        ensures { IfOk result (λ gate. GateStands first_id (kept_of gate) []) }
     {
         Ok(Inner {
             alloc,

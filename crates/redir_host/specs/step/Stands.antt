@@ -71,7 +71,7 @@ pub record TakesAct {S : Type 0} (m : Meaning S) (s : S) (new : HostKept S) (act
 
 -- memory ran out within an act: the first of its items were taken, what they send was sent, and it was wanted for what
 -- is left
-pub record Stops {S : Type 0} (m : Meaning S) (s : S) (acts : List Act) (a : Act) (old_out new_out : List ℕ) : Type 0 where
+pub record StopsInAct {S : Type 0} (m : Meaning S) (s : S) (acts : List Act) (a : Act) (old_out new_out : List ℕ) : Type 0 where
   pub taken : List Item
   pub later : List Item
   pub parts : brought acts a ≡ taken ++ later
@@ -93,4 +93,4 @@ TakesPiece {S = S} m piece old new old_out new_out old_notes new_notes =
     (s : S) (acts : List Act) → HostStands m s old acts → TakesAct m s new acts (Piece piece) old_out new_out old_notes new_notes
 
 abbrev pub StopsIn : {S : Type 0} → Meaning S → Act → HostKept S → List ℕ → List ℕ → Type 0
-StopsIn {S = S} m a old old_out new_out = (s : S) (acts : List Act) → HostStands m s old acts → Stops m s acts a old_out new_out
+StopsIn {S = S} m a old old_out new_out = (s : S) (acts : List Act) → HostStands m s old acts → StopsInAct m s acts a old_out new_out

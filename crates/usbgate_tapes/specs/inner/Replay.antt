@@ -2,14 +2,14 @@
 use Rattle.std.specs.Prelude.{◌≡◌, ℕ, List, [], ◌∷◌, ◌++◌}
 use Rattle.gate_history.specs.step.Events.{Event}
 use Rattle.gate_history.specs.step.History.{history}
-use Rattle.gate_core.specs.step.Stands.{Stands}
+use Rattle.gate_core.specs.step.Stands.{GateStands}
 use Rattle.usbgate_tapes.specs.declared.replay.Replay.{Replay}
 use Rattle.usbgate_tapes.specs.Text.{event_text}
 use Rattle.usbgate_tapes.specs.tape.EventCommand.{EventCommand}
 use Rattle.usbgate_tapes.specs.Replay.{has_refusal, replay}
 
 pub record HasReplayed (first : ℕ) (r : Replay) (events : List Event) : Type 0 where
-  pub gate : Stands first r.gate events
+  pub gate : GateStands first r.gate events
   pub to_client : r.to_client ≡ []
   pub to_host : r.to_host ≡ []
   pub refused : r.refused ≡ has_refusal (history first events)

@@ -19,7 +19,7 @@ use Rattle.gate_history.specs.Headline.{client_output, host_output, notes as tol
 use Rattle.gate_history.specs.declared.note.Note.{Note}
 use Rattle.packet_stream.proofs.Pieces.{onto-append}
 use Rattle.gate_core.specs.state.Kept.{GateKept}
-use Rattle.gate_core.specs.step.Stands.{Stops, TakesEvent}
+use Rattle.gate_core.specs.step.Stands.{StopsInEvent, TakesEvent}
 use Rattle.bridge_run.specs.declared.served.after_loss.AfterLoss.{AfterLoss}
 use Rattle.bridge_run.specs.declared.events.sent.Sent.{Sent}
 use Rattle.bridge_run.specs.events.Events.{LinkEvent}
@@ -86,7 +86,7 @@ stops-at : (first : ℕ) (events : List LinkEvent) (e : LinkEvent) (ge : GateEve
 stops-at first events e ge client host is x = subst (λ (o : Option GateEvent). IsSomeAnd o (λ it. GateStops first (gate_events events) it client host)) (sym is) x
 
 pub gate-stops : (setting : AfterLoss) (first : ℕ) (events : List LinkEvent) (e : LinkEvent) (ge : GateEvent) (kept : GateKept) (old new : Sent) → gate_event e ≡ Some ge
-    → Stops first kept (gate_events events) ge old.to_client new.to_client old.to_host new.to_host → SendsPart (gate_runs_out first) (gate_sends setting first) events e old new
+    → StopsInEvent first kept (gate_events events) ge old.to_client new.to_client old.to_host new.to_host → SendsPart (gate_runs_out first) (gate_sends setting first) events e old new
 gate-stops setting first events e ge kept old new is x =
     let before = arrivals (gate_events events) in
     let came : gate_events (e ∷ events) ≡ ge ∷ gate_events events = ap (λ (o : Option GateEvent). cons_option o (gate_events events)) is in

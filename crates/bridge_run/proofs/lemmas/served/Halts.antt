@@ -10,7 +10,7 @@ use Rattle.redir_host.specs.declared.write.note.HostNote.{HostNote}
 use Rattle.redir_host.specs.step.Acts.{Act, Piece}
 use Rattle.redir_host.specs.step.Machine.{bytes_of, given_by, is_refusal, steps}
 use Rattle.redir_host.specs.write.Output.{host_of, host_out, act_bytes}
-use Rattle.redir_host.specs.step.Stands.{Stops, TakesAct}
+use Rattle.redir_host.specs.step.Stands.{StopsInAct, TakesAct}
 use Rattle.redir_host.proofs.lemmas.step.Acts.{act-out, given-append}
 use Rattle.bridge_run.specs.declared.served.lent.Lent.{Lent}
 use Rattle.bridge_run.specs.declared.served.lent.Use.{Use}
@@ -75,7 +75,7 @@ stop-then m s k past mid acts all old out new a x longer =
 
 -- ---- each endpoint
 
-pub stop-endpoint : {S : Type 0} (how : Use) (m : Meaning S) (s : S) (j : Core S) (past : List Act) (all left : List ℕ) (ep : ℕ) (rest old out new : List ℕ) → left ≡ ep ∷ rest → (x : Midway (act_of how) m s j past all left old out) → Stops m s x.acts (act_of how ep) out new
+pub stop-endpoint : {S : Type 0} (how : Use) (m : Meaning S) (s : S) (j : Core S) (past : List Act) (all left : List ℕ) (ep : ℕ) (rest old out new : List ℕ) → left ≡ ep ∷ rest → (x : Midway (act_of how) m s j past all left old out) → StopsInAct m s x.acts (act_of how ep) out new
     → StopsIn m s past (each (act_of how) all past) old new
 stop-endpoint how m s j past all left ep rest old out new is x z =
     let later = each-more (act_of how) rest (act_of how ep ∷ x.acts) in
@@ -119,7 +119,7 @@ behind-more true acts = ([], refl)
 behind-more false acts = used-more acts
 
 -- memory ran out within the piece
-pub stop-piece : {S : Type 0} (m : Meaning S) (s : S) (past : List Act) (b old new : List ℕ) (refusals : List Refusal) → Stops m s past (Piece b) old new → Halts m s past (acts_behind m s past (SidePiece Client b)) refusals old new
+pub stop-piece : {S : Type 0} (m : Meaning S) (s : S) (past : List Act) (b old new : List ℕ) (refusals : List Refusal) → StopsInAct m s past (Piece b) old new → Halts m s past (acts_behind m s past (SidePiece Client b)) refusals old new
 stop-piece m s past b old new refusals x =
     let later = behind-more (has_any (refused_by m s past (SidePiece Client b))) (Piece b ∷ past) in
     inl (record {

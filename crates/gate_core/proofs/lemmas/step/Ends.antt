@@ -22,7 +22,7 @@ use Rattle.gate_history.specs.state.State.{state_of}
 use Rattle.gate_history.specs.step.Past.{is_left_out, past}
 use Rattle.gate_history.specs.step.History.{brought, arrivals}
 use Rattle.gate_history.specs.step.Came.{asked, told}
-use Rattle.gate_core.specs.step.Stands.{HasAll, Stands, Stops}
+use Rattle.gate_core.specs.step.Stands.{HasAll, GateStands, StopsInEvent}
 use Rattle.gate_history.specs.step.Wants.{FirstWants}
 use Rattle.gate_core.specs.inner.state.Holds.{IsFirst, DoesNothing}
 use Rattle.gate_core.specs.inner.step.Steps.{kept_of, TakesOn}
@@ -69,7 +69,7 @@ host-first : (kept : StreamView RedirState) → kept ≡ record { state = start;
 host-first kept is = all-first (stream_format ToGuest) after (stream_sound ToGuest) start kept refl is
 
 pub stands-first : (first : ℕ) (g : Inner) → g.want ≡ None → IsFirst g.translator first → g.client ≡ record { state = tt; rest = []; place = 0; held = []; at = 0; over = false } →
-    g.host ≡ record { state = start; rest = []; place = 0; held = []; at = 0; over = false } → Stands first (kept_of g) []
+    g.host ≡ record { state = start; rest = []; place = 0; held = []; at = 0; over = false } → GateStands first (kept_of g) []
 stands-first first g works translator client host = record {
   works = ap is_some works;
   translates = record { state = translator.holds; answered = translator.answered; unlinked = translator.unlinked; dropped = translator.dropped };
@@ -79,7 +79,7 @@ stands-first first g works translator client host = record {
 
 -- ---- a client's end
 
-pub ends-client : (first : ℕ) (old : Inner) (t : Kept) (kept : StreamView (Unit {0})) (events : List Event) (out_old out_new : Outputs) → Stands first (kept_of old) events →
+pub ends-client : (first : ℕ) (old : Inner) (t : Kept) (kept : StreamView (Unit {0})) (events : List Event) (out_old out_new : Outputs) → GateStands first (kept_of old) events →
     TakesItem old.translator t ClientLeft out_old out_new → kept ≡ record { state = tt; rest = []; place = 0; held = []; at = 0; over = false } →
     TakesOn first (record old { client = kept; translator = t }) events ClientEnd out_old out_new
 ends-client first old t kept events out_old out_new stands takes is =
@@ -99,7 +99,7 @@ ends-client first old t kept events out_old out_new stands takes is =
 -- ---- the host's end
 
 -- it was over before
-pub ends-again : (first : ℕ) (g : Inner) (events : List Event) (out : Outputs) → Stands first (kept_of g) events → g.host.over ≡ true → TakesOn first g events HostEnd out out
+pub ends-again : (first : ℕ) (g : Inner) (events : List Event) (out : Outputs) → GateStands first (kept_of g) events → g.host.over ≡ true → TakesOn first g events HostEnd out out
 ends-again first g events out stands over =
     let xs = arrivals events in
     let ended : host_over (past first xs) ≡ true = sym stands.host.over_is ∙ over in
@@ -114,7 +114,7 @@ ends-again first g events out stands over =
       sends = sends-past first out out xs xs (HostLeft ∷ xs) same (sends-none first out xs);
     }
 
-pub ends-host : (first : ℕ) (old : Inner) (t : Kept) (kept : StreamView RedirState) (events : List Event) (out_old out_new : Outputs) → Stands first (kept_of old) events →
+pub ends-host : (first : ℕ) (old : Inner) (t : Kept) (kept : StreamView RedirState) (events : List Event) (out_old out_new : Outputs) → GateStands first (kept_of old) events →
     old.host.over ≡ false → TakesItem old.translator t HostLeft out_old out_new → kept ≡ ended old.host →
     TakesOn first (record old { host = kept; translator = t }) events HostEnd out_old out_new
 ends-host first old t kept events out_old out_new stands runs takes is =
@@ -143,7 +143,7 @@ ends-host first old t kept events out_old out_new stands runs takes is =
 
 -- ---- memory ran out for an end
 
-pub stops-end : (first : ℕ) (old : Inner) (t : Kept) (events : List Event) (e : Event) (out_old out_new : Outputs) → Stands first (kept_of old) events →
-    DoesNothing old.translator t out_old out_new → FirstWants first (arrivals events) (brought events e) → Stops first (kept_of (record old { translator = t })) events e out_old.to_client out_new.to_client out_old.to_host out_new.to_host
+pub stops-end : (first : ℕ) (old : Inner) (t : Kept) (events : List Event) (e : Event) (out_old out_new : Outputs) → GateStands first (kept_of old) events →
+    DoesNothing old.translator t out_old out_new → FirstWants first (arrivals events) (brought events e) → StopsInEvent first (kept_of (record old { translator = t })) events e out_old.to_client out_new.to_client out_old.to_host out_new.to_host
 stops-end first old t events e out_old out_new stands nothing wants =
     stops-still first old t events e out_old out_new nothing (stops-before first old events e out_old.to_client out_old.to_host (stands-for first old events stands) (inr wants))

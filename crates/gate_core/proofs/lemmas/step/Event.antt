@@ -22,7 +22,7 @@ use Rattle.redir_data.specs.Streams.{stream_start}
 use Rattle.gate_history.specs.step.Streams.{client_reader, client_start, host_reader}
 use Rattle.gate_history.specs.step.History.{brought, arrivals, history}
 use Rattle.gate_history.specs.step.Came.{asked, told}
-use Rattle.gate_core.specs.step.Stands.{IsLeftBy, StreamStands, StandsFor, HasAll, Stands, Stops, HasPast}
+use Rattle.gate_core.specs.step.Stands.{IsLeftBy, StreamStands, StandsFor, HasAll, GateStands, StopsInEvent, HasPast}
 use Rattle.gate_history.specs.step.Wants.{IsHeld, FirstWants}
 use Rattle.gate_core.specs.inner.state.Holds.{DoesNothing}
 use Rattle.gate_core.specs.inner.step.Steps.{kept_of, TakesEvent}
@@ -52,13 +52,13 @@ stands-all r steady start kept bytes given over all = record {
 }
 
 pub err-event : (r : Result (Unit {0}) Memory) (old new : Inner) (e : Event) (out_old out_new : Outputs) → IsErr r →
-    ((first : ℕ) (events : List Event) → Stands first (kept_of old) events → Stops first (kept_of new) events e out_old.to_client out_new.to_client out_old.to_host out_new.to_host) → TakesEvent r old new e out_old out_new
+    ((first : ℕ) (events : List Event) → GateStands first (kept_of old) events → StopsInEvent first (kept_of new) events e out_old.to_client out_new.to_client out_old.to_host out_new.to_host) → TakesEvent r old new e out_old out_new
 err-event (Ok v) old new e out_old out_new is stops = absurd (true≢false (sym is))
 err-event (Err memory) old new e out_old out_new is stops = stops
 
 -- before anything of an event has come
 pub stops-before : (first : ℕ) (new : Inner) (events : List Event) (e : Event) (client host : List ℕ) → StandsFor first (kept_of new) events (arrivals events) →
-    IsHeld first events e ⊎ FirstWants first (arrivals events) (brought events e) → Stops first (kept_of new) events e client client host host
+    IsHeld first events e ⊎ FirstWants first (arrivals events) (brought events e) → StopsInEvent first (kept_of new) events e client client host host
 stops-before first new events e client host for wanted = record {
   taken = [];
   later = brought events e;
@@ -75,7 +75,7 @@ stops-before first new events e client host for wanted = record {
 }
 
 -- all of an event was taken, but not so that it can be told
-pub stands-for : (first : ℕ) (g : Inner) (events : List Event) → Stands first (kept_of g) events → StandsFor first (kept_of g) events (arrivals events)
+pub stands-for : (first : ℕ) (g : Inner) (events : List Event) → GateStands first (kept_of g) events → StandsFor first (kept_of g) events (arrivals events)
 stands-for first g events stands = record {
   translates = stands.translates;
   client = stands-all client_reader client-steady client_start g.client (client_bytes events) (asked (arrivals events)) (client_over (history first events)) stands.client;
@@ -84,11 +84,11 @@ stands-for first g events stands = record {
 
 -- for want of memory the translator has changed nothing
 pub stops-still : (first : ℕ) (old : Inner) (t : Kept) (events : List Event) (e : Event) (out_old out_new : Outputs) →
-    DoesNothing old.translator t out_old out_new → Stops first (kept_of old) events e out_old.to_client out_old.to_client out_old.to_host out_old.to_host →
-    Stops first (kept_of (record old { translator = t })) events e out_old.to_client out_new.to_client out_old.to_host out_new.to_host
+    DoesNothing old.translator t out_old out_new → StopsInEvent first (kept_of old) events e out_old.to_client out_old.to_client out_old.to_host out_old.to_host →
+    StopsInEvent first (kept_of (record old { translator = t })) events e out_old.to_client out_new.to_client out_old.to_host out_new.to_host
 stops-still first old t events e out_old out_new nothing stops =
-    subst (λ (x : Kept). Stops first (kept_of (record old { translator = x })) events e out_old.to_client out_new.to_client out_old.to_host out_new.to_host) (sym nothing.same)
-    (subst (λ (o : Outputs). Stops first (kept_of old) events e out_old.to_client o.to_client out_old.to_host o.to_host) (sym nothing.outputs) stops)
+    subst (λ (x : Kept). StopsInEvent first (kept_of (record old { translator = x })) events e out_old.to_client out_new.to_client out_old.to_host out_new.to_host) (sym nothing.same)
+    (subst (λ (o : Outputs). StopsInEvent first (kept_of old) events e out_old.to_client o.to_client out_old.to_host o.to_host) (sym nothing.outputs) stops)
 
 -- ---- a piece of either side
 
@@ -128,7 +128,7 @@ module _ {S P T Q : Type 0} (first : ℕ) (own : Half S P) (other : Half T Q) (s
 
 -- the event was taken up to an item that memory ran out for
 halted-event : {S P : Type 0} (first : ℕ) (own : Half S P) (new : StreamView S) (t : Kept) (g : Inner) (events : List Event) (e : Event) (bytes piece : List ℕ) (out_old out_new : Outputs) → brought events e ≡ added (items own.stream) bytes piece →
-    (h : Halted first own new t bytes piece (arrivals events) out_old out_new) → StandsFor first (kept_of g) (e ∷ events) (onto h.taken (arrivals events)) → Stops first (kept_of g) events e out_old.to_client out_new.to_client out_old.to_host out_new.to_host
+    (h : Halted first own new t bytes piece (arrivals events) out_old out_new) → StandsFor first (kept_of g) (e ∷ events) (onto h.taken (arrivals events)) → StopsInEvent first (kept_of g) events e out_old.to_client out_new.to_client out_old.to_host out_new.to_host
 halted-event first own new t g events e bytes piece out_old out_new brings h stands = record {
   taken = h.taken;
   later = h.next ∷ h.behind;

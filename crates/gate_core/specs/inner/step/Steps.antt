@@ -14,7 +14,7 @@ use Rattle.gate_history.specs.write.Notes.{notes_of}
 use Rattle.gate_history.specs.write.All.{all_of}
 use Rattle.gate_history.specs.write.Bytes.{out_client, out_host}
 use Rattle.gate_core.specs.state.Kept.{GateKept}
-use Rattle.gate_core.specs.step.Stands.{Stands, Stops}
+use Rattle.gate_core.specs.step.Stands.{GateStands, StopsInEvent}
 use Rattle.gate_history.specs.Headline.{Gains}
 
 -- what the gate keeps, without its streams' allocator
@@ -33,12 +33,12 @@ pub record SendsItems (first : ℕ) (out_old out_new : Outputs) (h k : List Item
   pub told : Gains out_old.notes out_new.notes (all_of notes_of first (past first h)) (all_of notes_of first (past first k))
 
 pub record TakesOn (first : ℕ) (new : Inner) (events : List Event) (e : Event) (out_old out_new : Outputs) : Type 0 where
-  pub stands : Stands first (kept_of new) (e ∷ events)
+  pub stands : GateStands first (kept_of new) (e ∷ events)
   pub sends : SendsItems first out_old out_new (arrivals events) (arrivals (e ∷ events))
 
 -- whatever has come: the event was taken, or memory ran out
 abbrev pub TakesEvent : Result (Unit {0}) Memory → Inner → Inner → Event → Outputs → Outputs → Type 0
 TakesEvent (Ok v) old new e out_old out_new =
-    (first : ℕ) (events : List Event) → Stands first (kept_of old) events → TakesOn first new events e out_old out_new
+    (first : ℕ) (events : List Event) → GateStands first (kept_of old) events → TakesOn first new events e out_old out_new
 TakesEvent (Err memory) old new e out_old out_new =
-    (first : ℕ) (events : List Event) → Stands first (kept_of old) events → Stops first (kept_of new) events e out_old.to_client out_new.to_client out_old.to_host out_new.to_host
+    (first : ℕ) (events : List Event) → GateStands first (kept_of old) events → StopsInEvent first (kept_of new) events e out_old.to_client out_new.to_client out_old.to_host out_new.to_host

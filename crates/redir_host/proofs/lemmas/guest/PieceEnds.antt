@@ -29,7 +29,7 @@ use Rattle.redir_host.specs.guest.Guest.{guest_reader, guest_split, guest_items}
 use Rattle.redir_host.specs.step.History.{history}
 use Rattle.redir_host.specs.step.Items.{Item, Asked, Wrong}
 use Rattle.redir_host.specs.step.Machine.{all_given, bytes_of, notes_of, steps}
-use Rattle.redir_host.specs.step.Stands.{told_state, IsReadBy, HostStands, TakesAct, Stops, TakesPiece, StopsIn}
+use Rattle.redir_host.specs.step.Stands.{told_state, IsReadBy, HostStands, TakesAct, StopsInAct, TakesPiece, StopsIn}
 use Rattle.redir_host.specs.step.Wants.{HostWants, takes_memory}
 use Rattle.redir_host.proofs.lemmas.guest.Pieces.{Found, HasTaken, IsBefore, IsGoing, IsWithin, IsWithinBy, guest_stream, asked, guest_taking, going-at, within, host-all, given-all, read-given, sent_of}
 
@@ -96,7 +96,7 @@ takes-act m s failed old new acts piece are stands d =
 
 -- to hold the piece
 stops-unput : {S : Type 0} (m : Meaning S) (s : S) (failed : Bool) (old new : TakenStream RedirState (GuestTaker S)) (acts : List Act) (piece : List ℕ) → HostStands m s (core_of failed old) acts → IsUnput old new piece →
-    Stops m s acts (Piece piece) old.taker.out.now new.taker.out.now
+    StopsInAct m s acts (Piece piece) old.taker.out.now new.taker.out.now
 stops-unput {S = S} m s failed old new acts piece stands unput =
     let x = guest_split (guest_bytes acts) in
     let d : Drained old.stream x x.packets = subst (IsReadBy old.stream x) unput.some.1 stands.stream.read in
@@ -114,7 +114,7 @@ asks-memory header (Plain p) takes = takes
 asks-memory header (Carrying p) takes = takes
 
 stops-next : {S : Type 0} (m : Meaning S) (s : S) (failed : Bool) (old last : TakenStream RedirState (GuestTaker S)) (acts : List Act) (piece out : List ℕ) (next : Item) (behind : List Item) → HostStands m s (core_of failed old) acts →
-    (g : IsGoing m (guest_bytes acts) piece old.taker last) → added guest_items (guest_bytes acts) piece ≡ map asked g.more ++ next ∷ behind → out ≡ last.taker.out.now → HostWants m last.taker.host.now next → Stops m s acts (Piece piece) old.taker.out.now out
+    (g : IsGoing m (guest_bytes acts) piece old.taker last) → added guest_items (guest_bytes acts) piece ≡ map asked g.more ++ next ∷ behind → out ≡ last.taker.out.now → HostWants m last.taker.host.now next → StopsInAct m s acts (Piece piece) old.taker.out.now out
 stops-next {S = S} m s failed old last acts piece out next behind stands g parts cut wants =
     let xs = map asked g.more in
     record {
@@ -126,7 +126,7 @@ stops-next {S = S} m s failed old last acts piece out next behind stands g parts
     }
 
 stops-by : {S : Type 0} (m : Meaning S) (s : S) (failed : Bool) (old last : TakenStream RedirState (GuestTaker S)) (new : Stream RedirState) (t : GuestTaker S) (acts : List Act) (piece : List ℕ) (memory : NoMemory) (answer : Result (Option Found) ReadError) →
-    HostStands m s (core_of failed old) acts → IsWithin m (guest_bytes acts) piece old.taker last → Changes answer last.stream new → Nexts guest_reader redir_takes_memory answer last.stream new → TakesAnswer (guest_taking m) answer (Err memory) last.taker t → Stops m s acts (Piece piece) old.taker.out.now t.out.now
+    HostStands m s (core_of failed old) acts → IsWithin m (guest_bytes acts) piece old.taker last → Changes answer last.stream new → Nexts guest_reader redir_takes_memory answer last.stream new → TakesAnswer (guest_taking m) answer (Err memory) last.taker t → StopsInAct m s acts (Piece piece) old.taker.out.now t.out.now
 stops-by m s failed old last new t acts piece memory (Ok None) stands w changes nexts takes = absurd takes
 stops-by m s failed old last new t acts piece memory (Ok (Some i)) stands w changes nexts takes =
     let bytes = guest_bytes acts in
@@ -170,7 +170,7 @@ pub piece-err : {S : Type 0} (m : Meaning S) → IsGadget m → (failed : Bool) 
 piece-err m lawful failed (Ok v) old new piece out are o takes = tt
 piece-err {S = S} m lawful failed (Err memory) old new piece out are o takes =
     λ (s : S) (acts : List Act) (stands : HostStands m s (core_of failed old) acts).
-    subst (λ (bytes : List ℕ). Stops m s acts (Piece piece) old.taker.out.now bytes) (sym o) (elim takes [
+    subst (λ (bytes : List ℕ). StopsInAct m s acts (Piece piece) old.taker.out.now bytes) (sym o) (elim takes [
       | inl unput ↦ stops-unput m s failed old new acts piece stands unput
       | inr w ↦ stops-by m s failed old w.0 new.stream new.taker acts piece memory w.1.1.answer stands
           (within m lawful old.stream old.taker w.0 (guest_bytes acts) piece are (before m s (core_of failed old) acts stands) w.1.0) w.1.1.changes w.1.1.nexts w.1.1.takes

@@ -33,7 +33,7 @@ use Rattle.redir_host.specs.step.History.{brought}
 use Rattle.redir_host.specs.step.Items.{Item}
 use Rattle.redir_host.specs.step.Machine.{move}
 use Rattle.redir_host.specs.step.Moves.{Move, quiet, behind}
-use Rattle.redir_host.specs.step.Stands.{Stops}
+use Rattle.redir_host.specs.step.Stands.{StopsInAct}
 use Rattle.redir_host.specs.step.Wants.{GivesSome}
 use Rattle.redir_host.specs.write.Answers.{answer}
 use Rattle.redir_host.specs.write.Output.{host_of}
@@ -210,7 +210,7 @@ on_ok_given {T = T} {E = E} {P = P} {Q = Q} {R = R} r given same f p q = subst (
     by (Err e) p q = tt
 
 pub stops-one : {S : Type 0} (m : Meaning S) (s : S) (acts : List Act) (a : Act) (x : Item) (h : Host S) (old_out new_out : List ℕ) → brought acts a ≡ x ∷ [] → h ≡ host_of m s acts → GivesSome h (move m h x) → new_out ≡ old_out
-    → Stops m s acts a old_out new_out
+    → StopsInAct m s acts a old_out new_out
 stops-one {S = S} m s acts a x h old_out new_out is host gives same =
     let Says : Host S → Type 0 = λ g. GivesSome g (move m g x) in
     record {

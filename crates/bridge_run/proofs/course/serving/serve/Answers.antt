@@ -1,6 +1,6 @@
 use Rattle.std.proofs.Common.{◌≡◌, ℕ, true, List, [], ◌++◌, Err, refl, sym, ◌∙◌, ap, subst}
 use Rattle.gate_history.specs.write.Bytes.{out_host}
-use Rattle.gate_core.specs.step.Stands.{Stands}
+use Rattle.gate_core.specs.step.Stands.{GateStands}
 use Rattle.bridge_run.specs.course.Course.{Setting, Making, AtDoor}
 use Rattle.bridge_run.specs.course.Calls.{Goes, make}
 use Rattle.bridge_run.specs.course.Outside.{outside, HasReason, gathering, written, faults}
@@ -45,13 +45,13 @@ returns-clause-leaves g c = λ k b t.
     let ends = outside (g.D.Doors.link c.run.new.doors) (g.D.Doors.door c.run.new.doors) in
     let out = written (g.K.Sink.contents c.args.out.now) (g.K.Sink.contents c.args.out.now) (g.T.Tape.contents c.args.tape.now) in
     let core = c.new-session.result.core in
-    let stands : List LinkEvent → Type 0 = λ events. (core.after_loss ≡ c.args.after_loss) × Stands first core.gate (gate_events events) in
+    let stands : List LinkEvent → Type 0 = λ events. (core.after_loss ≡ c.args.after_loss) × GateStands first core.gate (gate_events events) in
     let tells = c.in_default.ensures.course p k out (c.as_slice.ensures ∙ c.in-Ok.ensures.sent ∙ ap (λ (l : List ℕ). l ++ out_host first []) c.new-hello.ensures) b.client_down t in
     leaves-then c.run.result (gate_runs_out first) s (Goes Making k) AtDoor (make p k) ends (written (g.K.Sink.contents c.args.out.now) (g.K.Sink.contents c.run.new.out) (g.T.Tape.contents c.run.new.tape))
     (reaches-call s (Goes Making k) Making k (Goes AtDoor (make p k)) (reaches-none s (Goes Making k)) refl)
     (subst (λ (q : Rounds). IsServing stands p q w (gathering (g.K.Sink.contents c.args.out.now) (g.K.Sink.contents c.args.out.now) (g.T.Tape.contents c.args.tape.now) c.new-session.result.waiting) (make p k) → Leaves c.run.result (gate_runs_out first) (setting p q) (Goes AtDoor (make p k)) ends (written (g.K.Sink.contents c.args.out.now) (g.K.Sink.contents c.run.new.out) (g.T.Tape.contents c.run.new.tape))) (c.new-session.ensures.rounds ∙ ap (λ (q : Rounds). record q { host_up = true }) c.new.ensures) (c.run.ensures.course (c.args.after_loss, first) (g.K.Sink.contents c.args.out.now) (make p k))
     (subst (λ (l : List ℕ). IsServing stands p (record (begun c.args.idle c.args.budget) { host_up = true }) w (gathering (g.K.Sink.contents c.args.out.now) (g.K.Sink.contents c.args.out.now) (g.T.Tape.contents c.args.tape.now) l) (make p k)) (sym c.new-session.ensures.waiting)
-    (begun-follows stands p c.args.idle c.args.budget w out k b (subst (λ (x : Gateway). (x.after_loss ≡ c.args.after_loss) × Stands first x.gate (gate_events [])) (sym c.new-session.ensures.core) (refl, c.in-Ok.ensures.made)) refl tells)))
+    (begun-follows stands p c.args.idle c.args.budget w out k b (subst (λ (x : Gateway). (x.after_loss ≡ c.args.after_loss) × GateStands first x.gate (gate_events [])) (sym c.new-session.ensures.core) (refl, c.in-Ok.ensures.made)) refl tells)))
 
 pub returns-clause-cause : goal.returns-clause-cause
 returns-clause-cause g c =
@@ -87,10 +87,10 @@ returns-clause-log g c =
     let first = c.args.first_id in
     let p = gate_sends c.args.after_loss first in
     let core = c.new-session.result.core in
-    let stands : List LinkEvent → Type 0 = λ events. (core.after_loss ≡ c.args.after_loss) × Stands first core.gate (gate_events events) in
+    let stands : List LinkEvent → Type 0 = λ events. (core.after_loss ≡ c.args.after_loss) × GateStands first core.gate (gate_events events) in
     let tells = Told g.K.Sink.write_gives c.args.out.now c.args.out.now in
     c.run.ensures.log (c.args.after_loss, first) (with_host c.args.host.now c.args.listen.now (g.T.Tape.made c.args.tape.now) c.args.idle c.args.budget) c.args.doors.now c.args.out.now refl
     (opened-at g.D.Doors.call_gives stands tells c.args.host.now c.args.listen.now (g.T.Tape.made c.args.tape.now) c.args.idle c.args.budget p c.new-session.result.rounds c.args.doors.now c.open.new.doors
     (c.in_default.ensures.log (g.T.Tape.made c.args.tape.now) c.args.idle c.args.budget p (c.as_slice.ensures ∙ c.in-Ok.ensures.sent ∙ ap (λ (l : List ℕ). l ++ out_host first []) c.new-hello.ensures))
-    (subst (λ (x : Gateway). (x.after_loss ≡ c.args.after_loss) × Stands first x.gate (gate_events [])) (sym c.new-session.ensures.core) (refl, c.in-Ok.ensures.made))
+    (subst (λ (x : Gateway). (x.after_loss ≡ c.args.after_loss) × GateStands first x.gate (gate_events [])) (sym c.new-session.ensures.core) (refl, c.in-Ok.ensures.made))
     (told-none g.K.Sink.write_gives c.args.out.now) refl c.requires.idle c.requires.budget (c.new-session.ensures.rounds ∙ ap (λ (q : Rounds). record q { host_up = true }) c.new.ensures))

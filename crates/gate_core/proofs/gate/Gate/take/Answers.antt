@@ -6,7 +6,7 @@ use Rattle.gate_history.specs.Headline.{notes}
 use Rattle.gate_parts.specs.declared.write.outputs.Outputs.{Outputs}
 use Rattle.gate_core.specs.state.Kept.{GateKept}
 use Rattle.gate_core.specs.inner.step.Steps.{kept_of, TakesEvent}
-use Rattle.gate_core.specs.step.Stands.{HasPast, Stands}
+use Rattle.gate_core.specs.step.Stands.{HasPast, GateStands}
 use Rattle.gate_core.proofs.gate.Gate.take.Goals.{After-swap-2, Joined-event, in-ClientPiece, in-ClientEnd, in-HostPiece, in-HostEnd}
 use Rattle.gate_core.proofs.gate.Gate.take.Goals as goal
 
@@ -50,7 +50,7 @@ invariant_of-self c works =
 pub returns-in-Ok-clause-takes : goal.returns-in-Ok-clause-takes
 returns-in-Ok-clause-takes c first past stands =
     let on = rw c.in-Ok.is at (took (goal.at.returns-in-Ok-clause-takes c).Joined-event) in
-    let t = on first past (subst (λ (k : GateKept). Stands first k past) (sym c.self.view_is) stands) in
+    let t = on first past (subst (λ (k : GateKept). GateStands first k past) (sym c.self.view_is) stands) in
     record {
       stands = t.stands;
       sends = record {
@@ -63,5 +63,5 @@ returns-in-Ok-clause-takes c first past stands =
 pub returns-in-Err-clause-stops : goal.returns-in-Err-clause-stops
 returns-in-Err-clause-stops c first past stands =
     let on = rw c.in-Err.is at (took (goal.at.returns-in-Err-clause-stops c).Joined-event) in
-    let t = on first past (subst (λ (k : GateKept). Stands first k past) (sym c.self.view_is) stands) in
+    let t = on first past (subst (λ (k : GateKept). GateStands first k past) (sym c.self.view_is) stands) in
     search (rules, t)
