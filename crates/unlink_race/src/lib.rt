@@ -5,6 +5,7 @@
 mod by_number;
 mod ending;
 mod index;
+mod iter;
 mod keys;
 mod live;
 mod lives;
@@ -14,6 +15,7 @@ mod table;
 mod unlink;
 
 pub use ending::{Ending, ending_of};
+pub use iter::Iter;
 pub use live::{Live, LiveKind, StreamEnd};
 pub use lives::{Lives, NotAccepted};
 pub use unlink::{AskedBack, UnlinkTold};

@@ -12,6 +12,7 @@ ghost use Rattle.unlink_race.specs.Requests.{no_requests, in_flight, without_at,
 ghost use Rattle.unlink_race.specs.Accepting.{refusal_of};
 ghost use Rattle.unlink_race.specs.Unlinking.{told_of, left_by, unlinked_by};
 
+use crate::iter::Iter;
 use crate::live::{Live, StreamEnd};
 use crate::table::Table;
 use crate::unlink::{UnlinkTold, unlink};
@@ -149,6 +150,17 @@ impl Lives {
     {
         self.client_gone = false;
         self.table.push(live);
+    }
+
+    /// The live requests, in order of acceptance.
+    pub fn iter(&self) -> Iter<'_>
+        ensures { result ≡ self.now.live }
+    {
+        if self.client_gone {
+            self.table.none()
+        } else {
+            self.table.iter()
+        }
     }
 
     /// The live request at a place, counted from the earliest.

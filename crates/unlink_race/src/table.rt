@@ -17,6 +17,7 @@ ghost use Rattle.unlink_race.specs.Searches.{has_number, has_id, waits_for, touc
 
 use crate::by_number::By;
 use crate::index::Index;
+use crate::iter::Iter;
 use crate::keys::Keys;
 use crate::live::{Live, StreamEnd};
 use crate::ranked::{mark, set_rank};
@@ -229,6 +230,20 @@ impl Table {
         ensures { slice_get self.now place ≡ Some result.now }
     {
         &self.arena.get(self.keys[place]).unwrap().1
+    }
+
+    /// The requests, in order of acceptance.
+    pub fn iter(&self) -> Iter<'_>
+        ensures { result ≡ self.now }
+    {
+        Iter::new(&self.arena, &self.keys)
+    }
+
+    /// None of them.
+    pub fn none(&self) -> Iter<'_>
+        ensures { result ≡ [] }
+    {
+        Iter::new(&self.arena, &[])
     }
 
     /// Takes out the request at this place; those behind it move up.

@@ -1,4 +1,3 @@
 -- What is sent and told.
 pub mod InTurn
 pub mod Gives
-pub mod Fronts

@@ -29,8 +29,7 @@ impl Kept {
         ensures err { OnErr result (Begins to_host.old to_host.new) }
         ensures wants { OnErr result (0 < length (filter is_cancelled_row self.now.lives.live)) }
     {
-        for place in 0..self.lives.len() {
-            let live = self.lives.at(place).unwrap();
+        for live in self.lives.iter() {
             write_cancel_of(live, self.caps, to_host)?;
         }
         Ok(())

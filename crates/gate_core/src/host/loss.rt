@@ -32,8 +32,7 @@ impl Kept {
         ensures wants { OnErr result (0 < length self.now.lives.live) }
     {
         let mut unlinked = 0;
-        for place in 0..self.lives.len() {
-            let live = self.lives.at(place).unwrap();
+        for live in self.lives.iter() {
             write_lost(self.alloc, live, to_client)?;
             unlinked += u64::from(live.unlinker.is_some());
         }

@@ -26,8 +26,7 @@ impl Kept {
         ensures err { OnErr result (Begins to_client.old to_client.new) }
         ensures wants { OnErr result (0 < length (filter (ended_by end.now) self.now.lives.live)) }
     {
-        for place in 0..self.lives.len() {
-            let live = self.lives.at(place).unwrap();
+        for live in self.lives.iter() {
             write_end_of(self.alloc, live, end, status, to_client)?;
         }
         Ok(())

@@ -1,7 +1,6 @@
 -- What an item gives: where a part of what it sends and tells is there, it gives some.
-use Rattle.std.proofs.Common.{◌≡◌, ℕ, zero, suc, ◌+◌, ◌<◌, ◌&&◌, Bool, true, false, cond, not, List, [], ◌∷◌, ◌++◌, length, map, Option, Some, None, refl, sym, ap, subst, ◌∙◌, arith}
-use Rattle.std.specs.Prelude.{is_none, filter, zip, slice_get}
-use Rattle.std.proofs.lemmas.Option.{none-some, same_Some}
+use Rattle.std.proofs.Common.{◌≡◌, ℕ, suc, ◌+◌, ◌<◌, ◌&&◌, Bool, true, false, cond, not, List, [], ◌∷◌, ◌++◌, length, map, Option, Some, None, refl, sym, ap, ◌∙◌, arith}
+use Rattle.std.specs.Prelude.{is_none, filter, zip}
 use Rattle.std.proofs.lemmas.List.{length-append, length-map}
 use Rattle.usbip_op.specs.declared.packet.OpPacket.TheVariants as op
 use Rattle.usbip_op.specs.declared.packet.OpWay.TheVariants as way
@@ -37,18 +36,6 @@ use Rattle.gate_history.proofs.lemmas.host.Losses.{all-lost}
 use Rattle.gate_parts.proofs.lemmas.state.Rows.{wire-row}
 
 -- ---- lists
-
--- one that passes is among those that do
-pub some-kept : {X : Type 0} (p : X → Bool) (xs : List X) (n : ℕ) (x : X) → slice_get xs n ≡ Some x → p x ≡ true → 0 < length (filter p xs)
-some-kept p [] n x e h = absurd (none-some x e)
-some-kept {X = X} p (y ∷ ys) zero x e h =
-    let here : p y ≡ true = ap p (same_Some y x e) ∙ h in
-    subst (λ (b : Bool). 0 < length (cond b (y ∷ filter p ys) (filter p ys))) (sym here) (omega arith)
-some-kept {X = X} p (y ∷ ys) (suc n) x e h = longer (p y) (some-kept p ys n x e h)
-  where
-    longer : (b : Bool) → 0 < length (filter p ys) → 0 < length (cond b (y ∷ filter p ys) (filter p ys))
-    longer true some = omega arith
-    longer false some = some
 
 length-zip : {X Y : Type 0} (xs : List X) (ys : List Y) → length xs ≡ length ys → length (zip xs ys) ≡ length ys
 length-zip [] [] e = refl
