@@ -4,7 +4,8 @@ ghost use Rattle.std.specs.Prelude.{◌≡◌, ◌+◌, ◌-◌, ◌++◌, ◌�
 ghost use Rattle.gate_history.specs.step.Events.{Event as PastEvent, event_of};
 ghost use Rattle.gate_history.specs.declared.item.Item.{Item as PastItem};
 ghost use Rattle.gate_history.specs.step.Past.{past};
-ghost use Rattle.gate_history.specs.step.History.{history, rest_length};
+ghost use Rattle.gate_history.specs.Headline.{counts};
+ghost use Rattle.gate_history.specs.step.History.{rest_length};
 ghost use Rattle.gate_history.specs.write.All.{counts_of};
 ghost use Rattle.gate_history.specs.write.Bytes.{out_host};
 ghost use Rattle.usb_base.specs.declared.limits.TheConstants.{LONGEST_CLIENT_PACKET, LONGEST_HOST_PACKET};
@@ -93,7 +94,7 @@ impl Gate {
 
     /// What has been counted.
     pub fn counts(&self) -> Counts
-        ensures all { (first : ℕ) (events : List PastEvent) → GateStands first self.now events → result ≡ counts_of first (history first events) }
+        ensures all { (first : ℕ) (events : List PastEvent) → GateStands first self.now events → result ≡ counts first events }
         ensures items { (first : ℕ) (events : List PastEvent) (items : List PastItem) → StandsFor first self.now events items
             → result ≡ counts_of first (past first items) }
     {

@@ -17,8 +17,8 @@ pub use state::stream_ids::{SentIds, StreamIds, lifted};
 pub use state::streams::{Streams, is_ended};
 pub use write::answer::{write_all_sent, write_ret_unlink, write_without_packets};
 pub use write::ask::{
-    acknowledge, packet_count, wire_packet, write_cancel, write_cancel_of, write_hello,
-    write_route, write_start, write_stop,
+    acknowledge, wire_packet, write_cancel, write_cancel_of, write_hello, write_route, write_start,
+    write_stop,
 };
 pub use write::finish::{has_won, row_for, write_completed, write_end_of, write_lost};
 pub use write::outputs::Outputs;

@@ -3,6 +3,7 @@
 ghost use Rattle.std.specs.Prelude.{◌≡◌, ◌≤◌, ◌++◌, None, [], length, OnOk, OnErr, IfOk};
 ghost use Rattle.usb_base.specs.declared.limits.TheConstants.{MAX_TRANSFER};
 ghost use Rattle.gate_history.specs.state.Ids.{last_of};
+ghost use Rattle.gate_history.specs.state.Ups.{stream_at};
 ghost use Rattle.gate_history.specs.declared.verdict.Verdict.TheVariants.{IsoOut};
 ghost use Rattle.gate_history.specs.step.Marks.{Opens};
 ghost use Rattle.gate_history.specs.state.State.{State};
@@ -11,13 +12,13 @@ ghost use Rattle.gate_history.specs.step.Meaning.{mark_as, submission};
 ghost use Rattle.gate_history.specs.state.Sound.{IsSound};
 ghost use Rattle.gate_history.specs.write.Asked.{HasItsPackets};
 ghost use Rattle.gate_history.specs.client.Carried.{IsLaid};
-ghost use Rattle.gate_core.specs.inner.state.SentIds.{ids_after, starts_of, sent_ids_of, after_starts, bytes_of};
+ghost use Rattle.gate_core.specs.inner.state.SentIds.{ids_after, starts_of, start_id, bytes_of, HasRaised};
 ghost use Rattle.gate_core.specs.inner.state.Holds.{IsKept, Holds, Does, StopsShort};
 ghost use Rattle.usb_base.specs.Writes.{Begins};
 
 use crate::state::kept::Kept;
 use gate_history::{Note, Request};
-use gate_parts::{Outputs, SentIds, write_all_sent, write_start};
+use gate_parts::{Outputs, write_all_sent, write_start};
 use redir_data::write_iso_out;
 use usb_base::{Bytes, EpAddr, EpRow, Memory};
 use usbip_urb::part;
@@ -42,38 +43,49 @@ impl Kept {
         let seqnum = request.number;
         out.notes.push(Note::Submitted { seqnum, id: 0 })?;
         let ep = request.transfer.ep;
-        let sent_ids = self.write_start(ep, row, &mut out.to_host)?;
-        let last = self.write_packets(request, sent_ids.last, &mut out.to_host)?;
+        let started = self.write_start(ep, row, &mut out.to_host)?;
+        let before = started.unwrap_or(self.last);
+        let last = self.write_packets(request, before, &mut out.to_host)?;
         write_all_sent(self.alloc, &request.asked(), &mut out.to_client)?;
-        self.streams.raise(self.alloc, ep, row);
-        self.stream_ids = sent_ids.stream_ids;
-        self.last = last;
         self.answered = self.answered.saturating_add(1);
+        self.raise(ep, row, started);
+        self.last = last;
         Ok(())
     }
 
-    /// Appends the start of an endpoint's stream, unless it is up. It gives what is to be kept of it.
+    /// Appends the start of an endpoint's stream, and gives its id: none where the stream is up.
     pub fn write_start(
         &self,
         ep: EpAddr,
         row: EpRow,
         to_host: &mut Bytes,
-    ) -> Result<SentIds, Memory>
+    ) -> Result<Option<u64>, Memory>
         requires { IsKept self.now }
         ensures sent { OnOk result (to_host.new ≡ to_host.old ++ bytes_of self.now self.now.last (starts_of self.now ep row)) }
-        ensures sent_ids { IfOk result (λ sent_ids. sent_ids ≡ after_starts self.now (sent_ids_of self.now) (starts_of self.now ep row)) }
+        ensures id { IfOk result (λ id. id ≡ start_id self.now ep) }
         ensures err { OnErr result (to_host.new ≡ to_host.old) }
+        ensures wants { OnErr result (stream_at self.now.streams ep ≡ None) }
     {
-        let mut sent_ids = self.sent_ids();
         match self.streams.at(ep) {
-            Some(_) => Ok(sent_ids),
+            Some(_) => Ok(None),
             None => {
                 let id = self.draw(self.last);
                 write_start(ep, row, id, self.caps, to_host)?;
-                sent_ids.stream_ids.start(ep, id);
-                sent_ids.last = id;
-                Ok(sent_ids)
+                Ok(Some(id))
             }
+        }
+    }
+
+    /// An endpoint's stream is up, and was started with this id unless it was so before.
+    pub fn raise(&mut self, ep: EpAddr, row: EpRow, started: Option<u64>)
+        requires kept { IsKept self.old }
+        ensures kept { IsKept self.new }
+        ensures raised { HasRaised ep row started self.old self.new }
+    {
+        self.streams.raise(self.alloc, ep, row);
+        if let Some(id) = started {
+            self.stream_ids.start(ep, id);
+            self.last = id;
         }
     }
 

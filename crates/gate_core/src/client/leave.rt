@@ -23,7 +23,7 @@ use usb_base::{Bytes, Memory, Refusal};
 
 impl Kept {
     /// Appends the cancels of the transfers on the wire that weren't asked back, whose client is gone.
-    pub fn write_cancels(&self, to_host: &mut Bytes) -> Result<(), Memory>
+    fn write_cancels(&self, to_host: &mut Bytes) -> Result<(), Memory>
         requires { IsKept self.now }
         ensures ok { OnOk result (to_host.new ≡ to_host.old ++ flat_map (cancel_bytes self.now.caps) self.now.lives.live) }
         ensures err { OnErr result (Begins to_host.old to_host.new) }
@@ -81,7 +81,7 @@ impl Kept {
     }
 
     /// The client is gone: the host still has its transfers, which are abandoned, and its streams were stopped.
-    pub fn leave(&mut self, sent_ids: SentIds)
+    fn leave(&mut self, sent_ids: SentIds)
         requires kept { IsKept self.old }
         ensures kept { IsKept self.new }
         ensures left { HasLeft sent_ids self.old self.new }

@@ -18,6 +18,7 @@ ghost use Rattle.gate_history.specs.state.State.{State, next_ids};
 ghost use Rattle.gate_history.specs.step.Meaning.{mark_as, submission, drawn_for, verdict_of, asked_meaning};
 ghost use Rattle.gate_history.specs.state.Sound.{IsSound};
 ghost use Rattle.gate_history.specs.write.Asked.{HasItsPackets};
+ghost use Rattle.usb_base.specs.Writes.{Begins};
 ghost use Rattle.gate_core.specs.inner.state.SentIds.{flying_in, ids_after, bytes_of};
 ghost use Rattle.gate_history.specs.client.Carried.{IsRequest, IsSent, IsCarried};
 ghost use Rattle.gate_parts.specs.state.Rows.{kind_of};
@@ -27,7 +28,7 @@ use crate::state::kept::Kept;
 use control_route::Route;
 use gate_history::{Note, Pipe, Request, Situation, Verdict};
 use gate_parts::{
-    Outputs, StreamIds, client_refusal, decide, draw, packet_count, row_for, wire_packet,
+    Outputs, StreamIds, client_refusal, decide, draw, row_for, wire_packet,
     write_route, write_without_packets,
 };
 use redir_data::move_data;
@@ -178,21 +179,26 @@ impl Kept {
         Ok(())
     }
 
-    /// Appends the packets of a route, and gives the id of the last.
+    /// Appends the packets of a route, and gives the id of the last. A reset has no answer: what the configuration is
+    /// after it is asked for.
     fn ask_route(&self, route: &Route, last: u64, to_host: &mut Bytes) -> Result<u64, Memory>
         requires kept { IsKept self.now }
         requires some { 1 ≤ length (route_packets route.now) }
         ensures sent { OnOk result (to_host.new ≡ to_host.old ++ bytes_of self.now last (route_packets route.now)) }
         ensures id { IfOk result (λ id. id ≡ last_of last (ids_after self.now last (length (route_packets route.now)))) }
         ensures fits { IfOk result (λ id. IdFits (wide_ids self.now.caps) id) }
-        ensures err { OnErr result (to_host.new ≡ to_host.old) }
+        ensures err { OnErr result (Begins to_host.old to_host.new) }
     {
         let first = self.draw(last);
-        let second = self.draw(first);
-        let ids = [first, second];
-        let count = packet_count(route);
-        write_route(route, &ids[..count], self.caps, to_host)?;
-        Ok(ids[count - 1])
+        write_route(route, first, self.caps, to_host)?;
+        match route {
+            Route::Reset => {
+                let second = self.draw(first);
+                write_route(&Route::GetConfig, second, self.caps, to_host)?;
+                Ok(second)
+            }
+            _ => Ok(first),
+        }
     }
 
     /// The streams that end with a route go down, and were stopped.

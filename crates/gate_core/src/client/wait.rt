@@ -84,15 +84,14 @@ impl Kept {
         let seqnum = request.number;
         out.notes.push(Note::Submitted { seqnum, id: 0 })?;
         let ep = request.ep();
-        let sent_ids = self.write_start(ep, row, &mut out.to_host)?;
+        let started = self.write_start(ep, row, &mut out.to_host)?;
         let kind = LiveKind::Stream {
             ep,
             interface: row.interface,
         };
-        self.streams.raise(self.alloc, ep, row);
-        self.stream_ids = sent_ids.stream_ids;
+        self.raise(ep, row, started);
         let live = row_for(request, kind, 0);
-        self.open(live, sent_ids.last);
+        self.open(live, self.last);
         Ok(())
     }
 }

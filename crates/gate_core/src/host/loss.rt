@@ -24,7 +24,7 @@ use usb_base::{Bytes, Memory, Refusal};
 impl Kept {
     /// Appends the answers of all requests in flight, whose device is lost. It gives the number of those that were
     /// asked back, whose unlinks are answered.
-    pub fn write_losses(&self, to_client: &mut Bytes) -> Result<u64, Memory>
+    fn write_losses(&self, to_client: &mut Bytes) -> Result<u64, Memory>
         requires { IsKept self.now }
         ensures ok { OnOk result (to_client.new ≡ to_client.old ++ flat_map lost_bytes self.now.lives.live) }
         ensures count { IfOk result (λ unlinked. unlinked ≡ length (filter is_asked_back self.now.lives.live)) }
@@ -41,7 +41,7 @@ impl Kept {
 
     /// The device is lost: what the host has told goes with it, and all requests have ended, of which so many were
     /// asked back.
-    pub fn lose(&mut self, unlinked: u64)
+    fn lose(&mut self, unlinked: u64)
         requires kept { IsKept self.old }
         ensures kept { IsKept self.new }
         ensures lost { HasLost unlinked self.old self.new }

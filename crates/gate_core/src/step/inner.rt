@@ -3,7 +3,7 @@
 ghost use Rattle.std.specs.Prelude.{◌≡◌, ◌≤◌, [], IfOk};
 ghost use Rattle.gate_history.specs.step.Events.{ClientPiece, ClientEnd, HostPiece, HostEnd};
 ghost use Rattle.gate_core.specs.step.Stands.{HasPast, GateStands};
-ghost use Rattle.gate_core.specs.inner.step.Steps.{TakesEvent, kept_of};
+ghost use Rattle.gate_core.specs.inner.step.Steps.{TakesOrStops, kept_of};
 
 use crate::step::taker::ItemTaker;
 use crate::step::translator::Translator;
@@ -56,7 +56,7 @@ impl Inner {
     /// Takes a piece of the client's stream.
     pub fn take_client(&mut self, piece: &[u8], out: &mut Outputs) -> Result<(), Memory>
         requires { HasPast (kept_of self.old) }
-        ensures { TakesEvent result self.old self.new (ClientPiece piece.now) out.old out.new }
+        ensures { TakesOrStops result self.old self.new (ClientPiece piece.now) out.old out.new }
     {
         let mut taker = ItemTaker {
             translator: &mut self.translator,
@@ -68,7 +68,7 @@ impl Inner {
     /// Takes the client's end. The next client may come.
     pub fn change_client(&mut self, out: &mut Outputs) -> Result<(), Memory>
         requires { HasPast (kept_of self.old) }
-        ensures { TakesEvent result self.old self.new ClientEnd out.old out.new }
+        ensures { TakesOrStops result self.old self.new ClientEnd out.old out.new }
     {
         self.translator.take(Item::ClientLeft, out)?;
         self.client = Stream::new(self.alloc, ());
@@ -78,7 +78,7 @@ impl Inner {
     /// Takes a piece of the host's stream.
     pub fn take_host(&mut self, piece: &[u8], out: &mut Outputs) -> Result<(), Memory>
         requires { HasPast (kept_of self.old) }
-        ensures { TakesEvent result self.old self.new (HostPiece piece.now) out.old out.new }
+        ensures { TakesOrStops result self.old self.new (HostPiece piece.now) out.old out.new }
     {
         let mut taker = ItemTaker {
             translator: &mut self.translator,
@@ -90,7 +90,7 @@ impl Inner {
     /// Takes the host's end.
     pub fn end_host(&mut self, out: &mut Outputs) -> Result<(), Memory>
         requires { HasPast (kept_of self.old) }
-        ensures { TakesEvent result self.old self.new HostEnd out.old out.new }
+        ensures { TakesOrStops result self.old self.new HostEnd out.old out.new }
     {
         if self.host.is_over() {
             return Ok(());

@@ -15,7 +15,7 @@ use usb_base::{Bytes, Memory};
 
 impl Kept {
     /// What is kept where nothing more was started or stopped.
-    pub fn sent_ids(&self) -> SentIds
+    fn sent_ids(&self) -> SentIds
         ensures { result ≡ sent_ids_of self.now }
     {
         SentIds {

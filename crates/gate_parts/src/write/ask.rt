@@ -1,11 +1,11 @@
 //! The packets to the host: the gateway's hello, those that ask for a transfer, starts and stops of streams, cancels
 //! and acknowledgements.
 
-ghost use Rattle.std.specs.Prelude.{◌≡◌, ◌≤◌, ◌++◌, true, length, zip, All, OnOk, OnErr, ◌<◌};
+ghost use Rattle.std.specs.Prelude.{◌≡◌, ◌≤◌, ◌++◌, ◌∷◌, [], true, length, zip, OnOk, OnErr, ◌<◌};
 ghost use Rattle.std.specs.List.{flat_map};
 ghost use Rattle.redir_wire.specs.Header.{IdFits};
 ghost use Rattle.redir_wire.specs.Capability.{no_caps};
-ghost use Rattle.redir_wire.specs.declared.packet.RedirControl.TheVariants.{Cancel, Reset as ResetPacket, GetConfiguration as GetConfigurationPacket};
+ghost use Rattle.redir_wire.specs.declared.packet.RedirControl.TheVariants.{Cancel};
 ghost use Rattle.redir_data.specs.declared.packet.RedirPacket.TheVariants.{Plain, Carrying};
 ghost use Rattle.gate_history.specs.write.Packets.{wire_packet, route_packets, start_packet, stop_packet};
 ghost use Rattle.redir_data.specs.Sent.{sent_packet_bytes};
@@ -68,65 +68,37 @@ pub fn wire_packet(pipe: Pipe, transfer: Transfer) -> RedirData
     }
 }
 
-/// How many packets ask for a route.
-pub fn packet_count(route: &Route) -> usize
-    ensures count { result ≡ length (route_packets route.now) }
-    ensures few { result ≤ 2 }
-{
-    match route {
-        Route::Local | Route::Plain | Route::Bad => 0,
-        Route::Reset => 2,
-        _ => 1,
-    }
-}
-
-/// Appends the packets that ask for a route, each with an id of its own: two for a reset, and one for any other. For
-/// want of memory `out` stands.
-pub fn write_route(route: &Route, ids: &[u64], caps: Caps, out: &mut Bytes) -> Result<(), Memory>
-    requires count { length ids.now ≡ length (route_packets route.now) }
-    requires ids_fit { All (IdFits (wide_ids caps)) ids.now }
-    ensures ok { OnOk result (out.new ≡ out.old ++ flat_map (sent_packet_bytes caps) (zip ids.now (route_packets route.now))) }
+/// Appends the first packet that asks for a route, if any does: only a reset has another, which asks for the
+/// configuration. For want of memory `out` stands.
+pub fn write_route(route: &Route, id: u64, caps: Caps, out: &mut Bytes) -> Result<(), Memory>
+    requires { IdFits (wide_ids caps) id }
+    ensures ok { OnOk result (out.new ≡ out.old ++ flat_map (sent_packet_bytes caps) (zip (id ∷ []) (route_packets route.now))) }
     ensures err { OnErr result (out.new ≡ out.old) }
 {
-    match (route, ids) {
-        (Route::SetConfig(configuration), [id]) => {
+    match route {
+        Route::SetConfig(configuration) => {
             let packet = RedirControl::SetConfiguration {
                 configuration: *configuration,
             };
-            write_control(&packet, *id, caps, out)
+            write_control(&packet, id, caps, out)
         }
-        (Route::GetConfig, [id]) => {
-            write_control(&RedirControl::GetConfiguration, *id, caps, out)
-        }
-        (Route::SetAlt { interface, alt }, [id]) => {
+        Route::GetConfig => write_control(&RedirControl::GetConfiguration, id, caps, out),
+        Route::SetAlt { interface, alt } => {
             let packet = RedirControl::SetAlt {
                 interface: *interface,
                 alt: *alt,
             };
-            write_control(&packet, *id, caps, out)
+            write_control(&packet, id, caps, out)
         }
-        (Route::GetAlt(interface), [id]) => {
+        Route::GetAlt(interface) => {
             let packet = RedirControl::GetAlt {
                 interface: *interface,
             };
-            write_control(&packet, *id, caps, out)
+            write_control(&packet, id, caps, out)
         }
-        (Route::Reset, [first, second]) => write_reset(*first, *second, caps, out),
-        _ => Ok(()),
+        Route::Reset => write_control(&RedirControl::Reset, id, caps, out),
+        Route::Local | Route::Plain | Route::Bad => Ok(()),
     }
-}
-
-// A reset has no answer: what the configuration is after it is asked for.
-fn write_reset(first: u64, second: u64, caps: Caps, out: &mut Bytes) -> Result<(), Memory>
-    requires first_fits { IdFits (wide_ids caps) first }
-    requires second_fits { IdFits (wide_ids caps) second }
-    ensures ok { OnOk result (out.new ≡ out.old ++ sent_packet_bytes caps (first, Plain ResetPacket) ++ sent_packet_bytes caps (second, Plain GetConfigurationPacket)) }
-    ensures err { OnErr result (out.new ≡ out.old) }
-{
-    let before = out.len();
-    write_control(&RedirControl::Reset, first, caps, out)?;
-    let asked = write_control(&RedirControl::GetConfiguration, second, caps, out);
-    out.cut_on_err(before, asked)
 }
 
 /// Appends the start of an endpoint's stream. For want of memory `out` stands.

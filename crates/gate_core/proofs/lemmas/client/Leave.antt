@@ -25,7 +25,6 @@ use Rattle.gate_history.specs.state.Ups.{no_streams, is_ended, moved_streams}
 use Rattle.gate_history.specs.write.Packets.{stops, asked_packets}
 use Rattle.gate_history.specs.state.StreamIds.{stream_ids_after, moved_fence}
 use Rattle.gate_history.specs.state.Ids.{last_of}
-use Rattle.gate_core.specs.inner.state.SentIds.{HasParted}
 use Rattle.gate_history.specs.state.State.{State, submits}
 use Rattle.gate_history.specs.client.Verdict.{is_wire, goes_by_id}
 use Rattle.gate_history.specs.step.Meaning.{mark_as, drawn_by}
@@ -35,6 +34,7 @@ use Rattle.gate_history.specs.write.All.{is_ret_submit, is_won_unlink}
 use Rattle.redir_data.specs.Sent.{sent_packet_bytes}
 use Rattle.gate_history.specs.step.Machine.{live_after}
 use Rattle.gate_parts.specs.state.Rows.{row, unmarked, left_row, cancel_bytes}
+use Rattle.gate_core.proofs.lemmas.state.Ids.{HasParted}
 use Rattle.gate_core.specs.inner.state.Holds.{Holds, Does, left_by}
 use Rattle.gate_history.proofs.lemmas.step.Effects.{leaving-left, leaving-answered, leaving-noted, leaving-dropped}
 use Rattle.gate_core.proofs.lemmas.step.Quiet.{capped-same, does-step, is_quiet, IsOver, over-is}

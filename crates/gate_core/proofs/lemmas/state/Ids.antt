@@ -1,13 +1,12 @@
 -- The ids in flight of what is kept are those of the state.
-use Rattle.std.proofs.Common.{◌≡◌, ℕ, ◌-◌, ◌≤◌, take, get_or, length, ◌==◌, ◌||◌, Bool, true, false, cond, List, [], ◌∷◌, ◌++◌, map, Option, None, refl, sym, ap, ◌∙◌, append_assoc, arith}
-use Rattle.std.specs.Prelude.{filter, zip}
+use Rattle.std.proofs.Common.{◌≡◌, ℕ, ◌≤◌, length, ◌==◌, ◌||◌, Bool, true, false, cond, List, [], ◌∷◌, ◌++◌, map, Option, Some, None, zero, suc, refl, sym, ap, ◌∙◌, append_assoc, arith}
+use Rattle.std.specs.Prelude.{filter, zip, if◌then◌else◌, unwrap_or, is_some}
 use Rattle.unlink_race.specs.declared.live.Live.{Live}
 use Rattle.std.specs.List.{list_any, flat_map, last_or}
 use Rattle.unlink_race.specs.Searches.{goes_by_id as is_answered_by_id, is_change, changes as changes_row, has_number as has_number_row}
 use Rattle.control_route.specs.declared.route.Route.{Route}
-use Rattle.control_route.specs.declared.route.Route.TheVariants as route
 use Rattle.gate_history.specs.state.Ids.{draw, draws, greatest, last_of}
-use Rattle.gate_history.specs.write.Packets.{stops, route_packets, asked_packets}
+use Rattle.gate_history.specs.write.Packets.{stops, start_packet, asked_packets}
 use Rattle.gate_core.specs.declared.state.kept.Kept.{Kept}
 use Rattle.gate_history.specs.declared.verdict.Verdict.{Verdict}
 use Rattle.gate_history.specs.client.Verdict.{goes_by_id, changes}
@@ -16,15 +15,17 @@ use Rattle.gate_history.specs.client.Submits.{Pending}
 use Rattle.gate_history.specs.state.Flight.{wide_ids, ids_of}
 use Rattle.redir_data.specs.declared.packet.RedirPacket.{RedirPacket}
 use Rattle.gate_parts.specs.declared.state.stream_ids.SentIds.{SentIds}
-use Rattle.gate_history.specs.state.Ups.{is_ended}
+use Rattle.usb_base.specs.declared.endpoint.EpRow.{EpRow}
+use Rattle.gate_history.specs.state.Ups.{stream_at, is_ended}
 use Rattle.gate_history.specs.state.StreamIds.{stream_ids_after, ids_of_streams}
 use Rattle.gate_history.specs.step.Meaning.{drawn_by}
 use Rattle.gate_history.specs.state.State.{State, flying, next_ids, is_number}
 use Rattle.gate_parts.specs.state.Ids.{row_ids}
-use Rattle.gate_core.specs.inner.state.SentIds.{flying_in, ids_after, with_ids, stops_of, sent_ids_of, after_stops, bytes_of, HasParted}
+use Rattle.gate_core.specs.inner.state.SentIds.{flying_in, ids_after, with_ids, stops_of, starts_of, start_id, started_with, sent_ids_of, after_stops, bytes_of}
 use Rattle.redir_data.specs.Sent.{sent_packet_bytes}
 use Rattle.gate_parts.specs.state.Rows.{kind_of, row, unmarked, left_row, cancel_bytes}
 use Rattle.gate_core.specs.inner.state.Holds.{Holds}
+use Rattle.gate_history.proofs.lemmas.state.StreamIds.{start-stream_ids}
 use Rattle.gate_parts.proofs.lemmas.state.Rows.{by-verdict, by_id-row}
 
 one : (b : Bool) (l : Live) (s : Submission) (ls : List Live) (ss : List Submission) → l.id ≡ s.id → map (λ (r : Live). r.id) ls ≡ map (λ (t : Submission). t.id) ss →
@@ -55,6 +56,12 @@ ids-unmarked (l ∷ ls) = same-ids (is_answered_by_id l) l _ _ (ids-unmarked ls)
 pub flying-rows : (t : Kept) (st : State) → Holds t st → flying_in t ≡ flying st
 flying-rows t st h =
     (λ i. ((ap row_ids h.live ∙ ids-live st.live) i ++ (sym (ids-unmarked t.lives.abandoned) ∙ ap row_ids h.abandoned ∙ ids-left st.abandoned) i) ++ ids_of_streams (h.stream_ids i))
+
+-- what is kept of a state's stops, where its client is gone
+pub record HasParted (st : State) (e : Effect) (c : SentIds) : Type 0 where
+  pub stream_ids : c.stream_ids ≡ stream_ids_after (zip (drawn_by st e) (asked_packets st.streams e)) st.stream_ids
+  pub last : c.last ≡ last_of st.last (drawn_by st e)
+  pub fence : c.fence ≡ last_or st.fence (drawn_by st e)
 
 -- ---- what is drawn and sent of what is kept is that of the state
 
@@ -94,39 +101,35 @@ module _ (t : Kept) (st : State) (h : Holds t st) where
       b ∙ (λ i. a i ++ flat_map (sent_packet_bytes t.caps) (parts-sent e asked i))
       ∙ append_assoc old (flat_map (cancel_bytes t.caps) t.lives.live) (flat_map (sent_packet_bytes t.caps) (zip (drawn_by st e) (asked_packets st.streams e)))
 
--- ---- the ids of a route's packets, of two that are drawn in turn
+-- ---- of a start
 
-pub route-ids : (m : ℕ) (f : List ℕ) (last : ℕ) (r : Route) → take (length (route_packets r)) (draw m f last ∷ draw m f (draw m f last) ∷ []) ≡ draws m f last (length (route_packets r))
-route-ids m f last (route.SetConfig configuration) = refl
-route-ids m f last route.GetConfig = refl
-route-ids m f last (route.SetAlt interface alt) = refl
-route-ids m f last (route.GetAlt interface) = refl
-route-ids m f last route.Reset = refl
-route-ids m f last route.Local = refl
-route-ids m f last route.Plain = refl
-route-ids m f last route.Bad = refl
+started-by : (t : Kept) (up : Bool) (ep : ℕ) (row : EpRow) →
+    started_with ep (if up then None else Some (draw (greatest (wide_ids t.caps)) (flying_in t) t.last)) t.stream_ids ≡ stream_ids_after (with_ids t t.last (if up then [] else start_packet ep row ∷ [])) t.stream_ids
+started-by t true ep row = refl
+started-by t false ep row = sym (start-stream_ids (draw (greatest (wide_ids t.caps)) (flying_in t) t.last) ep row t.stream_ids)
 
-pub route-id : (m : ℕ) (f : List ℕ) (last : ℕ) (r : Route) → 1 ≤ length (route_packets r) →
-    get_or (draw m f last ∷ draw m f (draw m f last) ∷ []) (length (route_packets r) - 1) 0 ≡ last_of 0 (draws m f last (length (route_packets r)))
-route-id m f last (route.SetConfig configuration) some = refl
-route-id m f last route.GetConfig some = refl
-route-id m f last (route.SetAlt interface alt) some = refl
-route-id m f last (route.GetAlt interface) some = refl
-route-id m f last route.Reset some = refl
-route-id m f last route.Local some = absurd (omega arith)
-route-id m f last route.Plain some = absurd (omega arith)
-route-id m f last route.Bad some = absurd (omega arith)
+pub started-is : (t : Kept) (ep : ℕ) (row : EpRow) → started_with ep (start_id t ep) t.stream_ids ≡ stream_ids_after (with_ids t t.last (starts_of t ep row)) t.stream_ids
+started-is t ep row = started-by t (is_some (stream_at t.streams ep)) ep row
 
--- the last of them is one of the two
-pub route-one : (P : ℕ → Type 0) (a b : ℕ) (r : Route) → 1 ≤ length (route_packets r) → P a → P b → P (get_or (a ∷ b ∷ []) (length (route_packets r) - 1) 0)
-route-one P a b (route.SetConfig configuration) some h k = h
-route-one P a b route.GetConfig some h k = h
-route-one P a b (route.SetAlt interface alt) some h k = h
-route-one P a b (route.GetAlt interface) some h k = h
-route-one P a b route.Reset some h k = k
-route-one P a b route.Local some h k = absurd (omega arith)
-route-one P a b route.Plain some h k = absurd (omega arith)
-route-one P a b route.Bad some h k = absurd (omega arith)
+last-by : (t : Kept) (up : Bool) (ep : ℕ) (row : EpRow) →
+    unwrap_or (if up then None else Some (draw (greatest (wide_ids t.caps)) (flying_in t) t.last)) t.last ≡ last_of t.last (ids_after t t.last (length (if up then [] else start_packet ep row ∷ [])))
+last-by t true ep row = refl
+last-by t false ep row = refl
+
+pub started-last : (t : Kept) (ep : ℕ) (row : EpRow) → unwrap_or (start_id t ep) t.last ≡ last_of t.last (ids_after t t.last (length (starts_of t ep row)))
+started-last t ep row = last-by t (is_some (stream_at t.streams ep)) ep row
+
+-- ---- of a route's packets: of a reset's two, and of any other's one
+
+pub first-id : (m : ℕ) (f : List ℕ) (last : ℕ) (ps : List RedirPacket) → length ps ≤ 1 → zip (draw m f last ∷ []) ps ≡ zip (draws m f last (length ps)) ps
+first-id m f last [] few = refl
+first-id m f last (p ∷ []) few = refl
+first-id m f last (p ∷ q ∷ ps) few = absurd (omega (arith, few))
+
+pub one-id : (m : ℕ) (f : List ℕ) (last : ℕ) (n : ℕ) → 1 ≤ n → n ≤ 1 → draw m f last ≡ last_of last (draws m f last n)
+one-id m f last zero some few = absurd (omega (arith, some))
+one-id m f last (suc zero) some few = refl
+one-id m f last (suc (suc n)) some few = absurd (omega (arith, few))
 
 -- ---- what the searches of the rows find
 

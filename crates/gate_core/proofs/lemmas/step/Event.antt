@@ -25,7 +25,7 @@ use Rattle.gate_history.specs.step.Came.{asked, told}
 use Rattle.gate_core.specs.step.Stands.{IsLeftBy, StreamStands, StandsFor, HasAll, GateStands, StopsInEvent, HasPast}
 use Rattle.gate_history.specs.step.Wants.{IsHeld, FirstWants}
 use Rattle.gate_core.specs.inner.state.Holds.{DoesNothing}
-use Rattle.gate_core.specs.inner.step.Steps.{kept_of, TakesEvent}
+use Rattle.gate_core.specs.inner.step.Steps.{kept_of, TakesOrStops}
 use Rattle.gate_core.proofs.lemmas.step.Halves.{Packets, Half, IsAt, Halted, TakesPiece, client_half, host_half}
 use Rattle.gate_core.proofs.lemmas.step.Take.{follows-all, all-passed}
 use Rattle.gate_core.proofs.lemmas.step.Translator.{gains-none}
@@ -52,7 +52,7 @@ stands-all r steady start kept bytes given over all = record {
 }
 
 pub err-event : (r : Result (Unit {0}) Memory) (old new : Inner) (e : Event) (out_old out_new : Outputs) → IsErr r →
-    ((first : ℕ) (events : List Event) → GateStands first (kept_of old) events → StopsInEvent first (kept_of new) events e out_old.to_client out_new.to_client out_old.to_host out_new.to_host) → TakesEvent r old new e out_old out_new
+    ((first : ℕ) (events : List Event) → GateStands first (kept_of old) events → StopsInEvent first (kept_of new) events e out_old.to_client out_new.to_client out_old.to_host out_new.to_host) → TakesOrStops r old new e out_old out_new
 err-event (Ok v) old new e out_old out_new is stops = absurd (true≢false (sym is))
 err-event (Err memory) old new e out_old out_new is stops = stops
 
@@ -148,7 +148,7 @@ client-sees first = record { steady = client-steady; other_steady = host-steady;
 
 pub took-asked : (r : Result (Unit {0}) Memory) (old : Inner) (kept : StreamView (Unit {0})) (t : Kept) (piece : List ℕ) (out_old out_new : Outputs) →
     TakesPiece r client_half old.client kept old.translator t piece out_old out_new →
-    TakesEvent r old (record old { client = kept; translator = t }) (ClientPiece piece) out_old out_new
+    TakesOrStops r old (record old { client = kept; translator = t }) (ClientPiece piece) out_old out_new
 took-asked (Ok v) old kept t piece out_old out_new takes = λ first events stands.
     let f = takes first (client_bytes events) (arrivals events) (record { all = stands.client; translates = stands.translates }) in
     let theirs = theirs-same first (client_half first) (host_half first) (client-sees first) old.client old.host events (client_bytes events) (host_bytes events) stands.client stands.host (arrivals (ClientPiece piece ∷ events)) f.others_are f.other_over in
@@ -175,7 +175,7 @@ host-sees first = record { steady = host-steady; other_steady = client-steady; c
 
 pub took-told : (r : Result (Unit {0}) Memory) (old : Inner) (kept : StreamView RedirState) (t : Kept) (piece : List ℕ) (out_old out_new : Outputs) →
     TakesPiece r host_half old.host kept old.translator t piece out_old out_new →
-    TakesEvent r old (record old { host = kept; translator = t }) (HostPiece piece) out_old out_new
+    TakesOrStops r old (record old { host = kept; translator = t }) (HostPiece piece) out_old out_new
 took-told (Ok v) old kept t piece out_old out_new takes = λ first events stands.
     let f = takes first (host_bytes events) (arrivals events) (record { all = stands.host; translates = stands.translates }) in
     let theirs = theirs-same first (host_half first) (client_half first) (host-sees first) old.host old.client events (host_bytes events) (client_bytes events) stands.host stands.client (arrivals (HostPiece piece ∷ events)) f.others_are f.other_over in

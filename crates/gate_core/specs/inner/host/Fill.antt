@@ -1,4 +1,4 @@
--- What the packets that a stream holds give to the rows of the requests that wait for it.
+-- What becomes of a stream that is up as a request joins it or a packet comes, and what is kept behind that.
 use Rattle.std.specs.Prelude.{◌≡◌, ◌+◌, ◌∷◌, ℕ, Bool, true, false, if◌then◌else◌, List, [], ◌++◌, length}
 use Rattle.usb_base.specs.declared.transfer.StreamPacket.{StreamPacket}
 use Rattle.redir_data.specs.declared.stream_kind.StreamKind.{StreamKind}

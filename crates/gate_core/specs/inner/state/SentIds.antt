@@ -1,17 +1,15 @@
 -- What is drawn and sent for streams, by what is kept.
-use Rattle.std.specs.Prelude.{◌≡◌, ℕ, List, ◌++◌, length, zip, Option}
+use Rattle.std.specs.Prelude.{◌≡◌, ℕ, if◌then◌else◌, List, [], ◌++◌, length, zip, unwrap_or, Option, Some, None, is_some}
+use Rattle.std.specs.Option.{option_map_or}
 use Rattle.redir_data.specs.declared.packet.RedirPacket.{RedirPacket}
 use Rattle.control_route.specs.declared.route.Route.{Route}
 use Rattle.usb_base.specs.declared.endpoint.EpRow.{EpRow}
 use Rattle.gate_core.specs.declared.state.kept.Kept.{Kept}
 use Rattle.gate_parts.specs.declared.state.stream_ids.SentIds.{SentIds}
-use Rattle.gate_history.specs.state.Ids.{draws, greatest, last_of}
-use Rattle.gate_history.specs.state.Ups.{stream_at, is_ended}
-use Rattle.gate_history.specs.step.Marks.{Effect}
-use Rattle.gate_history.specs.state.State.{State}
-use Rattle.gate_history.specs.step.Meaning.{drawn_by}
-use Rattle.gate_history.specs.write.Packets.{starts, stops, asked_packets}
-use Rattle.gate_history.specs.state.StreamIds.{stream_ids_after, ids_of_streams}
+use Rattle.gate_history.specs.state.Ids.{draw, draws, greatest, last_of}
+use Rattle.gate_history.specs.state.Ups.{stream_at, raise, is_ended}
+use Rattle.gate_history.specs.write.Packets.{starts, stops}
+use Rattle.gate_history.specs.state.StreamIds.{StreamIds, started, stream_ids_after, ids_of_streams}
 use Rattle.std.specs.List.{flat_map, last_or}
 use Rattle.redir_data.specs.Sent.{sent_packet_bytes}
 use Rattle.gate_history.specs.state.Flight.{wide_ids}
@@ -38,11 +36,7 @@ starts_of t ep row = starts (stream_at t.streams ep) ep row
 abbrev pub sent_ids_of : Kept → SentIds
 sent_ids_of t = record { stream_ids = t.stream_ids; last = t.last; fence = t.fence }
 
--- these starts were sent more
-abbrev pub after_starts : Kept → SentIds → List RedirPacket → SentIds
-after_starts t c ps = record { stream_ids = stream_ids_after (with_ids t c.last ps) c.stream_ids; last = last_of c.last (ids_after t c.last (length ps)); fence = c.fence }
-
--- and these stops
+-- these stops were sent more
 abbrev pub after_stops : Kept → SentIds → List RedirPacket → SentIds
 after_stops t c ps = record {
   stream_ids = stream_ids_after (with_ids t c.last ps) c.stream_ids;
@@ -53,8 +47,19 @@ after_stops t c ps = record {
 abbrev pub bytes_of : Kept → ℕ → List RedirPacket → List ℕ
 bytes_of t last ps = flat_map (sent_packet_bytes t.caps) (with_ids t last ps)
 
--- what is kept of a state's stops, where its client is gone
-pub record HasParted (st : State) (e : Effect) (c : SentIds) : Type 0 where
-  pub stream_ids : c.stream_ids ≡ stream_ids_after (zip (drawn_by st e) (asked_packets st.streams e)) st.stream_ids
-  pub last : c.last ≡ last_of st.last (drawn_by st e)
-  pub fence : c.fence ≡ last_or st.fence (drawn_by st e)
+-- ---- a start
+
+-- its id, none where the stream is up
+abbrev pub start_id : Kept → ℕ → Option ℕ
+start_id t ep = if is_some (stream_at t.streams ep) then None else Some (draw (greatest (wide_ids t.caps)) (flying_in t) t.last)
+
+abbrev pub started_with : ℕ → Option ℕ → StreamIds → StreamIds
+started_with ep id ids = option_map_or (λ n. started ep n ids) id ids
+
+-- an endpoint's stream is up, and its start was sent with this id
+pub record HasRaised (ep : ℕ) (row : EpRow) (id : Option ℕ) (old new : Kept) : Type 0 where
+  pub is : new ≡ record old {
+    streams = raise (record { ep = ep; row = row; held = [] }) old.streams;
+    stream_ids = started_with ep id old.stream_ids;
+    last = unwrap_or id old.last;
+  }

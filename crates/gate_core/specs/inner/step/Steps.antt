@@ -37,8 +37,8 @@ pub record TakesOn (first : ℕ) (new : Inner) (events : List Event) (e : Event)
   pub sends : SendsItems first out_old out_new (arrivals events) (arrivals (e ∷ events))
 
 -- whatever has come: the event was taken, or memory ran out
-abbrev pub TakesEvent : Result (Unit {0}) Memory → Inner → Inner → Event → Outputs → Outputs → Type 0
-TakesEvent (Ok v) old new e out_old out_new =
+abbrev pub TakesOrStops : Result (Unit {0}) Memory → Inner → Inner → Event → Outputs → Outputs → Type 0
+TakesOrStops (Ok v) old new e out_old out_new =
     (first : ℕ) (events : List Event) → GateStands first (kept_of old) events → TakesOn first new events e out_old out_new
-TakesEvent (Err memory) old new e out_old out_new =
+TakesOrStops (Err memory) old new e out_old out_new =
     (first : ℕ) (events : List Event) → GateStands first (kept_of old) events → StopsInEvent first (kept_of new) events e out_old.to_client out_new.to_client out_old.to_host out_new.to_host

@@ -5,7 +5,7 @@ use Rattle.gate_history.specs.step.Events.{event_of}
 use Rattle.gate_history.specs.Headline.{notes}
 use Rattle.gate_parts.specs.declared.write.outputs.Outputs.{Outputs}
 use Rattle.gate_core.specs.state.Kept.{GateKept}
-use Rattle.gate_core.specs.inner.step.Steps.{kept_of, TakesEvent}
+use Rattle.gate_core.specs.inner.step.Steps.{kept_of, TakesOrStops}
 use Rattle.gate_core.specs.step.Stands.{HasPast, GateStands}
 use Rattle.gate_core.proofs.gate.Gate.take.Goals.{After-swap-2, Joined-event, in-ClientPiece, in-ClientEnd, in-HostPiece, in-HostEnd}
 use Rattle.gate_core.proofs.gate.Gate.take.Goals as goal
@@ -30,9 +30,9 @@ pub end_host-taken-requires : goal.end_host-taken-requires
 end_host-taken-requires c = works (goal.at.end_host-taken-requires c).After-swap-2
 
 -- the event was taken, or memory ran out, whichever it is
-took : (c : Joined-event) → TakesEvent c.match-event.taken c.self.inside.inner c.match-event.self-inside.inner (event_of c.args.event) (lists c.args.to_client.now c.args.to_host.now []) c.match-event.out
+took : (c : Joined-event) → TakesOrStops c.match-event.taken c.self.inside.inner c.match-event.self-inside.inner (event_of c.args.event) (lists c.args.to_client.now c.args.to_host.now []) c.match-event.out
 took c =
-    let lent : TakesEvent c.match-event.taken c.keep_memory.new.self c.match-event.self-inside.inner (event_of c.args.event) (lists c.swap.new.y c.swap-2.new.y c.new-out.result.notes) c.match-event.out = elim c.match-event.branch [
+    let lent : TakesOrStops c.match-event.taken c.keep_memory.new.self c.match-event.self-inside.inner (event_of c.args.event) (lists c.swap.new.y c.swap-2.new.y c.new-out.result.notes) c.match-event.out = elim c.match-event.branch [
       | in-ClientPiece w ↦ rw (w.taken-is, w.out-is, w.self-inside-is, w.in-ClientPiece.is) w.take_client-taken.ensures
       | in-ClientEnd w ↦ rw (w.taken-is, w.out-is, w.self-inside-is, w.in-ClientEnd.is) w.change_client-taken.ensures
       | in-HostPiece w ↦ rw (w.taken-is, w.out-is, w.self-inside-is, w.in-HostPiece.is) w.take_host-taken.ensures

@@ -103,7 +103,7 @@ pub returns-in_err-id-clause-err : goal.returns-in_err-id-clause-err
 returns-in_err-id-clause-err c = on-err c.from_residual-in_err-id.result _ (record {
   same = refl;
   client = record { more = flat_map (ended_bytes (Change c.args.route) ESHUTDOWN) c.args.self.now.lives.live; is = c.in_ok-write_ends.ensures.ok };
-  host = record { more = bytes_of c.args.self.now c.args.self.now.last (stops_of c.args.self.now (Some c.args.route)); is = c.in_err-id.ensures.err ∙ c.in_ok-sent_ids.ensures.sent };
+  host = begins-after c.args.out.now.to_host c.write_stops.new.to_host c.ask_route.new.to_host _ c.in_ok-sent_ids.ensures.sent c.in_err-id.ensures.err;
   notes = record { more = []; is = sym (append-nil c.args.out.now.notes) };
 })
 

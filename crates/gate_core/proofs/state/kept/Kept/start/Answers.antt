@@ -1,10 +1,10 @@
 use Rattle.std.proofs.Common.{◌≡◌, ◌∙◌, ◌++◌, ◌∷◌, [], ℕ, List, Option, length, refl, sym, ap}
-use Rattle.std.specs.Prelude.{zip}
+use Rattle.std.specs.Prelude.{zip, unwrap_or}
 use Rattle.std.specs.List.{flat_map}
 use Rattle.std.proofs.lemmas.List.{append-nil}
 use Rattle.redir_data.specs.declared.packet.RedirPacket.{RedirPacket}
 use Rattle.unlink_race.specs.declared.live.LiveKind.TheVariants as live_kind
-use Rattle.gate_parts.specs.declared.state.stream_ids.SentIds.{SentIds}
+use Rattle.gate_core.specs.declared.state.kept.Kept.{Kept}
 use Rattle.gate_history.specs.declared.note.Note.TheVariants as note
 use Rattle.gate_history.specs.state.Ids.{last_of}
 use Rattle.gate_history.specs.state.State.{next_ids}
@@ -13,8 +13,8 @@ use Rattle.gate_history.specs.write.Packets.{starts}
 use Rattle.gate_history.specs.state.StreamIds.{stream_ids_after}
 use Rattle.redir_data.specs.Sent.{sent_packet_bytes}
 use Rattle.gate_parts.specs.state.Rows.{row_for}
-use Rattle.gate_core.specs.inner.state.SentIds.{ids_after, with_ids, starts_of, sent_ids_of, after_starts, bytes_of}
-use Rattle.gate_core.proofs.lemmas.state.Ids.{ids-are, asked-are}
+use Rattle.gate_core.specs.inner.state.SentIds.{ids_after, with_ids, starts_of, start_id, started_with, bytes_of}
+use Rattle.gate_core.proofs.lemmas.state.Ids.{ids-are, asked-are, started-is, started-last}
 use Rattle.gate_core.proofs.lemmas.write.InTurn.{on-err}
 use Rattle.gate_core.proofs.lemmas.client.Wait.{does-start}
 use Rattle.gate_core.proofs.state.kept.Kept.start.Goals as goal
@@ -30,20 +30,24 @@ returns-clause-ok c st h sound =
     let same : starting ≡ all = ap (λ (ups : List (Option Up)). starts (stream_at ups r.transfer.ep) r.transfer.ep row) h.streams in
     let drawn : ids_after old old.last (length starting) ≡ next_ids st (length all) = ids-are old st h starting all same in
     let asked : with_ids old old.last starting ≡ zip (next_ids st (length all)) all = asked-are old st h starting all same in
-    let started = c.in_ok-sent_ids.ensures.sent_ids ∙ ap (λ (n : ℕ). after_starts old (sent_ids_of old) (starts_of old n row)) ep in
+    let id = c.in_ok-started.ensures.id ∙ ap (start_id old) ep in
+    let begun : Option ℕ = start_id old r.transfer.ep in
     let live = c.row_for-live.ensures ∙ ap (λ (n : ℕ). row_for r (live_kind.Stream n row.interface) 0) ep in
-    let raised = c.raise.ensures ∙ ap (λ (n : ℕ). raise (record { ep = n; row = row; held = [] }) old.streams) ep in
-    does-start st sound r row old c.open.new.self c.in_ok-sent_ids.sent_ids.stream_ids c.in_ok-sent_ids.sent_ids.last c.args.out.now c.write_start.new.to_host c.push.new.self h c.requires.kept
+    let begin : ℕ → Option ℕ → Kept = λ (n : ℕ) (o : Option ℕ). record old {
+      streams = raise (record { ep = n; row = row; held = [] }) old.streams;
+      stream_ids = started_with n o old.stream_ids;
+      last = unwrap_or o old.last;
+    } in
+    let raised : c.raise.new.self ≡ begin r.transfer.ep begun = c.raise.ensures.raised.is ∙ (λ i. begin (ep i) (id i)) in
+    does-start st sound r row old c.open.new.self (started_with r.transfer.ep begun old.stream_ids) (unwrap_or begun old.last) c.args.out.now c.write_start.new.to_host c.push.new.self h c.requires.kept
     c.requires.free.number_free c.requires.down
-    (c.open.ensures.opened.is ∙ (λ i. record old {
-      lives = record { live = old.lives.live ++ live i ∷ []; abandoned = old.lives.abandoned };
-      streams = raised i;
-      stream_ids = c.in_ok-sent_ids.sent_ids.stream_ids;
-      last = c.in_ok-sent_ids.sent_ids.last;
+    (c.open.ensures.opened.is ∙ (λ i. record (raised i) {
+      lives = record { live = (raised i).lives.live ++ live i ∷ []; abandoned = (raised i).lives.abandoned };
+      last = (raised i).last;
     }))
-    (ap (λ (k : SentIds). k.stream_ids) started ∙ ap (λ l. stream_ids_after l old.stream_ids) asked)
-    (ap (λ (k : SentIds). k.last) started ∙ ap (last_of old.last) drawn)
-    (c.in_ok-sent_ids.ensures.sent ∙ ap (λ (n : ℕ). c.args.out.now.to_host ++ bytes_of old old.last (starts_of old n row)) ep
+    (started-is old r.transfer.ep row ∙ ap (λ l. stream_ids_after l old.stream_ids) asked)
+    (started-last old r.transfer.ep row ∙ ap (last_of old.last) drawn)
+    (c.in_ok-started.ensures.sent ∙ ap (λ (n : ℕ). c.args.out.now.to_host ++ bytes_of old old.last (starts_of old n row)) ep
     ∙ (λ i. c.args.out.now.to_host ++ flat_map (sent_packet_bytes (h.caps i)) (asked i)))
     c.in_ok-push.ensures.ok
 
@@ -55,10 +59,10 @@ returns-in_err-push-clause-err c = on-err c.from_residual.result _ (record {
   notes = record { more = []; is = c.in_err-push.ensures.err ∙ sym (append-nil c.args.out.now.notes) };
 })
 
-pub returns-in_err-sent_ids-clause-err : goal.returns-in_err-sent_ids-clause-err
-returns-in_err-sent_ids-clause-err c = on-err c.from_residual-in_err-sent_ids.result _ (record {
+pub returns-in_err-started-clause-err : goal.returns-in_err-started-clause-err
+returns-in_err-started-clause-err c = on-err c.from_residual-in_err-started.result _ (record {
   same = refl;
   client = record { more = []; is = sym (append-nil c.args.out.now.to_client) };
-  host = record { more = []; is = c.in_err-sent_ids.ensures.err ∙ sym (append-nil c.args.out.now.to_host) };
+  host = record { more = []; is = c.in_err-started.ensures.err ∙ sym (append-nil c.args.out.now.to_host) };
   notes = record { more = note.Submitted c.args.request.number 0 ∷ []; is = c.in_ok-push.ensures.ok };
 })
