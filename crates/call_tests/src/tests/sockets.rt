@@ -5,13 +5,24 @@ ghost use Rattle.usb_base.specs.declared.side.Side.TheVariants.{Client, Host};
 
 use gate_outside::{Doors, Failed, Polled, Side};
 use gate_sockets::TcpDoors;
+use std::net::{Net, TcpListener, TcpStream};
 use std::process::Abort;
 use std::test::Fail;
 use usb_base::{Bytes, Memory};
 
-const HERE: &str = "127.0.0.1:33240";
+/// Any port that is free.
+const ANY: &str = "127.0.0.1:0";
 
 const LOOKS: u32 = 1_000_000;
+
+// An address of this machine whose port is free.
+fn free_addr<R: AllocGlobal + Net<Stream = TcpStream, Listener = TcpListener>>(
+    rt: &R,
+) -> Result<String, Fail> {
+    let probe = TcpListener::bind(rt, ANY)?;
+    let addr = probe.local_addr()?;
+    Ok(format!(in rt.alloc(); "{addr}")?)
+}
 
 // What the side's peer sends, to its end.
 fn poll_to_end<D: Doors>(doors: &mut D, side: Side, came: &mut Bytes) -> Result<Polled, Memory>
@@ -39,13 +50,13 @@ fn comes<D: Doors>(doors: &mut D) -> Result<bool, Failed>
 }
 
 // The doors dial themselves, and the host writes three bytes and ends.
-fn write_to_themselves<D: Doors>(rt: &impl Abort, doors: &mut D)
+fn write_to_themselves<D: Doors>(rt: &impl Abort, addr: &str, doors: &mut D)
     requires down { (D.link doors.old Client).up ≡ false }
     ensures up { (D.link doors.new Client).up ≡ true }
 {
     assert!(rt; doors.dial("nowhere without a port") == Err(Failed));
-    assert!(rt; doors.listen(HERE) == Ok(()));
-    assert!(rt; doors.dial(HERE) == Ok(()));
+    assert!(rt; doors.listen(addr) == Ok(()));
+    assert!(rt; doors.dial(addr) == Ok(()));
     assert!(rt; comes(doors) == Ok(true));
     assert!(rt; doors.write(Side::Host, b"abc") == Ok(3));
     doors.close(Side::Host);
@@ -67,7 +78,8 @@ fn read_from_themselves<D: Doors>(
 
 #[test]
 fn three_bytes_and_the_end_go_from_the_host_to_the_client(rt: HostRuntime) -> Result<(), Fail> {
+    let addr = free_addr(&rt)?;
     let mut doors = TcpDoors::new(&rt, rt.alloc())?;
-    write_to_themselves(&rt, &mut doors);
+    write_to_themselves(&rt, addr.as_str(), &mut doors);
     read_from_themselves(&rt, &mut doors, &mut Bytes::new(rt.alloc()))
 }
