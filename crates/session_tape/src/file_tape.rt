@@ -58,9 +58,10 @@ impl<'a, R: Files + Eprint> Tape for FileTape<'a, R> {
         self.file.is_some()
     }
 
-    /// All of the bytes go to the file, which is there.
+    /// All of the bytes go to the file.
     fn put(&mut self, bytes: &[u8]) -> Result<(), Failed>
-        ensures made { is_some self.new.file ≡ is_some self.old.file }
+        requires { is_some self.old.file ≡ true }
+        ensures made { is_some self.new.file ≡ true }
         ensures ok { OnOk result (None ≡ append_known None bytes.now) }
         ensures err { OnErr result (GrowsInPart None None bytes.now) }
         ensures cause { CountsFault result (counts self.old.faults self.old.there) (counts self.new.faults self.new.there) }
@@ -116,14 +117,14 @@ fn open_new<R: Files>(system: &R, name: &str, how: &OpenOptions) -> io::Result<R
     how.open(system, name)
 }
 
-/// Writes all of the bytes to what is there, or, where that fails, a front of them. Where nothing is there it fails,
-/// too.
+/// Writes all of the bytes to what is there, or, where that fails, a front of them.
 fn put_all<K: Sink>(there: &mut Option<K>, bytes: &[u8]) -> Result<(), Failed>
-    ensures made { is_some there.new ≡ is_some there.old }
+    requires { is_some there.old ≡ true }
+    ensures made { is_some there.new ≡ true }
     ensures goes { OnOk result (GoesTo K.contents there.old there.new bytes.now) }
 {
-    match there {
-        Some(sink) => write_all(sink, bytes),
-        None => Err(Failed),
-    }
+    let Some(sink) = there else {
+        unreachable!();
+    };
+    write_all(sink, bytes)
 }

@@ -1,9 +1,12 @@
 //! A session that isn't recorded.
 
+ghost use Rattle.std.specs.Prelude.{IsOk};
+
 use crate::tape::Tape;
 use gate_outside::Failed;
 
-/// A tape that is never made. Nothing is recorded on it.
+/// A tape that is never made, so that nobody may write to it. Elsewhere a write needs a tape that is made, and here it
+/// needs none, and does nothing.
 #[derive(Clone, Copy)]
 pub struct NoTape;
 
@@ -21,7 +24,9 @@ impl Tape for NoTape {
         false
     }
 
-    fn put(&mut self, _bytes: &[u8]) -> Result<(), Failed> {
+    fn put(&mut self, _bytes: &[u8]) -> Result<(), Failed>
+        ensures { IsOk result }
+    {
         Ok(())
     }
 }

@@ -31,9 +31,10 @@ pub trait Tape {
         ensures made { result ≡ made self.now }
         ensures none { result ≡ false → contents self.now ≡ None };
 
-    /// Writes all of the bytes, or, where that fails, a front of them. Where it isn't made, `record` isn't called.
+    /// Writes all of the bytes, or, where that fails, a front of them.
     fn put(&mut self, bytes: &[u8]) -> Result<(), Failed>
-        ensures made { made self.new ≡ made self.old }
+        requires { made self.old ≡ true }
+        ensures made { made self.new ≡ true }
         ensures ok { OnOk result (contents self.new ≡ append_known (contents self.old) bytes.now) }
         ensures err { OnErr result (GrowsInPart (contents self.old) (contents self.new) bytes.now) }
         ensures cause { CountsFault result (counts self.old) (counts self.new) };

@@ -74,13 +74,13 @@ impl Tape for TextTape {
     }
 
     fn put(&mut self, bytes: &[u8]) -> Result<(), Failed> {
-        if self.is_made {
-            if let Ok(()) = write_all(&mut self.sink, bytes) {
-                return Ok(());
+        match write_all(&mut self.sink, bytes) {
+            Ok(()) => Ok(()),
+            Err(failed) => {
+                self.faults = self.faults.saturating_add(1);
+                Err(failed)
             }
         }
-        self.faults = self.faults.saturating_add(1);
-        Err(Failed)
     }
 }
 
