@@ -1,6 +1,6 @@
 //! What devices have in common that answer endpoint 0 by their descriptors: those, and the answers.
 
-ghost use Rattle.std.specs.Prelude.{◌≡◌, ◌&&◌, IsSome, IfOk, OnOk, OnErr, None};
+ghost use Rattle.std.specs.Prelude.{◌≡◌, ◌&&◌, ◌<◌, length, IsSome, IfOk, OnOk, OnErr, None};
 ghost use Rattle.usb_base.specs.Status.{is_success};
 ghost use Rattle.chapter9.specs.Descriptors.{wrong_place};
 ghost use Rattle.chapter9.specs.State.{unconfigured};
@@ -97,12 +97,13 @@ impl Framework {
         self.table().row(ep).kind != EpKind::Invalid && !self.state.is_halted(ep)
     }
 
-    /// Answers a transfer of endpoint 0.
+    /// Answers a transfer of endpoint 0. For want of memory, which an answer with bytes alone takes, nothing changes.
     pub fn control(&mut self, alloc: Global, transfer: &Transfer) -> Result<Outcome, Memory>
         requires { IsSome transfer.now.setup }
         ensures outcome { IfOk result (λ outcome. outcome ≡ outcome_of self.old.set self.old.parts self.old.state transfer.now) }
         ensures state { OnOk result (self.new ≡ record self.old { state = state_after self.old.parts self.old.state transfer.now }) }
         ensures err { OnErr result (self.new ≡ self.old) }
+        ensures thrifty { OnErr result (0 < length (outcome_of self.old.set self.old.parts self.old.state transfer.now).body) }
     {
         standard(alloc, &self.set, &self.parts, &mut self.state, transfer)
     }
