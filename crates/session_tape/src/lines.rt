@@ -1,6 +1,7 @@
 //! The lines of a tape.
 
-ghost use Rattle.std.specs.Prelude.{◌≡◌, ◌++◌, IfOk, OnOk, string_bytes};
+ghost use Rattle.std.specs.Prelude.{◌≡◌, ◌++◌, IfOk, OnOk, OnErr, string_bytes};
+ghost use Rattle.usb_base.specs.Writes.{Begins};
 ghost use Rattle.session_tape.specs.Lines.{letter_of, piece_line, end_line, refusal_comment, first_comment};
 
 use std::alloc::Global;
@@ -8,7 +9,8 @@ use usb_base::{Bytes, Memory, Refusal, Side, push_hex};
 
 /// Appends the line of a piece of a side's stream. For want of memory a front of the line may be there.
 pub fn push_piece(side: Side, bytes: &[u8], text: &mut Bytes) -> Result<(), Memory>
-    ensures { OnOk result (text.new ≡ text.old ++ piece_line side bytes.now) }
+    ensures ok { OnOk result (text.new ≡ text.old ++ piece_line side bytes.now) }
+    ensures err { OnErr result (Begins text.old text.new) }
 {
     text.push(letter_of(side))?;
     text.push(b' ')?;
@@ -18,7 +20,8 @@ pub fn push_piece(side: Side, bytes: &[u8], text: &mut Bytes) -> Result<(), Memo
 
 /// Appends the line of a side's end. For want of memory a front of the line may be there.
 pub fn push_end(side: Side, text: &mut Bytes) -> Result<(), Memory>
-    ensures { OnOk result (text.new ≡ text.old ++ end_line side) }
+    ensures ok { OnOk result (text.new ≡ text.old ++ end_line side) }
+    ensures err { OnErr result (Begins text.old text.new) }
 {
     text.push(letter_of(side))?;
     text.push(b'.')?;
@@ -36,7 +39,8 @@ fn letter_of(side: Side) -> u8
 
 /// Appends the line of a refusal, as a comment. For want of memory a front of it may be there.
 pub fn push_refusal(alloc: Global, refusal: &Refusal, text: &mut Bytes) -> Result<(), Memory>
-    ensures { OnOk result (text.new ≡ text.old ++ refusal_comment refusal.now) }
+    ensures ok { OnOk result (text.new ≡ text.old ++ refusal_comment refusal.now) }
+    ensures err { OnErr result (Begins text.old text.new) }
 {
     text.append(b"# ")?;
     refusal.line(alloc, text)
