@@ -3,6 +3,7 @@
 use Rattle.std.proofs.Common.{◌≡◌, ◌⊎◌, ℕ, ◌-◌, ◌==◌, Bool, false, cond, List, [], ◌∷◌, ◌++◌, refl, sym, ap, ◌∙◌, subst, inl, inr, append_assoc, append-nil}
 use Rattle.std.proofs.lemmas.Bool.{cond_both}
 use Rattle.std.proofs.lemmas.List.{append_cancel_left}
+use Rattle.usb_base.specs.Writes.{Begins}
 use Rattle.usb_base.specs.declared.side.Side.{Side}
 use Rattle.usb_base.specs.declared.side.Side.TheVariants.{Client, Host}
 use Rattle.gate_outside.specs.declared.turn.Turn.{Turn}
@@ -16,7 +17,6 @@ use Rattle.bridge_run.specs.written.Recorded.{lines_of}
 use Rattle.bridge_run.specs.course.Course.{Setting, Course, Next, Making, AtDoor, AtClient, AtHost, AtEnd, Takes}
 use Rattle.bridge_run.specs.declared.course.serving.TheConstants.{POLL_LIMIT}
 use Rattle.bridge_run.specs.course.Calls.{Outcome, Goes, Stops, come, turned, heard, poll, gathered, call, course_of}
-use Rattle.bridge_run.specs.log.Log.{IsFront}
 use Rattle.bridge_run.specs.written.Ups.{client_at, host_at, client_behind, to_clients}
 use Rattle.bridge_run.proofs.lemmas.course.Settle.{take-course}
 use Rattle.usbgate_commands.specs.words.Serving.{ServeSettings}
@@ -136,16 +136,16 @@ pub ends-fit : (asked : ServeSettings) (events taken : List LinkEvent) (more : L
 ends-fit asked events taken more (inl x) fit = subst AllFit x.0 fit
 ends-fit asked events taken more (inr x) fit = (fit-behind x.after (x.event ∷ events) (subst AllFit x.taken-are fit)).1
 
-front-more : (front all more whole : List ℕ) → IsFront front all → whole ≡ all ++ more → IsFront front whole
-front-more front all more whole f is = (f.0 ++ more, is ∙ ap (λ (l : List ℕ). l ++ more) f.1 ∙ append_assoc front f.0 more)
+front-more : (front all more whole : List ℕ) → Begins front all → whole ≡ all ++ more → Begins front whole
+front-more front all more whole f is = record { more = f.more ++ more; is = is ∙ ap (λ (l : List ℕ). l ++ more) f.is ∙ append_assoc front f.more more }
 
-pub client-front : (p : Prescribed) (first taped : List LinkEvent) → IsFront (to_clients p taped) (to_clients p (first ++ taped))
-client-front p [] taped = ([], sym (append-nil (to_clients p taped)))
+pub client-front : (p : Prescribed) (first taped : List LinkEvent) → Begins (to_clients p taped) (to_clients p (first ++ taped))
+client-front p [] taped = record { more = []; is = sym (append-nil (to_clients p taped)) }
 client-front p (e ∷ first) taped =
     front-more (to_clients p taped) (to_clients p (first ++ taped)) (cond (client_at e (client_behind p (first ++ taped))) (gained p.to_client (first ++ taped) e) []) (to_clients p (e ∷ (first ++ taped))) (client-front p first taped) refl
 
-pub host-front : (p : Prescribed) (first taped : List LinkEvent) → IsFront (to_host p taped) (to_host p (first ++ taped))
-host-front p [] taped = ([], sym (append-nil (to_host p taped)))
+pub host-front : (p : Prescribed) (first taped : List LinkEvent) → Begins (to_host p taped) (to_host p (first ++ taped))
+host-front p [] taped = record { more = []; is = sym (append-nil (to_host p taped)) }
 host-front p (e ∷ first) taped =
     front-more (to_host p taped) (to_host p (first ++ taped)) (cond (host_at e (host_behind p (first ++ taped))) (gained p.to_host (first ++ taped) e) []) (to_host p (e ∷ (first ++ taped))) (host-front p first taped) refl
 

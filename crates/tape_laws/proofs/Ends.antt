@@ -1,6 +1,7 @@
 -- What a run of `serve` has recorded, by how it ended.
 use Rattle.std.proofs.Common.{◌≡◌, ◌⊎◌, ◌≤◌, ℕ, Bool, inl, inr, List, [], ◌∷◌, ◌++◌, length, Option, Some, None, IfSome, refl, sym, ap, ◌∙◌, subst, append_assoc, append-nil, arith}
 use Rattle.std.proofs.lemmas.List.{length-append, append_cancel_left}
+use Rattle.usb_base.specs.Writes.{Begins}
 use Rattle.gate_history.specs.step.Events.{Event as GateEvent}
 use Rattle.gate_history.specs.step.History.{history}
 use Rattle.gate_history.specs.write.All.{counts_of}
@@ -29,7 +30,6 @@ use Rattle.usbgate_commands.specs.words.Serving.{ServeSettings}
 use Rattle.usbgate_commands.specs.links.Serves.{Known, setting_of, ended_as, IsUnrecorded, IsRecorded, Serves}
 use Rattle.bridge_run.specs.written.Recorded.{event_line, lines_of as event_lines}
 use Rattle.tape_laws.specs.Recordings.{recorded, served, all_replayed}
-use Rattle.bridge_run.specs.log.Log.{IsFront}
 use Rattle.bridge_run.specs.written.Ups.{client_at, host_at, client_behind, to_clients}
 use Rattle.tape_laws.specs.Ups.{host_behind, to_host}
 use Rattle.tape_laws.specs.Begun.{IsFresh}
@@ -135,12 +135,12 @@ front-between known least most all later b is = record {
 }
 
 -- of more bytes it is a front, too
-front-longer : (known : Option (List ℕ)) (all whole : List ℕ) → WroteFront known all → IsFront all whole → WroteFront known whole
+front-longer : (known : Option (List ℕ)) (all whole : List ℕ) → WroteFront known all → Begins all whole → WroteFront known whole
 front-longer known all whole w f = record {
   front = w.front;
-  lost = w.lost ++ f.0;
+  lost = w.lost ++ f.more;
   known-is = w.known-is;
-  all-is = f.1 ∙ ap (λ (l : List ℕ). l ++ f.0) w.all-is ∙ append_assoc w.front w.lost f.0;
+  all-is = f.is ∙ ap (λ (l : List ℕ). l ++ f.more) w.all-is ∙ append_assoc w.front w.lost f.more;
 }
 
 -- the lines of all events of a course and its links have what these record and send
@@ -339,7 +339,7 @@ untouched asked c old out f tells = record {
   host = tells.host.written-is ∙ ap (λ (l : List ℕ). Some l) f.no_host;
 }
 
-plays-nothing : (asked : ServeSettings) (new : Outside) (held : List ℕ) → IsUnserved new → IsFront held (first_comment asked.first_id) → length held ≤ tape_limit → PlaysNothing asked new held
+plays-nothing : (asked : ServeSettings) (new : Outside) (held : List ℕ) → IsUnserved new → Begins held (first_comment asked.first_id) → length held ≤ tape_limit → PlaysNothing asked new held
 plays-nothing asked new held unserved front room =
     let read = first-line-read asked held front room in
     let command = over_events (replay asked.first_id) in
@@ -369,7 +369,7 @@ unmade-replays Spent asked c before new held t t' is x = absurd is
 unbegun-replays : (status : Status) (asked : ServeSettings) (c : Course) (before after : Option (List ℕ)) (new : Outside) (held : List ℕ) (t t' : Counts) → after ≡ Some held → length held ≤ tape_limit → IsUnmade status t t' → IsUnserved new → IsUnbegun asked.first_id status before after → Replays status asked c before new held
 unbegun-replays status asked c before after new held t t' tape-is room is none (inl same) = unmade-replays status asked c before new held t t' is (record { unserved = none; before-is = sym same ∙ tape-is })
 unbegun-replays status asked c before after new held t t' tape-is room is none (inr cut) =
-    let front = subst (λ (o : Option (List ℕ)). IfSome o (λ (l : List ℕ). IsFront l (first_comment asked.first_id))) tape-is cut.1 in
+    let front = subst (λ (o : Option (List ℕ)). IfSome o (λ (l : List ℕ). Begins l (first_comment asked.first_id))) tape-is cut.1 in
     subst (λ (s : Status). Replays s asked c before new held) (sym cut.0) (inr (inl (plays-nothing asked new held none front room)))
 
 -- ---- the law

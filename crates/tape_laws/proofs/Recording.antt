@@ -2,6 +2,7 @@
 use Rattle.std.proofs.Common.{◌≡◌, ◌⊎◌, ◌≤◌, ℕ, zero, suc, ◌+◌, ◌-◌, Bool, false, cond, ◌&&◌, ◌==◌, inl, inr, List, [], ◌∷◌, ◌++◌, length, take, slice_index, nat_eq, nat_lt, option_and_then, Option, Some, None, refl, sym, ap, subst, ◌∙◌, append_assoc, append-nil, arith}
 use Rattle.std.proofs.lemmas.Bool.{cond_both, eqb-true, false_from_ne_true, le-ltb}
 use Rattle.std.proofs.lemmas.List.{length-append}
+use Rattle.usb_base.specs.Writes.{Begins}
 use Rattle.gate_history.specs.step.Events.{Event as GateEvent}
 use Rattle.session_tape.specs.Lines.{first_comment}
 use Rattle.bridge_run.specs.events.Events.{LinkEvent}
@@ -10,7 +11,6 @@ use Rattle.packet_show.specs.declared.tape.TapeKind.TheVariants.{Replay}
 use Rattle.packet_show.specs.declared.tape.TapeLine.{TapeLine}
 use Rattle.packet_show.specs.declared.tape.TapeLine.TheVariants.{Skip}
 use Rattle.packet_show.specs.Tape.{tape_line}
-use Rattle.bridge_run.specs.log.Log.{IsFront}
 use Rattle.usbgate_tapes.specs.tape.Tape.{before_first, event_said, lines_of, content}
 use Rattle.usbgate_tapes.specs.Text.{opening_text}
 use Rattle.packet_show.specs.declared.tape.TheConstants.{TAPE_LIMIT as tape_limit}
@@ -156,5 +156,5 @@ comment-front asked words (h ∷ hs) lost whole is room = subst (λ (n : ℕ). I
     go (inl none) = absurd cc
     go (inr one) = comment-read asked hs (subst (λ (n : ℕ). lines_of (n ∷ hs) ≡ (n ∷ hs) ∷ []) (sym hash) one) room
 
-pub first-line-read : (asked : ServeSettings) (held : List ℕ) → IsFront held (first_comment asked.first_id) → length held ≤ tape_limit → IsSilent asked held
-first-line-read asked held front room = comment-front asked (codes " --first-id " ++ decimal asked.first_id) held front.0 (first-whole asked.first_id) front.1 room
+pub first-line-read : (asked : ServeSettings) (held : List ℕ) → Begins held (first_comment asked.first_id) → length held ≤ tape_limit → IsSilent asked held
+first-line-read asked held front room = comment-front asked (codes " --first-id " ++ decimal asked.first_id) held front.more (first-whole asked.first_id) front.is room

@@ -1,5 +1,6 @@
 -- What a recording is read as, and what its replay prints, beside what was written to the links.
 use Rattle.std.specs.Prelude.{◌≡◌, ◌⊎◌, ℕ, false, List, [], ◌∷◌, ◌++◌, length, Option, Some}
+use Rattle.usb_base.specs.Writes.{Begins}
 use Rattle.session_tape.specs.Lines.{first_comment}
 use Rattle.gate_history.specs.step.Events.{Event as GateEvent}
 use Rattle.gate_history.specs.step.History.{history}
@@ -10,7 +11,6 @@ use Rattle.bridge_run.specs.course.Course.{Course, Next, Making}
 use Rattle.bridge_run.specs.course.Calls.{Goes, Stops, call, course_of}
 use Rattle.bridge_run.specs.course.Outside.{Outside}
 use Rattle.bridge_run.specs.served.Gate.{gate_events}
-use Rattle.bridge_run.specs.log.Log.{IsFront}
 use Rattle.bridge_run.specs.served.GateStops.{gate_runs_out}
 use Rattle.bridge_run.specs.events.Prescribed.{gained}
 use Rattle.bridge_run.specs.events.RanOut.{RanOutWithin}
@@ -123,7 +123,7 @@ pub record IsAsBefore (before : Option (List ℕ)) (new : Outside) (held : List 
 -- and its replay prints what a replay of nothing does: the hello and the counts.
 pub record PlaysNothing (asked : ServeSettings) (new : Outside) (held : List ℕ) : Type 0 where
   pub unserved : IsUnserved new
-  pub front : IsFront held (first_comment asked.first_id)
+  pub front : Begins held (first_comment asked.first_id)
   pub good : (read_of asked held).bad ≡ false
   pub none : (read_of asked held).after.kept ≡ []
   pub prints : text_of asked held ≡ opening_text asked.first_id ++ counts_line (counts_of asked.first_id (history asked.first_id []))

@@ -1,5 +1,6 @@
 -- How far a session has come by the log of the doors' calls.
 use Rattle.std.specs.Prelude.{◌≡◌, ◌⊎◌, ◌≤◌, ◌<◌, ◌+◌, ◌-◌, ◌++◌, ◌∷◌, [], ℕ, not, Bool, true, false, List, Some, is_some, Result, Ok, Err}
+use Rattle.usb_base.specs.Writes.{Begins}
 use Rattle.usb_base.specs.declared.side.Side.{Side}
 use Rattle.usb_base.specs.declared.side.Side.TheVariants.{Client, Host}
 use Rattle.gate_outside.specs.Calls.{Call, Close, Called, went}
@@ -14,7 +15,7 @@ use Rattle.bridge_run.specs.course.Calls.{ends_next}
 use Rattle.bridge_run.specs.written.Recorded.{written_if}
 use Rattle.bridge_run.specs.written.Ups.{client_at, client_behind, host_at, host_since, told_of, up_by}
 use Rattle.bridge_run.specs.log.Asks.{Ask, asks_of, taken, has_just_come, quiet_rounds, is_behind_host, last_fault}
-use Rattle.bridge_run.specs.log.Log.{Terms, events_of, events_before, IsFront, IsWritten, IsWrittenInPart, is_up, GoesOn, is_over, Settled, JustCame, Logged}
+use Rattle.bridge_run.specs.log.Log.{Terms, events_of, events_before, IsWritten, IsWrittenInPart, is_up, GoesOn, is_over, Settled, JustCame, Logged}
 use Rattle.bridge_run.specs.inner.Keeping.{one_if, is_over as none_up}
 
 -- what is served stands for the events that came, and all is written that they send
@@ -26,7 +27,7 @@ pub record IsAt {D : Type 0} (gives : D → Call → D → Type 0) (stands : Lis
   pub stands_for : stands (events_of calls)
   pub written : IsWritten terms p (events_of calls) calls
   pub told : tells (told_of p (events_of calls))
-  pub told_before : IsFront (told_of p (events_before calls)) (told_of p (events_of calls))
+  pub told_before : Begins (told_of p (events_before calls)) (told_of p (events_of calls))
   pub left : k.left ≡ terms.budget - taken asks
   pub client_up : k.client_up ≡ client_behind p (events_of calls)
   pub host_up : k.host_up ≡ host_since (is_some terms.host) p (events_of calls)
@@ -50,7 +51,7 @@ pub record IsTaking {D : Type 0} (gives : D → Call → D → Type 0) (stands :
   pub stands_for : stands events
   pub written : IsWritten terms p events calls
   pub told : tells (told_of p events)
-  pub told_before : IsFront (told_of p (events_before calls)) (told_of p events)
+  pub told_before : Begins (told_of p (events_before calls)) (told_of p events)
   pub left : k.left ≡ terms.budget - taken asks
   pub client_up : k.client_up ≡ client_at e (client_behind p events)
   pub host_up : k.host_up ≡ host_at e (host_since (is_some terms.host) p events)

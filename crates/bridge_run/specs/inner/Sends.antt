@@ -1,10 +1,10 @@
 -- What an event has sent.
 use Rattle.std.specs.Prelude.{◌≡◌, ℕ, ◌++◌, ◌∷◌, ◌||◌, List}
+use Rattle.usb_base.specs.Writes.{Begins}
 use Rattle.bridge_run.specs.events.Events.{LinkEvent}
 use Rattle.bridge_run.specs.declared.events.sent.Sent.{Sent}
 use Rattle.bridge_run.specs.events.Prescribed.{Prescribed, gained}
 use Rattle.bridge_run.specs.events.RanOut.{RanOutWithin}
-use Rattle.bridge_run.specs.log.Log.{IsFront}
 
 pub record SendsAll (p : Prescribed) (events : List LinkEvent) (e : LinkEvent) (old new : Sent) : Type 0 where
   pub client : new.to_client ≡ old.to_client ++ gained p.to_client events e
@@ -18,8 +18,8 @@ pub record SendsAll (p : Prescribed) (events : List LinkEvent) (e : LinkEvent) (
 
 -- of what the event sends to each side this is a front, and here memory ran out
 pub record IsPart (runs_out : List LinkEvent → LinkEvent → List ℕ → List ℕ → Type 0) (p : Prescribed) (events : List LinkEvent) (e : LinkEvent) (client host : List ℕ) : Type 0 where
-  pub to_client : IsFront client (gained p.to_client events e)
-  pub to_host : IsFront host (gained p.to_host events e)
+  pub to_client : Begins client (gained p.to_client events e)
+  pub to_host : Begins host (gained p.to_host events e)
   pub ran_out : RanOutWithin runs_out p events e client host
 
 pub record SendsPart (runs_out : List LinkEvent → LinkEvent → List ℕ → List ℕ → Type 0) (p : Prescribed) (events : List LinkEvent) (e : LinkEvent) (old new : Sent) : Type 0 where

@@ -1,5 +1,6 @@
 -- How a session stops for want of memory, by the log of the doors' calls.
 use Rattle.std.specs.Prelude.{◌≡◌, ◌++◌, ◌∷◌, [], ℕ, if◌then◌else◌, List, Some, is_some}
+use Rattle.usb_base.specs.Writes.{Begins}
 use Rattle.usb_base.specs.declared.side.Side.{Side}
 use Rattle.usb_base.specs.declared.side.Side.TheVariants.{Client, Host}
 use Rattle.gate_outside.specs.Calls.{Call, Called, went}
@@ -12,7 +13,7 @@ use Rattle.bridge_run.specs.course.Course.{Course}
 use Rattle.bridge_run.specs.written.Ups.{client_at, client_behind, host_at, host_since, to_clients, sent_to_host, told_of}
 use Rattle.bridge_run.specs.log.Asks.{last_fault}
 use Rattle.bridge_run.specs.events.RanOut.{RanOut}
-use Rattle.bridge_run.specs.log.Log.{Terms, events_of, events_before, IsFront, IsWritten, IsWrittenInPart, Settled, JustCame}
+use Rattle.bridge_run.specs.log.Log.{Terms, events_of, events_before, IsWritten, IsWrittenInPart, Settled, JustCame}
 
 -- what is kept of the links is the course's
 pub record AreUp (k : Rounds) (c : Course) : Type 0 where
@@ -27,7 +28,7 @@ pub record IsStopping {D : Type 0} (gives : D → Call → D → Type 0) (terms 
   pub events-are : events_of calls ≡ e ∷ events
   pub just_came : JustCame calls
   pub written : IsWritten terms p events calls
-  pub told_before : IsFront (told_of p (events_before calls)) (told_of p events)
+  pub told_before : Begins (told_of p (events_before calls)) (told_of p events)
   pub client_up : k.client_up ≡ client_at e (client_behind p events)
   pub host_up : k.host_up ≡ host_at e (host_since (is_some terms.host) p events)
 
@@ -52,7 +53,7 @@ pub record StopFailed {D : Type 0} (gives : D → Call → D → Type 0) (terms 
   pub events-are : events_of calls ≡ e ∷ events
   pub just_came : JustCame calls
   pub written : IsWrittenInPart terms p (e ∷ events) calls
-  pub told_before : IsFront (told_of p (events_before calls)) (told_of p events)
+  pub told_before : Begins (told_of p (events_before calls)) (told_of p events)
 
 -- which was that of a link
 pub record StopCut {D : Type 0} (side : Side) (gives : D → Call → D → Type 0) (terms : Terms) (p : Prescribed) (e : LinkEvent) (events : List LinkEvent) (begun now : D) : Type 0 where

@@ -2,6 +2,7 @@
 -- and why it ended. It holds over any doors and any sink, since it speaks of nothing but what their calls answered.
 use Rattle.std.specs.Prelude.{◌≡◌, ◌⊎◌, ◌<◌, ◌≤◌, ℕ, ◌&&◌, not, Bool, true, false, if◌then◌else◌, List, [], ◌∷◌, ◌++◌, take, Option, Some, None, is_some, IsSomeAnd, Result, Ok}
 use Rattle.std.specs.List.{cons_option}
+use Rattle.usb_base.specs.Writes.{Begins}
 use Rattle.usb_base.specs.declared.side.Side.{Side}
 use Rattle.usb_base.specs.declared.side.Side.TheVariants.{Client, Host}
 use Rattle.gate_outside.specs.declared.fault.Failed.{Failed as Fault}
@@ -67,13 +68,10 @@ pub record IsWritten (terms : Terms) (p : Prescribed) (events : List LinkEvent) 
   pub client : went Client calls ≡ to_clients p events
   pub host : went Host calls ≡ sent_to_host (is_some terms.host) p events
 
-abbrev pub IsFront : List ℕ → List ℕ → Type 0
-IsFront front all = (rest : List ℕ) × (all ≡ front ++ rest)
-
 -- to each side a front of that
 pub record IsWrittenInPart (terms : Terms) (p : Prescribed) (events : List LinkEvent) (calls : List Call) : Type 0 where
-  pub client : IsFront (went Client calls) (to_clients p events)
-  pub host : IsFront (went Host calls) (sent_to_host (is_some terms.host) p events)
+  pub client : Begins (went Client calls) (to_clients p events)
+  pub host : Begins (went Host calls) (sent_to_host (is_some terms.host) p events)
 
 -- ---- what may come
 
@@ -142,7 +140,7 @@ pub record Wrote (tells : List ℕ → Type 0) (terms : Terms) (p : Prescribed) 
 
 -- a front of the second bytes, and no less than the first
 abbrev pub InPart : (List ℕ → Type 0) → List ℕ → List ℕ → Type 0
-InPart tells least most = (front : List ℕ) × (IsFront least front × IsFront front most × tells front)
+InPart tells least most = (front : List ℕ) × (Begins least front × Begins front most × tells front)
 
 -- a call failed: what the last answer brings, and its lines, may be written in part, and those before it are told
 pub record WroteInPart (tells : List ℕ → Type 0) (terms : Terms) (p : Prescribed) (events : List LinkEvent) (calls : List Call) : Type 0 where

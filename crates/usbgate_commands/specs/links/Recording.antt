@@ -1,10 +1,10 @@
 -- Which commands record, why a recording wasn't begun, and what serving counts.
 use Rattle.std.specs.Prelude.{◌≡◌, ◌≢◌, ◌⊎◌, ℕ, Bool, false, List, Option, IfSome, is_some}
+use Rattle.usb_base.specs.Writes.{Begins}
 use Rattle.usb_base.specs.declared.side.Side.TheVariants.{Client, Host}
 use Rattle.gate_outside.specs.Faults.{Rose}
 use Rattle.session_tape.specs.Lines.{first_comment}
 use Rattle.session_tape.specs.Tapes.{Counts, OneFault, WasThere}
-use Rattle.bridge_run.specs.log.Log.{IsFront}
 use Rattle.bridge_run.specs.course.Outside.{Outside, Faults, OneRose}
 use Rattle.usbgate_commands.specs.declared.words.command.Command.{Command}
 use Rattle.usbgate_commands.specs.declared.words.command.Command.TheVariants.{Serve}
@@ -25,7 +25,7 @@ IsUnmade status old new = ⊥
 
 -- such a recording has what it had before, or, where its first line couldn't be written, a front of that
 abbrev pub IsUnbegun : ℕ → Status → Option (List ℕ) → Option (List ℕ) → Type 0
-IsUnbegun first_id status old new = (new ≡ old) ⊎ ((status ≡ WriteFault) × IfSome new (λ held. IsFront held (first_comment first_id)))
+IsUnbegun first_id status old new = (new ≡ old) ⊎ ((status ≡ WriteFault) × IfSome new (λ held. Begins held (first_comment first_id)))
 
 -- the causes of serving's ends, by counts
 pub record HasServed (status : Status) (old new : Outside) (faults_old faults_new : Faults) : Type 0 where

@@ -3,6 +3,7 @@ use Rattle.std.specs.Option.{option_or}
 use Rattle.std.proofs.Common.{◌≡◌, ℕ, ◌-◌, ◌<◌, ◌≤◌, ◌&&◌, ◌||◌, not, Bool, true, false, cond, inl, List, [], ◌∷◌, ◌++◌, Option, Some, is_some, Result, Ok, Err, refl, sym, ap, ◌∙◌, subst, arith, append-nil, append_assoc}
 use Rattle.std.specs.Result.{IsErrAnd}
 use Rattle.std.proofs.Math.Bool.{and-false}
+use Rattle.usb_base.specs.Writes.{Begins}
 use Rattle.usb_base.specs.declared.side.Side.{Side}
 use Rattle.usb_base.specs.declared.side.Side.TheVariants.{Client, Host}
 use Rattle.usb_base.specs.declared.refusal.Refusal.{Refusal}
@@ -17,7 +18,7 @@ use Rattle.bridge_run.specs.course.Calls.{ends_next}
 use Rattle.bridge_run.specs.written.Recorded.{written_if}
 use Rattle.bridge_run.specs.written.Ups.{client_at, client_behind, host_at, host_since, to_clients, sent_to_host, told_of, up_by}
 use Rattle.bridge_run.specs.log.Asks.{Ask, asks_of, taken, last_fault}
-use Rattle.bridge_run.specs.log.Log.{Terms, events_of, events_before, behind_call, IsWritten, IsFront, IsWrittenInPart, InPart, is_up, is_over, Settled, JustCame, WroteInPart, HasEnded, Logged}
+use Rattle.bridge_run.specs.log.Log.{Terms, events_of, events_before, behind_call, IsWritten, IsWrittenInPart, InPart, is_up, is_over, Settled, JustCame, WroteInPart, HasEnded, Logged}
 use Rattle.bridge_run.specs.inner.Follows.{Prepared}
 use Rattle.bridge_run.specs.inner.Keeping.{refusing, Settles, is_over as none_up}
 use Rattle.bridge_run.specs.inner.Logging.{IsAt, up_at, IsTaking, HasTaken, IsBehind, PutLogs, HappenLogs, WroteMore, FailedBehind, closing}
@@ -35,11 +36,11 @@ pub record HasSent (terms : Terms) (p : Prescribed) (asks : List Ask) (calls : L
   pub just_came : JustCame calls
   pub links : (of : Side) → up_by of calls ≡ up_at of terms p e events
   pub written : IsWritten terms p (e ∷ events) calls
-  pub told_before : IsFront (told_of p (events_before calls)) (told_of p events)
+  pub told_before : Begins (told_of p (events_before calls)) (told_of p events)
 
 -- so it is behind calls that brought nothing more
-pub before-same : (p : Prescribed) (events : List LinkEvent) (calls calls' : List Call) → events_before calls' ≡ events_before calls → IsFront (told_of p (events_before calls)) (told_of p events) → IsFront (told_of p (events_before calls')) (told_of p events)
-before-same p events calls calls' is before = subst (λ (es : List LinkEvent). IsFront (told_of p es) (told_of p events)) (sym is) before
+pub before-same : (p : Prescribed) (events : List LinkEvent) (calls calls' : List Call) → events_before calls' ≡ events_before calls → Begins (told_of p (events_before calls)) (told_of p events) → Begins (told_of p (events_before calls')) (told_of p events)
+before-same p events calls calls' is before = subst (λ (es : List LinkEvent). Begins (told_of p es) (told_of p events)) (sym is) before
 
 sent-closing : (r : Bool) (of : Side) (terms : Terms) (p : Prescribed) (calls : List Call) (events : List LinkEvent) → IsWritten terms p events calls → IsWritten terms p events (closing r of calls)
 sent-closing r of terms p calls events w = record { client = went-closing r of Client calls ∙ w.client; host = went-closing r of Host calls ∙ w.host }
@@ -87,7 +88,7 @@ pub record TakenBy (stands : List LinkEvent → Type 0) (tells : List ℕ → Ty
 
 -- an event was taken, by these calls
 has-taken : {D : Type 0} → (gives : D → Call → D → Type 0) (stands : List LinkEvent → Type 0) (tells : List ℕ → Type 0) (terms : Terms) (p : Prescribed) (asks : List Ask) (k : Rounds) (begun now : D) (calls : List Call) (e : LinkEvent) (events : List LinkEvent) → events_of calls ≡ e ∷ events
-    → JustCame calls → Called gives calls begun now → Settled terms p calls → asks_of calls ≡ asks → ((of : Side) → up_by of calls ≡ is_up of terms p (e ∷ events)) → IsWritten terms p (e ∷ events) calls → IsFront (told_of p (events_before calls)) (told_of p (e ∷ events)) → TakenBy stands tells terms p asks k (e ∷ events) → HasTaken gives stands tells terms p asks k begun now
+    → JustCame calls → Called gives calls begun now → Settled terms p calls → asks_of calls ≡ asks → ((of : Side) → up_by of calls ≡ is_up of terms p (e ∷ events)) → IsWritten terms p (e ∷ events) calls → Begins (told_of p (events_before calls)) (told_of p (e ∷ events)) → TakenBy stands tells terms p asks k (e ∷ events) → HasTaken gives stands tells terms p asks k begun now
 has-taken gives stands tells terms p asks k begun now calls e events is just called settled asked links w before t = record {
   at = record {
     calls = calls;
@@ -97,7 +98,7 @@ has-taken gives stands tells terms p asks k begun now calls e events is just cal
     stands_for = subst stands (sym is) t.stands_for;
     written = subst (λ (es : List LinkEvent). IsWritten terms p es calls) (sym is) w;
     told = subst (λ (es : List LinkEvent). tells (told_of p es)) (sym is) t.told;
-    told_before = subst (λ (es : List LinkEvent). IsFront (told_of p (events_before calls)) (told_of p es)) (sym is) before;
+    told_before = subst (λ (es : List LinkEvent). Begins (told_of p (events_before calls)) (told_of p es)) (sym is) before;
     left = t.left;
     client_up = t.client_up ∙ ap (client_behind p) (sym is);
     host_up = t.host_up ∙ ap (host_since (is_some terms.host) p) (sym is);
@@ -186,7 +187,7 @@ put-behind gives stands tells terms p asks e events k begun now calls refused dr
     links : (of : Side) → up_by of all ≡ is_up of terms p (e ∷ events)
     links of = links-behind terms p e events calls refused dropped of drop refuse (h.links of)
 
-    before : IsFront (told_of p (events_before all)) (told_of p (e ∷ events))
+    before : Begins (told_of p (events_before all)) (told_of p (e ∷ events))
     before = front-more (told_of p (events_before all)) (told_of p events) _ (before-same p events calls all (closed-before refused dropped calls) h.told_before)
 
     taken : (dropped && ends_next e true) ≡ false → HasTaken gives stands tells terms p asks k begun now
@@ -262,11 +263,11 @@ behind-sent gives stands stands' before tells terms p asks e k k1 k2 sent lines 
 
 -- ---- in part
 
-pub front-whole : (all written : List ℕ) → written ≡ all → IsFront written all
-front-whole all written is = ([], sym is ∙ sym (append-nil written))
+pub front-whole : (all written : List ℕ) → written ≡ all → Begins written all
+front-whole all written is = record { more = []; is = sym is ∙ sym (append-nil written) }
 
-pub front-of-more : (all more written : List ℕ) → written ≡ all → IsFront written (all ++ more)
-front-of-more all more written is = (more, ap (λ (l : List ℕ). l ++ more) (sym is))
+pub front-of-more : (all more written : List ℕ) → written ≡ all → Begins written (all ++ more)
+front-of-more all more written is = record { more = more; is = ap (λ (l : List ℕ). l ++ more) (sym is) }
 
 whole-part : (terms : Terms) (p : Prescribed) (events : List LinkEvent) (calls : List Call) → IsWritten terms p events calls → IsWrittenInPart terms p events calls
 whole-part terms p events calls w = record { client = front-whole _ _ w.client; host = front-whole _ _ w.host }
@@ -338,8 +339,8 @@ lines-part gives stands runs_out before tells terms p asks e k k1 sent lines beg
     }
 
 -- a front of what it sends was written to a side that is up
-pub front-in : (all front back more written : List ℕ) → written ≡ all ++ front → more ≡ front ++ back → IsFront written (all ++ more)
-front-in all front back more written is parts = (back, ap (λ (l : List ℕ). all ++ l) parts ∙ sym (append_assoc all front back) ∙ ap (λ (l : List ℕ). l ++ back) (sym is))
+pub front-in : (all front back more written : List ℕ) → written ≡ all ++ front → more ≡ front ++ back → Begins written (all ++ more)
+front-in all front back more written is parts = record { more = back; is = ap (λ (l : List ℕ). all ++ l) parts ∙ sym (append_assoc all front back) ∙ ap (λ (l : List ℕ). l ++ back) (sym is) }
 
 pub client-part : {D : Type 0} {gives : D → Call → D → Type 0} {stands : List LinkEvent → Type 0} {runs_out : List LinkEvent → LinkEvent → List ℕ → List ℕ → Type 0} {tells : List ℕ → Type 0} {terms : Terms} {p : Prescribed} {asks : List Ask} {e : LinkEvent} {k k1 : Rounds} {sent : Sent} {lines bytes : List ℕ} {begun d0 d1 : D}
     → (t : IsTaking gives stands tells terms p asks e k begun d0) → Prepared p t.events e sent lines → k1 ≡ k → bytes ≡ sent.to_client

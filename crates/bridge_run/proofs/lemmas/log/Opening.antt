@@ -1,5 +1,5 @@
 -- A session's log, as it begins.
-use Rattle.std.proofs.Common.{◌≡◌, ℕ, ◌+◌, ◌-◌, ◌<◌, ◌≤◌, Bool, true, false, List, [], ◌∷◌, ◌++◌, Some, None, is_some, Result, Ok, Err, refl, sym, ap, ◌∙◌, subst, arith, append-nil}
+use Rattle.std.proofs.Common.{◌≡◌, ℕ, ◌+◌, ◌-◌, ◌<◌, ◌≤◌, Bool, true, false, List, [], ◌∷◌, ◌++◌, Some, None, is_some, Result, Ok, Err, refl, sym, ap, ◌∙◌, subst, arith}
 use Rattle.std.specs.Result.{IsErrAnd}
 use Rattle.usb_base.specs.declared.side.Side.{Side}
 use Rattle.usb_base.specs.declared.side.Side.TheVariants.{Client, Host}
@@ -30,7 +30,7 @@ pub nothing-before : {D : Type 0} → (gives : D → Call → D → Type 0) (run
 nothing-before gives runs_out tells terms p now none = record { calls = []; called = refl; settled = tt; written = (refl, none); ended = tt }
 
 pub dial-failed : {D : Type 0} → (gives : D → Call → D → Type 0) (p : Prescribed) (host door : List ℕ) (taped : Bool) (idle budget : ℕ) (failed : Fault) (begun now : D) → gives begun (Dial host (Err failed)) now → OpenFailed Host gives (with_host host door taped idle budget) p begun now
-dial-failed gives p host door taped idle budget failed begun now g = record { calls = Dial host (Err failed) ∷ []; called = (begun, (refl, g)); settled = (tt, (refl, refl)); none = refl; none_before = refl; written = record { client = ([], refl); host = (_, refl) }; failed = refl }
+dial-failed gives p host door taped idle budget failed begun now g = record { calls = Dial host (Err failed) ∷ []; called = (begun, (refl, g)); settled = (tt, (refl, refl)); none = refl; none_before = refl; written = record { client = front-whole [] [] refl; host = record { more = _; is = refl } }; failed = refl }
 
 -- the host was dialled, and the door is asked for
 abbrev pub asked : (host door : List ℕ) → Result (Unit {0}) Fault → List Call
@@ -61,7 +61,7 @@ listen-failed gives p host door taped idle budget failed begun mid now g g2 = re
   settled = asked-settled host door taped idle budget p (Err failed);
   none = refl;
   none_before = refl;
-  written = record { client = ([], refl); host = (_, refl) };
+  written = record { client = front-whole [] [] refl; host = record { more = _; is = refl } };
   failed = refl;
 }
 
@@ -74,8 +74,8 @@ hello-failed gives p host door taped idle budget up hello begun now is f = recor
   none = f.wrote.events-are;
   none_before = f.wrote.before-are;
   written = record {
-    client = ([], sym f.wrote.other-is ∙ sym (append-nil (went Client f.wrote.behind)));
-    host = (f.back, sym is ∙ f.parts ∙ ap (λ (l : List ℕ). l ++ f.back) (sym f.wrote.side-is));
+    client = front-whole [] (went Client f.wrote.behind) f.wrote.other-is;
+    host = record { more = f.back; is = sym is ∙ f.parts ∙ ap (λ (l : List ℕ). l ++ f.back) (sym f.wrote.side-is) };
   };
   failed = f.failed;
 }
@@ -163,7 +163,7 @@ door-failed gives runs_out tells p door idle budget failed begun now g none = re
   calls = Listen door (Err failed) ∷ [];
   called = (begun, (refl, g));
   settled = (tt, (refl, refl));
-  written = record { links = record { client = ([], refl); host = ([], refl) }; told = told-all tells [] [] ([], refl) none };
+  written = record { links = record { client = front-whole [] [] refl; host = front-whole [] [] refl }; told = told-all tells [] [] (front-whole [] [] refl) none };
   ended = refl;
 }
 

@@ -1,6 +1,7 @@
 -- What a sink was told, piece by piece.
 use Rattle.std.proofs.Common.{◌≡◌, ℕ, List, [], ◌∷◌, ◌++◌, Result, refl, sym, ap, ◌∙◌, subst, append-nil, append_assoc}
 use Rattle.std.specs.List.{flat_map}
+use Rattle.usb_base.specs.Writes.{Begins}
 use Rattle.usb_base.specs.declared.refusal.Refusal.{Refusal}
 use Rattle.usb_base.specs.Refusal.{refusal_line}
 use Rattle.gate_outside.specs.declared.fault.Failed.{Failed}
@@ -10,7 +11,7 @@ use Rattle.bridge_run.specs.events.Events.{LinkEvent}
 use Rattle.bridge_run.specs.declared.events.sent.Sent.{Sent}
 use Rattle.bridge_run.specs.events.Prescribed.{Prescribed, gained}
 use Rattle.bridge_run.specs.written.Ups.{told_of}
-use Rattle.bridge_run.specs.log.Log.{Told, IsFront, InPart}
+use Rattle.bridge_run.specs.log.Log.{Told, InPart}
 use Rattle.bridge_run.specs.inner.Follows.{Prepared}
 
 -- nothing was told
@@ -37,8 +38,8 @@ pub told-front : {S : Type 0} (gives : S → List ℕ → Result ℕ Failed → 
 told-front gives p events e sent lines given old mid new prepared is before f = (
   told_of p events ++ f.front,
   (
-    (f.front, refl),
-    (f.back, ap (λ (l : List ℕ). told_of p events ++ l) (sym (lines-of p events e sent lines prepared) ∙ sym is ∙ f.parts) ∙ sym (append_assoc (told_of p events) f.front f.back)),
+    record { more = f.front; is = refl },
+    record { more = f.back; is = ap (λ (l : List ℕ). told_of p events ++ l) (sym (lines-of p events e sent lines prepared) ∙ sym is ∙ f.parts) ∙ sym (append_assoc (told_of p events) f.front f.back) },
     told-more gives (told_of p events) f.front old mid new before f.moves,
   ),
 )
@@ -46,20 +47,20 @@ told-front gives p events e sent lines given old mid new prepared is before f = 
 -- ---- in part
 
 -- a front of a part is one of the whole
-pub front-more : (front bytes more : List ℕ) → IsFront front bytes → IsFront front (bytes ++ more)
-front-more front bytes more f = (f.0 ++ more, ap (λ (l : List ℕ). l ++ more) f.1 ∙ append_assoc front f.0 more)
+pub front-more : (front bytes more : List ℕ) → Begins front bytes → Begins front (bytes ++ more)
+front-more front bytes more f = record { more = f.more ++ more; is = ap (λ (l : List ℕ). l ++ more) f.is ∙ append_assoc front f.more more }
 
-front-of-front : (a b c : List ℕ) → IsFront a b → IsFront b c → IsFront a c
-front-of-front a b c f h = (f.0 ++ h.0, h.1 ∙ ap (λ (l : List ℕ). l ++ h.0) f.1 ∙ append_assoc a f.0 h.0)
+front-of-front : (a b c : List ℕ) → Begins a b → Begins b c → Begins a c
+front-of-front a b c f h = record { more = f.more ++ h.more; is = h.is ∙ ap (λ (l : List ℕ). l ++ h.more) f.is ∙ append_assoc a f.more h.more }
 
 -- all of the lines
-pub told-all : (tells : List ℕ → Type 0) (least bytes : List ℕ) → IsFront least bytes → tells bytes → InPart tells least bytes
-told-all tells least bytes few t = (bytes, (few, ([], sym (append-nil bytes)), t))
+pub told-all : (tells : List ℕ → Type 0) (least bytes : List ℕ) → Begins least bytes → tells bytes → InPart tells least bytes
+told-all tells least bytes few t = (bytes, (few, record { more = []; is = sym (append-nil bytes) }, t))
 
 -- and more are due
 pub part-more : (tells : List ℕ → Type 0) (least bytes more : List ℕ) → InPart tells least bytes → InPart tells least (bytes ++ more)
 part-more tells least bytes more t = (t.0, (t.1.0, front-more t.0 bytes more t.1.1, t.1.2))
 
 -- fewer are there at least
-pub part-least : (tells : List ℕ → Type 0) (fewer least bytes : List ℕ) → IsFront fewer least → InPart tells least bytes → InPart tells fewer bytes
+pub part-least : (tells : List ℕ → Type 0) (fewer least bytes : List ℕ) → Begins fewer least → InPart tells least bytes → InPart tells fewer bytes
 part-least tells fewer least bytes few t = (t.0, (front-of-front fewer least t.0 few t.1.0, t.1.1, t.1.2))

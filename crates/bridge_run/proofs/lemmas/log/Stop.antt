@@ -1,6 +1,7 @@
 -- A session's log, as memory runs out.
 use Rattle.std.proofs.Common.{◌≡◌, ◌⊎◌, ℕ, ◌||◌, Bool, true, false, cond, List, [], ◌∷◌, ◌++◌, is_some, Err, refl, sym, ap, ◌∙◌, subst, inl, inr, append-nil, append_assoc}
 use Rattle.std.proofs.lemmas.Bool.{false≢true, or_parts, or_left}
+use Rattle.usb_base.specs.Writes.{Begins}
 use Rattle.usb_base.specs.declared.side.Side.TheVariants.{Client, Host}
 use Rattle.usb_base.specs.declared.refusal.Refusal.{Refusal}
 use Rattle.gate_outside.specs.Calls.{Call, went}
@@ -15,7 +16,7 @@ use Rattle.bridge_run.specs.written.Recorded.{has_any, written_if}
 use Rattle.bridge_run.specs.written.Ups.{client_at, client_behind, host_at, host_since, to_clients, sent_to_host, told_of}
 use Rattle.bridge_run.specs.log.Asks.{Ask}
 use Rattle.bridge_run.specs.events.RanOut.{Untold, is_recorded, RanOut}
-use Rattle.bridge_run.specs.log.Log.{Terms, events_before, IsFront, JustCame, WroteInPart, HasWritten, HasEnded, Logged}
+use Rattle.bridge_run.specs.log.Log.{Terms, events_before, JustCame, WroteInPart, HasWritten, HasEnded, Logged}
 use Rattle.bridge_run.specs.inner.Follows.{Prepared}
 use Rattle.bridge_run.specs.inner.Logging.{IsTaking, WroteMore, FailedBehind}
 use Rattle.bridge_run.specs.inner.Recording.{TapeFaults}
@@ -124,8 +125,8 @@ stop-client gives runs_out terms p e events k client host bytes begun d0 d1 part
     events-are = f.wrote.events-are ∙ s.events-are;
     just_came = f.wrote.just_came s.just_came;
     written = record {
-      client = front-in (to_clients p events) f.front (f.back ++ part.to_client.0) _ (went Client f.wrote.behind) (f.wrote.side-is ∙ ap (λ (l : List ℕ). l ++ f.front) s.written.client)
-          (ap (λ (u : Bool). cond u (gained p.to_client events e) []) (sym s.client_up ∙ f.is_up) ∙ part.to_client.1 ∙ ap (λ (l : List ℕ). l ++ part.to_client.0) (sym is ∙ f.parts) ∙ append_assoc f.front f.back part.to_client.0);
+      client = front-in (to_clients p events) f.front (f.back ++ part.to_client.more) _ (went Client f.wrote.behind) (f.wrote.side-is ∙ ap (λ (l : List ℕ). l ++ f.front) s.written.client)
+          (ap (λ (u : Bool). cond u (gained p.to_client events e) []) (sym s.client_up ∙ f.is_up) ∙ part.to_client.is ∙ ap (λ (l : List ℕ). l ++ part.to_client.more) (sym is ∙ f.parts) ∙ append_assoc f.front f.back part.to_client.more);
       host = front-of-more (sent_to_host (is_some terms.host) p events) _ (went Host f.wrote.behind) (f.wrote.other-is ∙ s.written.host);
     };
     told_before = before-same p events s.calls f.wrote.behind f.wrote.before-are s.told_before;
@@ -136,8 +137,8 @@ stop-client gives runs_out terms p e events k client host bytes begun d0 d1 part
 sent-in : (u v : Bool) (all written bytes client : List ℕ) → written ≡ all ++ written_if v bytes → v ≡ u → bytes ≡ client → written ≡ all ++ cond u client []
 sent-in u v all written bytes client is same alike = is ∙ ap (λ (y : Bool). all ++ written_if y bytes) same ∙ ap (λ (l : List ℕ). all ++ written_if u l) alike
 
-longer-front : (u : Bool) (all written client more rest : List ℕ) → written ≡ all ++ cond u client [] → more ≡ client ++ rest → IsFront written (all ++ cond u more [])
-longer-front true all written client more rest is alike = (rest, ap (λ (l : List ℕ). all ++ l) alike ∙ sym (append_assoc all client rest) ∙ ap (λ (l : List ℕ). l ++ rest) (sym is))
+longer-front : (u : Bool) (all written client more rest : List ℕ) → written ≡ all ++ cond u client [] → more ≡ client ++ rest → Begins written (all ++ cond u more [])
+longer-front true all written client more rest is alike = record { more = rest; is = ap (λ (l : List ℕ). all ++ l) alike ∙ sym (append_assoc all client rest) ∙ ap (λ (l : List ℕ). l ++ rest) (sym is) }
 longer-front false all written client more rest is alike = front-whole (all ++ []) written is
 
 -- all of that, and a front of what went to the host
@@ -152,10 +153,10 @@ stop-host gives runs_out terms p e events k client host bytes1 bytes2 begun d0 d
     events-are = f.wrote.events-are ∙ w1.events-are ∙ s.events-are;
     just_came = f.wrote.just_came (w1.just_came s.just_came);
     written = record {
-      client = longer-front (client_at e (client_behind p events)) (to_clients p events) (went Client f.wrote.behind) client (gained p.to_client events e) part.to_client.0
-          (sent-in (client_at e (client_behind p events)) k.client_up (to_clients p events) (went Client f.wrote.behind) bytes1 client (f.wrote.other-is ∙ w1.side-is ∙ ap (λ (l : List ℕ). l ++ written_if k.client_up bytes1) s.written.client) s.client_up is1) part.to_client.1;
-      host = front-in (sent_to_host (is_some terms.host) p events) f.front (f.back ++ part.to_host.0) _ (went Host f.wrote.behind) (f.wrote.side-is ∙ ap (λ (l : List ℕ). l ++ f.front) (w1.other-is ∙ s.written.host))
-          (ap (λ (u : Bool). cond u (gained p.to_host events e) []) (sym s.host_up ∙ f.is_up) ∙ part.to_host.1 ∙ ap (λ (l : List ℕ). l ++ part.to_host.0) (sym is2 ∙ f.parts) ∙ append_assoc f.front f.back part.to_host.0);
+      client = longer-front (client_at e (client_behind p events)) (to_clients p events) (went Client f.wrote.behind) client (gained p.to_client events e) part.to_client.more
+          (sent-in (client_at e (client_behind p events)) k.client_up (to_clients p events) (went Client f.wrote.behind) bytes1 client (f.wrote.other-is ∙ w1.side-is ∙ ap (λ (l : List ℕ). l ++ written_if k.client_up bytes1) s.written.client) s.client_up is1) part.to_client.is;
+      host = front-in (sent_to_host (is_some terms.host) p events) f.front (f.back ++ part.to_host.more) _ (went Host f.wrote.behind) (f.wrote.side-is ∙ ap (λ (l : List ℕ). l ++ f.front) (w1.other-is ∙ s.written.host))
+          (ap (λ (u : Bool). cond u (gained p.to_host events e) []) (sym s.host_up ∙ f.is_up) ∙ part.to_host.is ∙ ap (λ (l : List ℕ). l ++ part.to_host.more) (sym is2 ∙ f.parts) ∙ append_assoc f.front f.back part.to_host.more);
     };
     told_before = before-same p events s.calls f.wrote.behind (f.wrote.before-are ∙ w1.before-are) s.told_before;
   };

@@ -3,6 +3,7 @@ use Rattle.std.proofs.Common.{◌≡◌, ◌⊎◌, ℕ, suc, Bool, true, false,
 use Rattle.std.specs.List.{cons_option, flat_map}
 use Rattle.std.specs.Prelude.{IsSomeAnd}
 use Rattle.std.proofs.lemmas.Grind.{flat_map-append}
+use Rattle.usb_base.specs.Writes.{Begins}
 use Rattle.usb_base.specs.declared.refusal.Refusal.{Refusal}
 use Rattle.packet_stream.specs.Items.{onto}
 use Rattle.gate_history.specs.step.Events.{Event as GateEvent}
@@ -28,7 +29,6 @@ use Rattle.bridge_run.specs.served.Gate.{gate_event, gate_events, gate_notes, ga
 use Rattle.bridge_run.specs.served.GateStops.{GateStops, gate_runs_out}
 use Rattle.bridge_run.specs.events.Prescribed.{gained}
 use Rattle.bridge_run.specs.written.Recorded.{has_any}
-use Rattle.bridge_run.specs.log.Log.{IsFront}
 use Rattle.bridge_run.specs.inner.Sends.{SendsPart}
 use Rattle.bridge_run.proofs.lemmas.served.Acts.{gained-is}
 use Rattle.bridge_run.proofs.lemmas.served.Gate.{gained-of}
@@ -65,9 +65,9 @@ host-more first taken later before =
 -- ---- an event
 
 -- a front of what the event sends
-front-of : (all : List LinkEvent → List ℕ) (events : List LinkEvent) (e : LinkEvent) (mid behind sent more : List ℕ) → mid ≡ all events ++ sent → behind ≡ mid ++ more → all (e ∷ events) ≡ behind → IsFront sent (gained all events e)
+front-of : (all : List LinkEvent → List ℕ) (events : List LinkEvent) (e : LinkEvent) (mid behind sent more : List ℕ) → mid ≡ all events ++ sent → behind ≡ mid ++ more → all (e ∷ events) ≡ behind → Begins sent (gained all events e)
 front-of all events e mid behind sent more is longer same =
-    (more, gained-is (all events) (sent ++ more) (all (e ∷ events)) (same ∙ longer ∙ ap (λ (l : List ℕ). l ++ more) is ∙ append_assoc (all events) sent more))
+    record { more = more; is = gained-is (all events) (sent ++ more) (all (e ∷ events)) (same ∙ longer ∙ ap (λ (l : List ℕ). l ++ more) is ∙ append_assoc (all events) sent more) }
 
 no-longer : (e : GateEvent) (events : List GateEvent) → e ∷ events ≡ events → ⊥
 no-longer e events is = differ (length events) (ap length is)
@@ -126,8 +126,8 @@ gate-untold setting first past e ge kept old new notes is t some =
       to_client = gained-of p.to_client past e old.to_client new.to_client (client_output first (ge ∷ gate_events past)) (ap (client_output first) came) t.sends.client;
       to_host = gained-of p.to_host past e old.to_host new.to_host (host_output first (ge ∷ gate_events past)) (ap (host_output first) came) t.sends.host;
       part = record {
-        to_client = ([], sym (append-nil (gained p.to_client past e)));
-        to_host = ([], sym (append-nil (gained p.to_host past e)));
+        to_client = record { more = []; is = sym (append-nil (gained p.to_client past e)) };
+        to_host = record { more = []; is = sym (append-nil (gained p.to_host past e)) };
         ran_out = inr (record { client-is = refl; host-is = refl; refuses = ap (λ (rs : List Refusal). has_any rs) (gained-is (p.refusals past) (flat_map refusal_in notes) (p.refusals (e ∷ past)) refused) ∙ some });
       };
     }

@@ -2,6 +2,7 @@
 use Rattle.std.proofs.Common.{◌≡◌, ℕ, ◌||◌, Bool, true, false, cond, List, [], ◌∷◌, ◌++◌, Result, Ok, Err, refl, sym, ap, ◌∙◌, inl, inr, append-nil, append_assoc}
 use Rattle.std.specs.List.{flat_map, list_any}
 use Rattle.std.specs.Result.{OnErr}
+use Rattle.usb_base.specs.Writes.{Begins}
 use Rattle.usb_base.specs.declared.side.Side.TheVariants.{Client}
 use Rattle.usb_base.specs.declared.refusal.Refusal.{Refusal}
 use Rattle.model_device.specs.Meaning.{Meaning}
@@ -22,7 +23,6 @@ use Rattle.bridge_run.specs.written.Recorded.{has_any}
 use Rattle.usb_base.specs.Endpoint.{in_endpoints, out_endpoints}
 use Rattle.bridge_run.specs.served.Lent.{each, used, refusal_in, acts_behind, acts_of, is_coming, has_come, lent_bytes, refused_by, lent_refusals, lent_sends}
 use Rattle.bridge_run.specs.served.LentStops.{ActsStop, LentStops}
-use Rattle.bridge_run.specs.log.Log.{IsFront}
 use Rattle.bridge_run.specs.events.RanOut.{RanOutWithin}
 use Rattle.bridge_run.specs.inner.Sends.{SendsPart}
 use Rattle.bridge_run.specs.inner.Lending.{Acts, StopsIn, Halts, IsLent, act_of}
@@ -188,9 +188,9 @@ client-of true false before given waiting client w is = ap (λ (l : List ℕ). b
 client-of false true before given waiting client w is = ap (λ (l : List ℕ). l ++ given) (sym w) ∙ sym is
 client-of false false before given waiting client w is = sym is
 
-front-if : (b : Bool) (waiting given more client all : List ℕ) → client ≡ cond b (waiting ++ given) [] → cond b (waiting ++ (given ++ more)) [] ≡ all → IsFront client all
-front-if true waiting given more client all is alike = (more, sym alike ∙ sym (append_assoc waiting given more) ∙ ap (λ (l : List ℕ). l ++ more) (sym is))
-front-if false waiting given more client all is alike = ([], sym alike ∙ ap (λ (l : List ℕ). l ++ []) (sym is))
+front-if : (b : Bool) (waiting given more client all : List ℕ) → client ≡ cond b (waiting ++ given) [] → cond b (waiting ++ (given ++ more)) [] ≡ all → Begins client all
+front-if true waiting given more client all is alike = record { more = more; is = sym alike ∙ sym (append_assoc waiting given more) ∙ ap (λ (l : List ℕ). l ++ more) (sym is) }
+front-if false waiting given more client all is alike = record { more = []; is = sym alike ∙ ap (λ (l : List ℕ). l ++ []) (sym is) }
 
 -- memory ran out in an event
 pub lent-part : {S : Type 0} (m : Meaning S) (s : S) (old mid : Lent S) (past : List LinkEvent) (e : LinkEvent) (sent sent' : Sent) → IsLent m s old past
@@ -213,13 +213,13 @@ lent-part m s old mid past e sent sent' lent halts came empty client host = go h
     grown : sent'.to_client ≡ sent.to_client ++ sent'.to_client
     grown = ap (λ (l : List ℕ). l ++ sent'.to_client) (sym empty)
 
-    sends : IsFront sent'.to_client (gained (lent_bytes m s) past e) → RanOutWithin (LentStops m s) (lent_sends m s) past e sent'.to_client [] → SendsPart (LentStops m s) (lent_sends m s) past e sent sent'
+    sends : Begins sent'.to_client (gained (lent_bytes m s) past e) → RanOutWithin (LentStops m s) (lent_sends m s) past e sent'.to_client [] → SendsPart (LentStops m s) (lent_sends m s) past e sent sent'
     sends front ran_out = record {
       client = sent'.to_client;
       host = [];
       to_client = grown;
       to_host = host ∙ sym (append-nil sent.to_host);
-      part = record { to_client = front; to_host = ([], refl); ran_out = ran_out };
+      part = record { to_client = front; to_host = record { more = []; is = refl }; ran_out = ran_out };
     }
 
     go : Halts m s acts behind (refused_by m s acts e) old.waiting mid.waiting → SendsPart (LentStops m s) (lent_sends m s) past e sent sent'
@@ -233,4 +233,4 @@ lent-part m s old mid past e sent sent' lent halts came empty client host = go h
     go (inr x) =
         let is = handed x.given x.sent ∙ handed-is (has_come past) (is_coming e) (host_out m s acts) x.given (host_out m s behind) old.waiting (old.waiting ++ x.given) x.sends lent.waiting refl in
         let refused = gained-is (lent_refusals m s past) (refused_by m s acts e) (lent_refusals m s (e ∷ past)) refl in
-        sends ([], sym is ∙ sym (append-nil sent'.to_client)) (inr (record { client-is = is; host-is = refl; refuses = ap has_any refused ∙ x.refuses }))
+        sends (record { more = []; is = sym is ∙ sym (append-nil sent'.to_client) }) (inr (record { client-is = is; host-is = refl; refuses = ap has_any refused ∙ x.refuses }))

@@ -4,6 +4,7 @@ use Rattle.std.proofs.lemmas.Bool.{false≢true}
 use Rattle.std.specs.List.{flat_map}
 use Rattle.std.specs.Io.KnownBytes.{append_known}
 use Rattle.std.proofs.Math.Bool.{or-true}
+use Rattle.usb_base.specs.Writes.{Begins}
 use Rattle.usb_base.specs.declared.refusal.Refusal.{Refusal}
 use Rattle.session_tape.specs.Lines.{refusal_comment}
 use Rattle.session_tape.specs.Tapes.{GrowsInPart}
@@ -15,7 +16,6 @@ use Rattle.bridge_run.specs.written.Recorded.{has_any, event_line, lines_of, is_
 use Rattle.bridge_run.specs.course.Course.{Course}
 use Rattle.bridge_run.specs.course.Calls.{put, is_due, lines_with}
 use Rattle.bridge_run.specs.course.Outside.{Outside, Written, Shows, Tells, IsTold, IsBetween, IsTaped, HasLines, Cut}
-use Rattle.bridge_run.specs.log.Log.{IsFront}
 use Rattle.bridge_run.specs.inner.Links.{wrote_if, WritesFront}
 use Rattle.bridge_run.proofs.lemmas.written.Put.{more_if, wrote-shows, between-all, between-front, told-before}
 
@@ -30,13 +30,13 @@ any-of true b x y rest some first second = ap (λ (z : Bool). z || (y || rest)) 
 any-of false b x y rest some first second = ap (λ (z : Bool). x || (z || rest)) (second some) ∙ or-true x
 
 -- bytes were sent of it
-due-bytes : (p : Prescribed) (c : Course) (e : LinkEvent) (client host : List ℕ) → IsFront client (gained p.to_client c.events e) → IsFront host (gained p.to_host c.events e) → (has_any client || has_any host) ≡ true → is_due p e c ≡ true
+due-bytes : (p : Prescribed) (c : Course) (e : LinkEvent) (client host : List ℕ) → Begins client (gained p.to_client c.events e) → Begins host (gained p.to_host c.events e) → (has_any client || has_any host) ≡ true → is_due p e c ≡ true
 due-bytes p c e client host f g some =
     let x = gained p.to_client c.events e in
     let y = gained p.to_host c.events e in
     let rs = gained p.refusals c.events e in
     ap (λ (b : Bool). (b || is_last c) || is_full (lines_with p e c))
-    (any-of (has_any client) (has_any host) (has_any x) (has_any y) (has_any rs || p.lets_go (e ∷ c.events)) some (has-more client f.0 x f.1) (has-more host g.0 y g.1))
+    (any-of (has_any client) (has_any host) (has_any x) (has_any y) (has_any rs || p.lets_go (e ∷ c.events)) some (has-more client f.more x f.is) (has-more host g.more y g.is))
 
 -- so that they are all that the call records
 all-lines : (p : Prescribed) (c : Course) (e : LinkEvent) → is_due p e c ≡ true → (put p e c).recorded ≡ (c.recorded ++ (c.waiting ++ event_line e)) ++ flat_map refusal_comment (gained p.refusals c.events e)
@@ -82,7 +82,7 @@ recorded-line {ran_out = ran_out} p c e w out client host sent (Some held) known
       }),
     ))
 
-stop-recorded : (ran_out : List LinkEvent → LinkEvent → List ℕ → List ℕ → Type 0) (p : Prescribed) (c : Course) (e : LinkEvent) (client host : List ℕ) (refusals : List Refusal) (w : Outside) (out out' : Written) (waiting : List ℕ) → Sent ran_out c e client host w out' → IsFront client (gained p.to_client c.events e) → IsFront host (gained p.to_host c.events e)
+stop-recorded : (ran_out : List LinkEvent → LinkEvent → List ℕ → List ℕ → Type 0) (p : Prescribed) (c : Course) (e : LinkEvent) (client host : List ℕ) (refusals : List Refusal) (w : Outside) (out out' : Written) (waiting : List ℕ) → Sent ran_out c e client host w out' → Begins client (gained p.to_client c.events e) → Begins host (gained p.to_host c.events e)
     → (has_any client || has_any host) ≡ true → refusals ≡ [] → waiting ≡ out.waiting → IsTaped out c → out'.tape ≡ append_known out.tape (waiting ++ lines_of e refusals) → IfSome out'.tape (λ held. HasLines ran_out w out' c (put p e c) held)
 stop-recorded ran_out p c e client host refusals w out out' waiting sent f g some none same taped is =
     recorded-line {ran_out = ran_out} p c e w out' client host sent out.tape out'.tape out.waiting (due-bytes p c e client host f g some) taped
@@ -109,7 +109,7 @@ recorded-part ran_out p c e w out (Some held) known' waiting due has grows clien
       }),
     ))
 
-pub stop-unrecorded : (ran_out : List LinkEvent → LinkEvent → List ℕ → List ℕ → Type 0) (p : Prescribed) (c : Course) (e : LinkEvent) (client host : List ℕ) (refusals : List Refusal) (w : Outside) (out out' : Written) (waiting : List ℕ) → IsFront client (gained p.to_client c.events e) → IsFront host (gained p.to_host c.events e)
+pub stop-unrecorded : (ran_out : List LinkEvent → LinkEvent → List ℕ → List ℕ → Type 0) (p : Prescribed) (c : Course) (e : LinkEvent) (client host : List ℕ) (refusals : List Refusal) (w : Outside) (out out' : Written) (waiting : List ℕ) → Begins client (gained p.to_client c.events e) → Begins host (gained p.to_host c.events e)
     → (has_any client || has_any host) ≡ true → refusals ≡ [] → waiting ≡ out.waiting → Tells w out c → IsTold out' c.told → GrowsInPart out.tape out'.tape (waiting ++ lines_of e refusals) → IfSome out'.tape (λ held. HasLines ran_out w out' c (put p e c) held)
 stop-unrecorded ran_out p c e client host refusals w out out' waiting f g some none same t told grows =
     recorded-part ran_out p c e w out' out.tape out'.tape out.waiting (due-bytes p c e client host f g some) t.tape
@@ -154,7 +154,7 @@ pub still-shows : (u : Bool) (t : List Turn) (x : List ℕ) (old new : Link) →
 still-shows u t x old new is s = subst (λ (l : Link). Shows l u t x) (sym is) s
 
 -- the call is cut
-pub stop-cut : {ran_out : List LinkEvent → LinkEvent → List ℕ → List ℕ → Type 0} → (p : Prescribed) (c : Course) (e : LinkEvent) (client host : List ℕ) (w w' : Outside) (out out' : Written) → IsFront client (gained p.to_client c.events e) → IsFront host (gained p.to_host c.events e) → Tells w out c → IsTold out' c.told
+pub stop-cut : {ran_out : List LinkEvent → LinkEvent → List ℕ → List ℕ → Type 0} → (p : Prescribed) (c : Course) (e : LinkEvent) (client host : List ℕ) (w w' : Outside) (out out' : Written) → Begins client (gained p.to_client c.events e) → Begins host (gained p.to_host c.events e) → Tells w out c → IsTold out' c.told
     → w'.client.turns ≡ Some c.client → w'.host.turns ≡ Some c.host → w'.door ≡ w.door
     → IsBetween c.to_client w'.client.written (cond c.client_up (c.to_client ++ client) c.to_client) → IsBetween c.to_host w'.host.written (cond c.host_up (c.to_host ++ host) c.to_host)
     → IfSome out'.tape (λ held. HasLines ran_out w' out' c (put p e c) held) → Cut ran_out w' out' c (put p e c)
@@ -163,14 +163,14 @@ stop-cut p c e client host w w' out out' f g t told client-turns host-turns door
       client = inl client-turns;
       host = inl host-turns;
       clients = inl (ap (λ (d : Door). d.to_come) door ∙ t.clients);
-      to_client = longer c.client_up c.to_client client f.0 (gained p.to_client c.events e) w'.client.written f.1 to_client;
-      to_host = longer c.host_up c.to_host host g.0 (gained p.to_host c.events e) w'.host.written g.1 to_host;
+      to_client = longer c.client_up c.to_client client f.more (gained p.to_client c.events e) w'.client.written f.is to_client;
+      to_host = longer c.host_up c.to_host host g.more (gained p.to_host c.events e) w'.host.written g.is to_host;
       told = told-before p c e out' told;
       tape = tape;
     }
 
 -- and its line is recorded
-pub stop-written : {ran_out : List LinkEvent → LinkEvent → List ℕ → List ℕ → Type 0} → (p : Prescribed) (c : Course) (e : LinkEvent) (client host : List ℕ) (refusals : List Refusal) (w w' : Outside) (out out' : Written) (waiting : List ℕ) → ran_out c.events e client host → IsFront client (gained p.to_client c.events e) → IsFront host (gained p.to_host c.events e)
+pub stop-written : {ran_out : List LinkEvent → LinkEvent → List ℕ → List ℕ → Type 0} → (p : Prescribed) (c : Course) (e : LinkEvent) (client host : List ℕ) (refusals : List Refusal) (w w' : Outside) (out out' : Written) (waiting : List ℕ) → ran_out c.events e client host → Begins client (gained p.to_client c.events e) → Begins host (gained p.to_host c.events e)
     → (has_any client || has_any host) ≡ true → refusals ≡ [] → waiting ≡ out.waiting → out'.tape ≡ append_known out.tape (waiting ++ lines_of e refusals) → Tells w out c → IsTold out' c.told → w'.client.turns ≡ Some c.client → w'.host.turns ≡ Some c.host → w'.door ≡ w.door
     → IsBetween c.to_client w'.client.written (cond c.client_up (c.to_client ++ client) c.to_client) → IsBetween c.to_host w'.host.written (cond c.host_up (c.to_host ++ host) c.to_host) → Cut ran_out w' out' c (put p e c)
 stop-written {ran_out = ran_out} p c e client host refusals w w' out out' waiting stopped f g some none same is t told client-turns host-turns door to_client to_host =
