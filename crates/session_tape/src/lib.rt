@@ -11,5 +11,5 @@ mod text_tape;
 pub use file_tape::FileTape;
 pub use lines::{first_comment, push_end, push_piece, push_refusal};
 pub use no_tape::NoTape;
-pub use tape::{MakeTape, Tape, Unmade, record};
+pub use tape::{MakeTape, Tape, Unmade};
 pub use text_tape::TextTape;

@@ -49,14 +49,3 @@ pub trait MakeTape: Tape {
         ensures kept { OnErr result ((Self.made self.new ≡ Self.made self.old) × (Self.contents self.new ≡ Self.contents self.old)) }
         ensures cause { HasReason result (Self.counts self.old) (Self.counts self.new) };
 }
-
-/// Writes all of the bytes to a tape that is made, or, where that fails, a front of them.
-pub fn record<T: Tape>(tape: &mut T, bytes: &[u8]) -> Result<(), Failed>
-    requires { T.made tape.old ≡ true }
-    ensures made { T.made tape.new ≡ true }
-    ensures ok { OnOk result (T.contents tape.new ≡ append_known (T.contents tape.old) bytes.now) }
-    ensures err { OnErr result (GrowsInPart (T.contents tape.old) (T.contents tape.new) bytes.now) }
-    ensures cause { CountsFault result (T.counts tape.old) (T.counts tape.new) }
-{
-    tape.put(bytes)
-}

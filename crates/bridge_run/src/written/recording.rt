@@ -14,7 +14,7 @@ ghost use Rattle.bridge_run.specs.inner.Recording.{TapeFaults};
 use crate::course::serve_end::ServeEnd;
 use crate::events::event::LinkEvent;
 use crate::events::sent::Sent;
-use session_tape::{Tape, push_end, push_piece, push_refusal, record};
+use session_tape::{Tape, push_end, push_piece, push_refusal};
 use std::alloc::Global;
 use usb_base::{Bytes, List, Memory, Refusal};
 
@@ -62,7 +62,7 @@ pub fn write_waiting<T: Tape>(due: bool, waiting: &mut Bytes, tape: &mut T) -> R
     if !due || !tape.is_made() {
         return Ok(());
     }
-    match record(tape, waiting.as_slice()) {
+    match tape.put(waiting.as_slice()) {
         Ok(()) => {
             waiting.clear();
             Ok(())

@@ -28,8 +28,8 @@ use crate::state::kept::Kept;
 use control_route::Route;
 use gate_history::{Note, Pipe, Request, Situation, Verdict};
 use gate_parts::{
-    Outputs, StreamIds, client_refusal, decide, draw, row_for, wire_packet,
-    write_route, write_without_packets,
+    Outputs, StreamIds, client_refusal, decide, draw, row_for, wire_packet, write_route,
+    write_without_packets,
 };
 use redir_data::move_data;
 use redir_wire::{Caps, Way};

@@ -1,7 +1,7 @@
 //! The packets to the host: the gateway's hello, those that ask for a transfer, starts and stops of streams, cancels
 //! and acknowledgements.
 
-ghost use Rattle.std.specs.Prelude.{◌≡◌, ◌≤◌, ◌++◌, ◌∷◌, [], true, length, zip, OnOk, OnErr, ◌<◌};
+ghost use Rattle.std.specs.Prelude.{◌≡◌, ◌++◌, ◌∷◌, [], true, length, zip, OnOk, OnErr, ◌<◌};
 ghost use Rattle.std.specs.List.{flat_map};
 ghost use Rattle.redir_wire.specs.Header.{IdFits};
 ghost use Rattle.redir_wire.specs.Capability.{no_caps};

@@ -16,7 +16,7 @@ ghost use Rattle.usbgate_commands.specs.links.Serves.{Known, known_of, EndsOf, s
 use crate::links::ended::ended_as;
 use crate::words::serving::Serving;
 use gate_outside::{Doors, Sink};
-use session_tape::{MakeTape, NoTape, Tape, Unmade, first_comment, record};
+use session_tape::{MakeTape, NoTape, Tape, Unmade, first_comment};
 use std::alloc::Global;
 use usbgate_tapes::Status;
 
@@ -73,7 +73,7 @@ fn begin<T: MakeTape>(
         Err(Unmade::There) => return Err(Status::Usage),
         Err(Unmade::Failed) => return Err(Status::WriteFault),
     }
-    match record(recording, comment.as_bytes()) {
+    match recording.put(comment.as_bytes()) {
         Ok(()) => Ok(()),
         Err(_) => Err(Status::WriteFault),
     }
