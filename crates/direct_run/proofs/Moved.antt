@@ -1,6 +1,6 @@
 -- How a course goes on where a list of moves follows it: an event's items, and the packets that a piece has brought to
 -- either side, are one move each.
-use Rattle.std.proofs.Common.{◌≡◌, ℕ, ◌||◌, false, List, [], ◌∷◌, ◌++◌, map, take, refl, sym, ap, ◌∙◌, subst, append-nil, append_assoc}
+use Rattle.std.proofs.Common.{◌≡◌, ℕ, ◌||◌, false, List, [], ◌∷◌, ◌++◌, map, take, refl, sym, ap, ◌∙◌, subst, append-nil, append_assoc, fold}
 use Rattle.std.specs.List.{flat_map, list_any}
 use Rattle.std.proofs.lemmas.List.Folds.{list_any-append}
 use Rattle.std.proofs.lemmas.List.{append_cancel_left, map-append}
@@ -11,7 +11,7 @@ use Rattle.redir_host.specs.declared.state.host.Host.{Host}
 use Rattle.redir_host.specs.step.Acts.{Act, Piece}
 use Rattle.redir_host.proofs.lemmas.guest.Pieces.{asked}
 use Rattle.redir_host.specs.step.History.{brought as act_brought, history as host_history}
-use Rattle.redir_host.specs.step.Machine.{is_refusal, notes_of as host_notes_of, steps as host_steps, given_by as host_given, all_given as host_all_given}
+use Rattle.redir_host.specs.step.Machine.{is_refusal, notes_of as host_notes_of, given_by as host_given, all_given as host_all_given, step as host_step}
 use Rattle.redir_host.specs.write.Output.{first_packet, host_of}
 use Rattle.gate_history.proofs.lemmas.Lists.{Each}
 use Rattle.redir_host.proofs.lemmas.step.Acts.{act-host, act-gives}
@@ -156,7 +156,7 @@ moved-asked {S = S} m s c items n g h =
     let ms = map (λ (i : Found). HostReads) g.fresh in
     let xs = map asked g.fresh in
     let wire : w.to_host ≡ bares g.fresh ++ g.later = append_cancel_left (bares (read_by_host c)) w.to_host (bares g.fresh ++ g.later) (sym h.follows.to_host ∙ g.all-are) in
-    let new : Host S = host_steps m w.host xs in
+    let new : Host S = fold (host_step m) w.host xs in
     let more = items ++ act_items m s c.acts (submits_of c.events) a in
     let told = flat_map (item_of_host w.submits) (host_given host_notes_of m w.host xs) in
     let sent = host_given (λ v. v.sent) m w.host xs in
@@ -167,7 +167,7 @@ moved-asked {S = S} m s c items n g h =
       moves = onto ms h.moves;
       follows = subst (FollowsCourse m s (acted c a) more (run as_items m s (onto ms h.moves))) (sym none) (subst (λ (y : Made S Item). FollowsCourse m s (acted c a) more y (o.told ++ [])) (sym made)
           (follows-act m s c items (act_items m s c.acts (submits_of c.events) a) r o.told a new sent g.later told h.follows
-          ((λ i. host_steps m (h.follows.host i) (sym g.brought-is i)) ∙ sym (act-host m s c.acts a))
+          ((λ i. fold (host_step m) (h.follows.host i) (sym g.brought-is i)) ∙ sym (act-host m s c.acts a))
           (λ i. host_given (λ v. v.sent) m (h.follows.host i) (sym g.brought-is i))
           (g.all-are ∙ bares-back (read_by_host c) g.fresh g.later ∙ ap (λ (l : List Found). bares l ++ g.later) (sym g.packets-are))
           (λ i. flat_map (item_of_host (h.follows.submits i)) (host_given host_notes_of m (h.follows.host i) (sym g.brought-is i)))));

@@ -1,5 +1,5 @@
 -- Several moves one after another: all items of an event, and all packets that a piece has brought to either side.
-use Rattle.std.proofs.Common.{◌≡◌, ℕ, Bool, true, false, cond, List, [], ◌∷◌, ◌++◌, map, refl, sym, ap, ◌∙◌, append-nil, append_assoc}
+use Rattle.std.proofs.Common.{◌≡◌, ℕ, Bool, true, false, cond, List, [], ◌∷◌, ◌++◌, map, refl, sym, ap, ◌∙◌, append-nil, append_assoc, fold}
 use Rattle.std.specs.List.{flat_map}
 use Rattle.std.proofs.lemmas.Grind.{flat_map-append}
 use Rattle.redir_wire.specs.declared.packet.Header.{Header}
@@ -9,7 +9,7 @@ use Rattle.packet_stream.specs.Items.{onto}
 use Rattle.model_device.specs.Meaning.{Meaning}
 use Rattle.redir_host.proofs.lemmas.guest.Pieces.{asked}
 use Rattle.redir_host.specs.step.Items.{Item as HostItem}
-use Rattle.redir_host.specs.step.Machine.{move as host_move, notes_of as host_notes_of, steps as host_steps, given_by as host_given}
+use Rattle.redir_host.specs.step.Machine.{move as host_move, notes_of as host_notes_of, given_by as host_given, step as host_step}
 use Rattle.gate_history.specs.declared.item.Item.{Item}
 use Rattle.gate_history.specs.declared.item.Item.TheVariants.{Told}
 use Rattle.gate_history.specs.write.Output.{to_client, to_host}
@@ -115,7 +115,7 @@ told-moves {S = S} {T = T} t m w (i ∷ is) later h =
 
 abbrev pub host_all : {S : Type 0} → Meaning S → World S → List HostItem → Made S RunItem
 host_all m w xs = record {
-  world = record w { host = host_steps m w.host xs; to_gate = w.to_gate ++ host_given (λ v. v.sent) m w.host xs };
+  world = record w { host = fold (host_step m) w.host xs; to_gate = w.to_gate ++ host_given (λ v. v.sent) m w.host xs };
   outs = [];
   told = flat_map (item_of_host w.submits) (host_given host_notes_of m w.host xs);
 }
@@ -130,7 +130,7 @@ asked-moves {S = S} m w (i ∷ is) later =
     let notes = host_given host_notes_of m v.host (map asked is) in
     ap (then_made (record { world = record w1 { to_host = bares is ++ later }; outs = []; told = flat_map (item_of_host w.submits) v.notes })) (asked-moves m w1 is later)
     ∙ (λ j. record {
-      world = record w { host = host_steps m v.host (map asked is); to_host = later; to_gate = append_assoc w.to_gate v.sent more j };
+      world = record w { host = fold (host_step m) v.host (map asked is); to_host = later; to_gate = append_assoc w.to_gate v.sent more j };
       outs = [];
       told = sym (flat_map-append (item_of_host w.submits) v.notes notes) j;
     })

@@ -1,11 +1,12 @@
 -- What a step sends on each wire and tells, and all that steps tell.
 use Rattle.std.specs.Prelude.{ℕ, List, [], ◌∷◌, ◌++◌, take}
 use Rattle.std.specs.List.{flat_map}
+use Rattle.packet_stream.specs.Outputs.{outputs}
 use Rattle.gate_history.specs.write.All.{all_of}
 use Rattle.gate_history.specs.write.Bytes.{client_bytes_of, host_bytes_of}
 use Rattle.gate_history.specs.step.Events.{Event, ClientPiece, ClientEnd as ClientEnds, HostPiece}
 use Rattle.gate_history.specs.step.History.{brought, history}
-use Rattle.gate_history.specs.step.Machine.{given_by}
+use Rattle.gate_history.specs.step.Machine.{step, given}
 use Rattle.gate_history.specs.step.Marks.{Mark}
 use Rattle.gate_history.specs.write.Notes.{notes_of}
 use Rattle.gate_history.specs.state.State.{State, state_of}
@@ -34,7 +35,7 @@ untold = record { to_client = []; to_host = []; from_host = []; items = []; refu
 
 -- what an event has the gateway give, behind these events
 abbrev pub given_of : {A : Type 0} → (State → Mark → List A) → List Event → Event → List A
-given_of gives events e = given_by gives (state_of first_id (history first_id events)) (brought events e)
+given_of gives events e = outputs step (given gives) (state_of first_id (history first_id events)) (brought events e)
 
 abbrev pub told_of_event : List Event → Event → Told
 told_of_event events e = record untold {

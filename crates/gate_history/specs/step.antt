@@ -1,5 +1,4 @@
 -- One item, one event, and all of them.
-pub mod Folds
 pub mod Events
 pub mod Streams
 pub mod Fits

@@ -7,5 +7,6 @@ pub mod Splits
 pub mod Following
 pub mod Takers
 pub mod Pieces
+pub mod Outputs
 pub mod Fronts
 pub mod Spelled

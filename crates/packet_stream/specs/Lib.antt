@@ -6,3 +6,5 @@ pub mod Split
 pub mod Streams
 pub mod Takers
 pub mod Items
+pub mod Folds
+pub mod Outputs

@@ -1,6 +1,6 @@
 //! Laws of a host's definitions, as contracts of functions that do nothing.
 
-ghost use Rattle.std.specs.Prelude.{◌≡◌, ◌≤◌, ◌+◌, [], ◌∷◌, ◌++◌, Bool, false, true, ℕ, List, length, map, filter};
+ghost use Rattle.std.specs.Prelude.{◌≡◌, ◌≤◌, ◌+◌, [], ◌∷◌, ◌++◌, Bool, false, true, ℕ, List, length, map, filter, fold};
 ghost use Rattle.std.specs.List.{AllByRecursion};
 ghost use Rattle.usb_base.specs.Number.{AreBytes};
 ghost use Rattle.redir_wire.specs.declared.packet.Header.{Header};
@@ -12,7 +12,7 @@ ghost use Rattle.redir_host.specs.step.Answered.{IsKnown, IsSublist, answer_of, 
 ghost use Rattle.redir_host.specs.step.History.{brought, history, of_guest};
 ghost use Rattle.redir_host.specs.step.Items.{Item};
 ghost use Rattle.redir_host.specs.guest.Line.{Placed, queue_in, reset_in};
-ghost use Rattle.redir_host.specs.step.Machine.{all_given, run, steps};
+ghost use Rattle.redir_host.specs.step.Machine.{all_given, run, step};
 ghost use Rattle.redir_host.specs.step.Makes.{IsTaken};
 ghost use Rattle.redir_host.specs.device.Offering.{offer_move, unplug_move};
 ghost use Rattle.redir_host.specs.write.Output.{act_bytes, act_notes, host_of, host_out};
@@ -25,7 +25,7 @@ use model_device::Gadget;
 /// A law: one act more is the items that it brings, one after another, to the host and to all that was sent.
 pub fn acts_add_items<G: Gadget>()
     ensures host { (first : G) (acts : List Act) (act : Act)
-        → host_of G.meaning first (act ∷ acts) ≡ steps G.meaning (host_of G.meaning first acts) (brought acts act) }
+        → host_of G.meaning first (act ∷ acts) ≡ fold (step G.meaning) (host_of G.meaning first acts) (brought acts act) }
     ensures out { (first : G) (acts : List Act) (act : Act)
         → host_out G.meaning first (act ∷ acts) ≡ host_out G.meaning first acts ++ act_bytes G.meaning first acts act }
 {}

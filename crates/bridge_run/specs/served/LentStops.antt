@@ -1,10 +1,10 @@
 -- Where memory ran out as an event of a lent device was taken, and what of that had been sent to the guest by then.
-use Rattle.std.specs.Prelude.{◌≡◌, ◌⊎◌, ℕ, if◌then◌else◌, List, [], ◌∷◌, ◌++◌}
+use Rattle.std.specs.Prelude.{◌≡◌, ◌⊎◌, ℕ, if◌then◌else◌, List, [], ◌∷◌, ◌++◌, fold}
 use Rattle.model_device.specs.Meaning.{Meaning}
 use Rattle.redir_host.specs.step.Acts.{Act}
 use Rattle.redir_host.specs.step.History.{brought}
 use Rattle.redir_host.specs.step.Items.{Item}
-use Rattle.redir_host.specs.step.Machine.{bytes_of, given_by, steps}
+use Rattle.redir_host.specs.step.Machine.{bytes_of, given_by, step}
 use Rattle.redir_host.specs.step.Wants.{FirstWants, IsHeld}
 use Rattle.redir_host.specs.write.Output.{host_of, host_out}
 use Rattle.bridge_run.specs.events.Events.{LinkEvent}
@@ -16,7 +16,7 @@ pub record ActStops {S : Type 0} (m : Meaning S) (s : S) (acts : List Act) (a : 
   pub taken : List Item
   pub later : List Item
   pub parts : brought acts a ≡ taken ++ later
-  pub wanted : ((taken ≡ []) × IsHeld acts a) ⊎ FirstWants m (steps m (host_of m s acts) taken) later
+  pub wanted : ((taken ≡ []) × IsHeld acts a) ⊎ FirstWants m (fold (step m) (host_of m s acts) taken) later
   pub sent-is : sent ≡ given_by bytes_of m (host_of m s acts) taken
 
 -- of these acts, the latest first, some were done, and memory ran out within the next one, by when this had been sent

@@ -1,5 +1,5 @@
 -- Behind its end nothing is performed or sent by the device.
-use Rattle.std.proofs.Common.{◌≡◌, Bool, true, false, cond, List, [], ◌∷◌, None, refl, ap, ◌∙◌, take}
+use Rattle.std.proofs.Common.{◌≡◌, Bool, true, false, cond, List, [], ◌∷◌, None, refl, ap, ◌∙◌, take, fold}
 use Rattle.std.specs.List.{find, flat_map, list_any}
 use Rattle.redir_data.specs.Streams.{advanced}
 use Rattle.model_device.specs.Meaning.{Meaning}
@@ -10,7 +10,7 @@ use Rattle.redir_host.specs.declared.write.note.Offered.TheVariants as offered
 use Rattle.redir_host.specs.step.Acts.{Piece, Perform as Performs, Offer as Offers, Unplug as Unplugs}
 use Rattle.redir_host.specs.step.History.{brought}
 use Rattle.redir_host.specs.step.Items.{Item as HostItem, Asked, Wrong, Performs as ItemPerforms, Offers as ItemOffers, Unplugs as ItemUnplugs}
-use Rattle.redir_host.specs.step.Machine.{move, steps as host_steps}
+use Rattle.redir_host.specs.step.Machine.{move, step as host_step}
 use Rattle.redir_host.specs.step.Moves.{quiet}
 use Rattle.redir_host.specs.device.Offering.{offered_on, told_offered_by, unplug_move}
 use Rattle.redir_host.specs.write.Output.{act_notes, host_of}
@@ -48,7 +48,7 @@ stays m h (ItemPerforms ep) off = ap (λ (b : Bool). (perform_move_by h (cond b 
 stays m h (ItemOffers ep) off = ap (λ (b : Bool). (cond b (quiet h) (offered_on m h ep (find (runs_at ep) h.running))).host.unplugged) off ∙ off
 stays m h ItemUnplugs off = goes-off h
 
-stays-all : {S : Type 0} (m : Meaning S) (h : Host S) (xs : List HostItem) → h.unplugged ≡ true → (host_steps m h xs).unplugged ≡ true
+stays-all : {S : Type 0} (m : Meaning S) (h : Host S) (xs : List HostItem) → h.unplugged ≡ true → (fold (host_step m) h xs).unplugged ≡ true
 stays-all m h [] off = off
 stays-all m h (x ∷ xs) off = stays-all m (move m h x).host xs (stays m h x off)
 

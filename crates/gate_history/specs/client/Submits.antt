@@ -1,7 +1,7 @@
 -- The accepted submits, how each ended, which are live, and which were asked back: by search of the past.
 use Rattle.std.specs.Prelude.{ℕ, ◌==◌, ◌&&◌, nat_le, not, Bool, false, if◌then◌else◌, List, [], ◌∷◌, ◌++◌, length, filter, Option, Some, None, is_none}
 use Rattle.std.specs.Option.{option_or}
-use Rattle.gate_history.specs.step.Folds.{rfold}
+use Rattle.packet_stream.specs.Folds.{rfold}
 use Rattle.gate_history.specs.client.Verdict.{goes_by_id}
 use Rattle.gate_history.specs.client.Ends.{End, has_id, ends}
 use Rattle.gate_history.specs.step.Marks.{Submission, Effect, Opens, Waits, Unlinks, Answers, Mark}

@@ -1,7 +1,7 @@
 -- What the host has told of its device: of each fact the last, since the device was last lost.
 use Rattle.std.specs.Prelude.{if◌then◌else◌, List, Option, Some, None}
 use Rattle.usb_base.specs.Endpoint.{no_endpoints}
-use Rattle.gate_history.specs.step.Folds.{rfold}
+use Rattle.packet_stream.specs.Folds.{rfold}
 use Rattle.gate_history.specs.declared.facts.Facts.{Facts}
 use Rattle.gate_history.specs.step.Marks.{Effect, Fact, Connected, Interfaces, Endpoints, Configuration, Mark}
 use Rattle.gate_history.specs.state.Sides.{is_loss}

@@ -3,7 +3,7 @@ use Rattle.std.specs.Prelude.{ℕ, ◌-◌, Bool, List, ◌++◌, map, filter}
 use Rattle.redir_wire.specs.declared.packet.Caps.{Caps}
 use Rattle.redir_wire.specs.declared.packet.TheConstants.Caps.{WIDE_IDS, WIDE_BULK_LENGTH}
 use Rattle.redir_wire.specs.Capability.{has}
-use Rattle.gate_history.specs.step.Folds.{rfold}
+use Rattle.packet_stream.specs.Folds.{rfold}
 use Rattle.gate_history.specs.state.Ids.{last_of}
 use Rattle.gate_history.specs.client.Verdict.{goes_by_id}
 use Rattle.gate_history.specs.step.Marks.{Submission, Mark}

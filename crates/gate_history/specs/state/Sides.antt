@@ -8,7 +8,7 @@ use Rattle.usb_base.specs.declared.refusal.Refusal.{Refusal}
 use Rattle.redir_wire.specs.declared.packet.Caps.{Caps}
 use Rattle.redir_wire.specs.Capability.{no_caps}
 use Rattle.usb_base.specs.Number.{capped}
-use Rattle.gate_history.specs.step.Folds.{rfold}
+use Rattle.packet_stream.specs.Folds.{rfold}
 use Rattle.gate_history.specs.step.Marks.{Effect, Imports, Agrees, Disconnects, Ends, Refuses, Mark}
 
 -- ---- of one effect

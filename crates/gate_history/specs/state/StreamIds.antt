@@ -8,7 +8,7 @@ use Rattle.redir_wire.specs.declared.packet.RedirControl.TheVariants as plain
 use Rattle.redir_data.specs.declared.packet.RedirPacket.{RedirPacket}
 use Rattle.redir_data.specs.declared.packet.RedirPacket.TheVariants.{Plain}
 use Rattle.usb_base.specs.declared.endpoint.TheConstants.{ENDPOINTS}
-use Rattle.gate_history.specs.step.Folds.{rfold}
+use Rattle.packet_stream.specs.Folds.{rfold}
 use Rattle.gate_history.specs.step.Marks.{Effect, StreamTold, Mark}
 use Rattle.gate_history.specs.state.Sides.{leaves, is_loss}
 use Rattle.gate_history.specs.state.Ups.{Up, streams}

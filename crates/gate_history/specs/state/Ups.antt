@@ -8,7 +8,7 @@ use Rattle.usb_base.specs.Status.{is_success}
 use Rattle.control_route.specs.declared.route.Route.{Route}
 use Rattle.control_route.specs.Changes.{touches}
 pub use Rattle.stream_buffers.specs.Held.{Up}
-use Rattle.gate_history.specs.step.Folds.{rfold}
+use Rattle.packet_stream.specs.Folds.{rfold}
 use Rattle.usb_base.specs.declared.endpoint.TheConstants.{ENDPOINTS}
 use Rattle.gate_history.specs.declared.verdict.Verdict.{Verdict}
 use Rattle.gate_history.specs.declared.verdict.Verdict.TheVariants.{Routed, IsoOut, Stream}

@@ -1,7 +1,9 @@
 -- The same as a machine: a state that steps with each item, and keeps no past. First what the item means, by the whole
 -- state; then each part steps by itself.
 use Rattle.std.specs.Option.{option_or}
-use Rattle.std.specs.Prelude.{◌≡◌, ℕ, suc, false, if◌then◌else◌, List, [], ◌∷◌, ◌++◌, map, filter, is_none, unwrap_or}
+use Rattle.std.specs.Prelude.{◌≡◌, ℕ, suc, false, if◌then◌else◌, List, [], ◌∷◌, ◌++◌, map, filter, fold, is_none, unwrap_or}
+use Rattle.packet_stream.specs.Folds.{rfold}
+use Rattle.packet_stream.specs.Outputs.{past_outputs, outputs}
 use Rattle.gate_history.specs.declared.note.Counts.{Counts}
 use Rattle.gate_history.specs.step.Events.{Event}
 use Rattle.gate_history.specs.declared.item.Item.{Item}
@@ -54,8 +56,7 @@ step st x = if is_left_out st x then st else with_mark st (mark_of st x)
 
 -- lists of items have the latest first
 abbrev pub run : ℕ → List Item → State
-run first [] = start first
-run first (x ∷ xs) = step (run first xs) x
+run first = rfold step (start first)
 
 -- ---- what it gives
 
@@ -64,8 +65,7 @@ abbrev pub given : {A : Type 0} → (State → Mark → List A) → State → It
 given gives st x = if is_left_out st x then [] else gives st (mark_of st x)
 
 abbrev pub all_given : {A : Type 0} → (State → Mark → List A) → ℕ → List Item → List A
-all_given gives first [] = []
-all_given gives first (x ∷ xs) = all_given gives first xs ++ given gives (run first xs) x
+all_given gives first = past_outputs (λ past. given gives (run first past))
 
 abbrev pub run_counts : ℕ → List Item → Counts
 run_counts first xs = counted (all_given to_client first xs) (run first xs).live (all_given dropped first xs)
@@ -73,12 +73,10 @@ run_counts first xs = counted (all_given to_client first xs) (run first xs).live
 -- ---- several items, the first that came first
 
 abbrev pub steps : State → List Item → State
-steps st [] = st
-steps st (x ∷ xs) = steps (step st x) xs
+steps = fold step
 
 abbrev pub given_by : {A : Type 0} → (State → Mark → List A) → State → List Item → List A
-given_by gives st [] = []
-given_by gives st (x ∷ xs) = given gives st x ++ given_by gives (step st x) xs
+given_by gives = outputs step (given gives)
 
 -- ---- what is to be shown of it
 

@@ -1,7 +1,7 @@
 -- The past of a list of items, the latest first: each item with what it means after those before it. What comes of a
 -- side that is over is left out, but for a client's end.
 use Rattle.std.specs.Prelude.{ℕ, Bool, false, if◌then◌else◌, List, [], ◌∷◌}
-use Rattle.gate_history.specs.step.Folds.{rfold}
+use Rattle.packet_stream.specs.Folds.{rfold}
 use Rattle.gate_history.specs.declared.item.Item.{Item}
 use Rattle.gate_history.specs.declared.item.Item.TheVariants.{Asked, ClientWrong, ClientLeft}
 use Rattle.gate_history.specs.step.Marks.{Mark}

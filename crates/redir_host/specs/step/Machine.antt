@@ -1,7 +1,9 @@
 -- A host as a machine: a state that steps with each item, what goes to the guest, and what is told. Lists of items have
 -- the latest first.
-use Rattle.std.specs.Prelude.{ℕ, Bool, true, false, List, [], ◌∷◌, ◌++◌}
+use Rattle.std.specs.Prelude.{ℕ, Bool, true, false, List, [], ◌∷◌}
 use Rattle.std.specs.List.{flat_map}
+use Rattle.packet_stream.specs.Folds.{rfold}
+use Rattle.packet_stream.specs.Outputs.{past_outputs, outputs}
 use Rattle.redir_data.specs.Sent.{sent_packet_bytes}
 use Rattle.redir_data.specs.Streams.{start}
 use Rattle.model_device.specs.Meaning.{Meaning}
@@ -25,9 +27,11 @@ move m h (Performs ep) = perform_move m h ep
 move m h (Offers ep) = offer_move m h ep
 move m h Unplugs = unplug_move h
 
+abbrev pub step : {S : Type 0} → Meaning S → Host S → Item → Host S
+step m h x = (move m h x).host
+
 abbrev pub run : {S : Type 0} → Meaning S → S → List Item → Host S
-run m s [] = first_host s
-run m s (x ∷ xs) = (move m (run m s xs) x).host
+run m s = rfold (step m) (first_host s)
 
 -- ---- bytes
 
@@ -44,16 +48,8 @@ is_refusal _ = false
 
 -- ---- of several items
 
--- what each item gave after those before it, the earliest first
 abbrev pub all_given : {S A : Type 0} → (Move S → List A) → Meaning S → S → List Item → List A
-all_given gives m s [] = []
-all_given gives m s (x ∷ xs) = all_given gives m s xs ++ gives (move m (run m s xs) x)
-
--- items one after another, the first that came first
-abbrev pub steps : {S : Type 0} → Meaning S → Host S → List Item → Host S
-steps m h [] = h
-steps m h (x ∷ xs) = steps m (move m h x).host xs
+all_given gives m s = past_outputs (λ past x. gives (move m (run m s past) x))
 
 abbrev pub given_by : {S A : Type 0} → (Move S → List A) → Meaning S → Host S → List Item → List A
-given_by gives m h [] = []
-given_by gives m h (x ∷ xs) = gives (move m h x) ++ given_by gives m (move m h x).host xs
+given_by gives m = outputs (step m) (λ h x. gives (move m h x))

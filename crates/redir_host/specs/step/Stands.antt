@@ -1,5 +1,5 @@
 -- When a host core stands for acts, and what one act more makes of it.
-use Rattle.std.specs.Prelude.{◌≡◌, ◌⊎◌, ℕ, true, false, Bool, List, [], ◌∷◌, ◌++◌, Some}
+use Rattle.std.specs.Prelude.{◌≡◌, ◌⊎◌, ℕ, true, false, Bool, List, [], ◌∷◌, ◌++◌, Some, fold}
 use Rattle.usb_base.specs.Number.{AreBytes}
 use Rattle.usb_base.specs.declared.reason.Reason.{Reason}
 use Rattle.packet_stream.specs.Split.{Splitting}
@@ -16,7 +16,7 @@ use Rattle.redir_host.specs.step.Acts.{Act, Piece, guest_bytes}
 use Rattle.redir_host.specs.guest.Guest.{guest_split}
 use Rattle.redir_host.specs.step.History.{brought, history}
 use Rattle.redir_host.specs.step.Items.{Item}
-use Rattle.redir_host.specs.step.Machine.{bytes_of, all_given, given_by, steps}
+use Rattle.redir_host.specs.step.Machine.{bytes_of, all_given, given_by, step}
 use Rattle.redir_host.specs.step.Wants.{FirstWants, IsHeld}
 use Rattle.redir_host.specs.write.Output.{host_of, act_bytes, act_notes}
 use Rattle.redir_host.specs.write.Readable.{AreRead}
@@ -28,8 +28,7 @@ HostHasFailed k = k.failed ≡ true
 
 -- what decides how the next packet is read, behind these packets
 abbrev pub told_state : RedirState → List (ℕ × (Header × RedirPacket)) → RedirState
-told_state s [] = s
-told_state s (p ∷ ps) = told_state (after s p.1) ps
+told_state s ps = fold (λ state p. after state p.1) s ps
 
 -- all packets were taken, and the rest is kept, or the stream has met its wrong place
 abbrev pub IsReadBy : Stream RedirState → Splitting RedirState (Header × RedirPacket) Reason → Bool → Type 0
@@ -77,7 +76,7 @@ pub record StopsInAct {S : Type 0} (m : Meaning S) (s : S) (acts : List Act) (a 
   pub parts : brought acts a ≡ taken ++ later
   pub sent : new_out ≡ old_out ++ given_by bytes_of m (host_of m s acts) taken
   -- to hold the bytes, or for the first of the items that are left
-  pub wanted : ((taken ≡ []) × IsHeld acts a) ⊎ FirstWants m (steps m (host_of m s acts) taken) later
+  pub wanted : ((taken ≡ []) × IsHeld acts a) ⊎ FirstWants m (fold (step m) (host_of m s acts) taken) later
 
 -- ---- what the calls say of the core, whatever acts it stands for
 

@@ -1,5 +1,5 @@
 -- Where memory runs out as a lent device's host is used, and what had been sent by then.
-use Rattle.std.proofs.Common.{◌≡◌, ℕ, ◌||◌, Bool, true, false, cond, List, [], ◌∷◌, ◌++◌, Result, Ok, Err, refl, sym, ap, ◌∙◌, inl, inr, append-nil, append_assoc}
+use Rattle.std.proofs.Common.{◌≡◌, ℕ, ◌||◌, Bool, true, false, cond, List, [], ◌∷◌, ◌++◌, Result, Ok, Err, refl, sym, ap, ◌∙◌, inl, inr, append-nil, append_assoc, fold}
 use Rattle.std.specs.List.{flat_map, list_any}
 use Rattle.std.specs.Result.{OnErr}
 use Rattle.usb_base.specs.Writes.{Begins}
@@ -9,10 +9,11 @@ use Rattle.model_device.specs.Meaning.{Meaning}
 use Rattle.redir_host.specs.state.Kept.{HostKept as Core}
 use Rattle.redir_host.specs.declared.write.note.HostNote.{HostNote}
 use Rattle.redir_host.specs.step.Acts.{Act, Piece}
-use Rattle.redir_host.specs.step.Machine.{bytes_of, given_by, is_refusal, steps}
+use Rattle.redir_host.specs.step.Machine.{bytes_of, given_by, is_refusal, step, move}
 use Rattle.redir_host.specs.write.Output.{host_of, host_out, act_bytes}
 use Rattle.redir_host.specs.step.Stands.{StopsInAct, TakesAct}
-use Rattle.redir_host.proofs.lemmas.step.Acts.{act-out, given-append}
+use Rattle.packet_stream.proofs.Outputs.{outputs-append}
+use Rattle.redir_host.proofs.lemmas.step.Acts.{act-out}
 use Rattle.bridge_run.specs.declared.served.lent.Lent.{Lent}
 use Rattle.bridge_run.specs.declared.served.lent.Use.{Use}
 use Rattle.bridge_run.specs.declared.served.lent.Use.TheVariants.{Perform, Offer}
@@ -172,10 +173,10 @@ out-more m s (a ∷ later) acts =
 stopped-more : {S : Type 0} (m : Meaning S) (s : S) (past acts : List Act) (sent : List ℕ) → ActsStop m s past acts sent → (more : List ℕ) × (host_out m s acts ≡ host_out m s past ++ (sent ++ more))
 stopped-more m s past acts sent x =
     let at = host_of m s x.done in
-    let left = given_by bytes_of m (steps m at x.stops.taken) x.stops.later in
+    let left = given_by bytes_of m (fold (step m) at x.stops.taken) x.stops.later in
     let rest = out-more m s x.later (x.next ∷ x.done) in
     let within : act_bytes m s x.done x.next ≡ x.part ++ left =
-    ap (given_by bytes_of m at) x.stops.parts ∙ given-append bytes_of m at x.stops.taken x.stops.later ∙ ap (λ (l : List ℕ). l ++ left) (sym x.stops.sent-is) in (
+    ap (given_by bytes_of m at) x.stops.parts ∙ outputs-append (step m) (λ h y. bytes_of (move m h y)) at x.stops.taken x.stops.later ∙ ap (λ (l : List ℕ). l ++ left) (sym x.stops.sent-is) in (
       left ++ rest.0,
       ap (host_out m s) x.acts-are ∙ rest.1 ∙ ap (λ (l : List ℕ). l ++ rest.0) (act-out m s x.done x.next ∙ ap (λ (l : List ℕ). host_out m s x.done ++ l) within ∙ sym (append_assoc (host_out m s x.done) x.part left) ∙ ap (λ (l : List ℕ). l ++ left) x.sent-is)
           ∙ append_assoc (host_out m s past ++ sent) left rest.0 ∙ append_assoc (host_out m s past) sent (left ++ rest.0),

@@ -1,5 +1,5 @@
 -- How a piece of the guest's bytes ends: all that it brought was taken, or memory ran out.
-use Rattle.std.proofs.Common.{◌≡◌, ℕ, Bool, true, false, inl, inr, List, [], ◌∷◌, ◌++◌, map, Option, Some, None, Result, Ok, Err, refl, sym, ap, subst, ◌∙◌, append_assoc}
+use Rattle.std.proofs.Common.{◌≡◌, ℕ, Bool, true, false, inl, inr, List, [], ◌∷◌, ◌++◌, map, Option, Some, None, Result, Ok, Err, refl, sym, ap, subst, ◌∙◌, append_assoc, fold}
 use Rattle.std.specs.Prelude.{OnOk, OnErr}
 use Rattle.std.proofs.lemmas.List.{append-nil}
 use Rattle.usb_base.specs.Number.{AreBytes}
@@ -28,7 +28,7 @@ use Rattle.redir_host.specs.step.Acts.{Act, Piece, guest_bytes}
 use Rattle.redir_host.specs.guest.Guest.{guest_reader, guest_split, guest_items}
 use Rattle.redir_host.specs.step.History.{history}
 use Rattle.redir_host.specs.step.Items.{Item, Asked, Wrong}
-use Rattle.redir_host.specs.step.Machine.{all_given, bytes_of, notes_of, steps}
+use Rattle.redir_host.specs.step.Machine.{all_given, bytes_of, notes_of, step}
 use Rattle.redir_host.specs.step.Stands.{told_state, IsReadBy, HostStands, TakesAct, StopsInAct, TakesPiece, StopsIn}
 use Rattle.redir_host.specs.step.Wants.{HostWants, takes_memory}
 use Rattle.redir_host.proofs.lemmas.guest.Pieces.{Found, HasTaken, IsBefore, IsGoing, IsWithin, IsWithinBy, guest_stream, asked, guest_taking, going-at, within, host-all, given-all, read-given, sent_of}
@@ -122,7 +122,7 @@ stops-next {S = S} m s failed old last acts piece out next behind stands g parts
       later = next ∷ behind;
       parts = parts;
       sent = given-all bytes_of m s (core_of failed old) acts xs xs old.taker.out.now out stands (cut ∙ g.taken.sent) refl;
-      wanted = inr (subst (λ (h : Host S). HostWants m h next) (g.taken.host ∙ ap (λ (h : Host S). steps m h xs) stands.host) wants);
+      wanted = inr (subst (λ (h : Host S). HostWants m h next) (g.taken.host ∙ ap (λ (h : Host S). fold (step m) h xs) stands.host) wants);
     }
 
 stops-by : {S : Type 0} (m : Meaning S) (s : S) (failed : Bool) (old last : TakenStream RedirState (GuestTaker S)) (new : Stream RedirState) (t : GuestTaker S) (acts : List Act) (piece : List ℕ) (memory : NoMemory) (answer : Result (Option Found) ReadError) →

@@ -1,6 +1,6 @@
 -- A piece of the guest's bytes: what each packet is, and what the host makes of all that the piece brings.
-use Rattle.std.proofs.Common.{◌≡◌, ℕ, Bool, true, false, List, [], ◌∷◌, ◌++◌, length, map, Option, Some, None, Result, Ok, Err, refl, sym, ap, subst, ◌∙◌, append_assoc}
-use Rattle.std.proofs.lemmas.List.{append-nil, map-append}
+use Rattle.std.proofs.Common.{◌≡◌, ℕ, Bool, true, false, List, [], ◌∷◌, ◌++◌, length, map, Option, Some, None, Result, Ok, Err, refl, sym, ap, subst, ◌∙◌, append_assoc, fold}
+use Rattle.std.proofs.lemmas.List.{append-nil, fold-append, map-append}
 use Rattle.usb_base.specs.Number.{AreBytes}
 use Rattle.usb_base.specs.declared.memory.Memory.{Memory as NoMemory}
 use Rattle.usb_base.specs.declared.reason.Reason.{Reason}
@@ -32,7 +32,7 @@ use Rattle.redir_host.specs.step.Acts.{Act}
 use Rattle.redir_host.specs.guest.Guest.{guest_reader, guest_split, guest_items}
 use Rattle.redir_host.specs.step.History.{brought, history}
 use Rattle.redir_host.specs.step.Items.{Item, Asked, Wrong}
-use Rattle.redir_host.specs.step.Machine.{move, all_given, bytes_of, notes_of, steps, given_by}
+use Rattle.redir_host.specs.step.Machine.{move, step, all_given, bytes_of, notes_of, given_by}
 use Rattle.redir_host.specs.step.Makes.{IsTaken, TakesMove}
 use Rattle.redir_host.specs.step.Moves.{Move}
 use Rattle.redir_host.specs.write.Output.{host_of}
@@ -43,7 +43,8 @@ use Rattle.redir_host.specs.state.Sound.{IsSound}
 use Rattle.redir_host.specs.step.Stands.{told_state, IsRead, IsReadBy, HostStands}
 use Rattle.redir_host.proofs.lemmas.guest.Sound.{keeps-packet}
 use Rattle.redir_host.proofs.lemmas.write.Replies.{packet-read}
-use Rattle.redir_host.proofs.lemmas.step.Acts.{act-gives, steps-append, given-append, act-host}
+use Rattle.redir_host.proofs.lemmas.step.Acts.{act-gives, act-host}
+use Rattle.packet_stream.proofs.Outputs.{outputs-append}
 
 -- ---- the guest's stream
 
@@ -87,7 +88,7 @@ sent_of v = v.sent
 
 -- it took these, and what they send and tell was sent and told
 pub record HasTaken {S : Type 0} (m : Meaning S) (old new : Host S) (o0 o1 : List ℕ) (n0 n1 : List HostNote) (xs : List Item) : Type 0 where
-  pub host : new ≡ steps m old xs
+  pub host : new ≡ fold (step m) old xs
   pub sound : IsSound new
   -- where its guest could read all that was sent, it still can
   pub reads : (sent : List (ℕ × RedirPacket)) → AreRead old.guest sent → AreRead new.guest (sent ++ given_by sent_of m old xs)
@@ -97,20 +98,20 @@ pub record HasTaken {S : Type 0} (m : Meaning S) (old new : Host S) (o0 o1 : Lis
 pub taken-none : {S : Type 0} (m : Meaning S) (h : Host S) (o : List ℕ) (n : List HostNote) → IsSound h → HasTaken m h h o o n n []
 taken-none m h o n sound = record { host = refl; sound = sound; reads = λ xs before. subst (AreRead h.guest) (sym (append-nil xs)) before; sent = sym (append-nil o); told = sym (append-nil n) }
 
-given-one : {S A : Type 0} (gives : Move S → List A) (m : Meaning S) (old mid : Host S) (xs : List Item) (x : Item) (l0 l1 l2 : List A) → mid ≡ steps m old xs → l1 ≡ l0 ++ given_by gives m old xs → l2 ≡ l1 ++ gives (move m mid x) →
+given-one : {S A : Type 0} (gives : Move S → List A) (m : Meaning S) (old mid : Host S) (xs : List Item) (x : Item) (l0 l1 l2 : List A) → mid ≡ fold (step m) old xs → l1 ≡ l0 ++ given_by gives m old xs → l2 ≡ l1 ++ gives (move m mid x) →
     l2 ≡ l0 ++ given_by gives m old (xs ++ x ∷ [])
 given-one {S = S} gives m old mid xs x l0 l1 l2 host first then =
-    let one = gives (move m (steps m old xs) x) in
+    let one = gives (move m (fold (step m) old xs) x) in
     then
     ∙ (λ k. first k ++ gives (move m (host k) x))
     ∙ append_assoc l0 (given_by gives m old xs) one
     ∙ ap (λ l. l0 ++ (given_by gives m old xs ++ l)) (sym (append-nil one))
-    ∙ ap (λ l. l0 ++ l) (sym (given-append gives m old xs (x ∷ [])))
+    ∙ ap (λ l. l0 ++ l) (sym (outputs-append (step m) (λ h y. gives (move m h y)) old xs (x ∷ [])))
 
 taken-one : {S : Type 0} (m : Meaning S) (old mid new : Host S) (x : Item) (o0 o1 o2 : List ℕ) (n0 n1 n2 : List HostNote) (xs : List Item) → TakesMove (move m mid x) new o1 o2 n1 n2 → IsSound new →
     ((sent : List (ℕ × RedirPacket)) → AreRead mid.guest sent → AreRead new.guest (sent ++ (move m mid x).sent)) → HasTaken m old mid o0 o1 n0 n1 xs → HasTaken m old new o0 o2 n0 n2 (xs ++ x ∷ [])
 taken-one {S = S} m old mid new x o0 o1 o2 n0 n1 n2 xs takes sound reads t = record {
-  host = takes.makes.host ∙ ap (λ (h : Host S). (move m h x).host) t.host ∙ sym (steps-append m old xs (x ∷ []));
+  host = takes.makes.host ∙ ap (λ (h : Host S). (move m h x).host) t.host ∙ sym (fold-append (step m) old xs (x ∷ []));
   sound = sound;
   reads = λ sent before.
       let had = sent ++ given_by sent_of m old xs in
@@ -266,10 +267,10 @@ borrows-piece {S = S} m r old new piece takes =
 
 -- ---- what the act makes of the host
 
-pub host-all : {S : Type 0} (m : Meaning S) (s : S) (old : HostKept S) (new : Host S) (acts : List Act) (a : Act) (xs : List Item) → HostStands m s old acts → new ≡ steps m old.host xs → brought acts a ≡ xs → new ≡ host_of m s (a ∷ acts)
+pub host-all : {S : Type 0} (m : Meaning S) (s : S) (old : HostKept S) (new : Host S) (acts : List Act) (a : Act) (xs : List Item) → HostStands m s old acts → new ≡ fold (step m) old.host xs → brought acts a ≡ xs → new ≡ host_of m s (a ∷ acts)
 host-all {S = S} m s old new acts a xs stands is parts =
     is
-    ∙ (λ i. steps m (stands.host i) (sym parts i))
+    ∙ (λ i. fold (step m) (stands.host i) (sym parts i))
     ∙ sym (act-host m s acts a)
 
 pub given-all : {S A : Type 0} (gives : Move S → List A) (m : Meaning S) (s : S) (old : HostKept S) (acts : List Act) (xs ys : List Item) (l0 l1 : List A) → HostStands m s old acts → l1 ≡ l0 ++ given_by gives m old.host xs → ys ≡ xs → l1 ≡ l0 ++ given_by gives m (host_of m s acts) ys
