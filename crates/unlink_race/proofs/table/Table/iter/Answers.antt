@@ -1,7 +1,7 @@
 use Rattle.std.proofs.Common.{sym, ap, subst, ◌∙◌}
 use Rattle.unlink_race.specs.Inner.Listed.{IsKeyed}
 use Rattle.unlink_race.specs.Inner.Sound.{entry_of, lives_of}
-use Rattle.unlink_race.proofs.Zipped.{itself}
+use Rattle.urb_arena.specs.Distinct.{itself}
 use Rattle.unlink_race.proofs.table.Table.iter.Goals as goal
 
 pub new-requires : goal.new-requires
