@@ -1,7 +1,8 @@
 use Rattle.std.proofs.Common.{◌≡◌, ◌≤◌, ◌++◌, length, filter}
 use Rattle.std.specs.List.{AllByRecursion, flat_map}
 use Rattle.usb_base.specs.Writes.{Begins}
-use Rattle.gate_parts.specs.state.Rows.{IsRow, cancel_bytes, is_cancelled_row}
+use Rattle.gate_parts.specs.state.Rows.{cancel_bytes, is_cancelled_row}
+use Rattle.gate_core.specs.inner.state.Holds.{IsRow}
 use Rattle.gate_core.proofs.state.kept.Kept.write_cancels.Given as goal
 
 -- with the requests that are left

@@ -2,7 +2,8 @@ use Rattle.std.proofs.Common.{◌≡◌, ◌≤◌, ◌++◌, length, filter}
 use Rattle.std.specs.List.{AllByRecursion, flat_map}
 use Rattle.usb_base.specs.Writes.{Begins}
 use Rattle.unlink_race.specs.Searches.{ended_by}
-use Rattle.gate_parts.specs.state.Rows.{IsRow, ended_bytes}
+use Rattle.gate_parts.specs.state.Rows.{ended_bytes}
+use Rattle.gate_core.specs.inner.state.Holds.{IsRow}
 use Rattle.gate_core.proofs.state.kept.Kept.write_ends.Given as goal
 
 -- with the requests that are left

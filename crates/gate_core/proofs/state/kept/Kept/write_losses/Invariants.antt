@@ -2,7 +2,8 @@ use Rattle.std.proofs.Common.{◌≡◌, ◌≤◌, ◌+◌, ◌++◌, length, f
 use Rattle.std.specs.List.{AllByRecursion, flat_map}
 use Rattle.usb_base.specs.Writes.{Begins}
 use Rattle.usbip_urb.specs.declared.code.TheConstants.{MAX_LIVE}
-use Rattle.gate_parts.specs.state.Rows.{IsRow, lost_bytes, is_asked_back}
+use Rattle.gate_parts.specs.state.Rows.{lost_bytes, is_asked_back}
+use Rattle.gate_core.specs.inner.state.Holds.{IsRow}
 use Rattle.gate_core.proofs.state.kept.Kept.write_losses.Given as goal
 
 -- with the requests that are left
