@@ -1,3 +1,4 @@
 -- What is sent and told.
 pub mod InTurn
 pub mod Gives
+pub mod Left

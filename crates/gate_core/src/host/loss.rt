@@ -49,6 +49,8 @@ impl Kept {
         let live = self.lives.len() as u64;
         self.answered = self.answered.saturating_add(live.saturating_sub(unlinked));
         self.unlinked = self.unlinked.saturating_add(unlinked);
+        // Of live and abandoned requests there are one kind alone.
+        self.lives.one_is_empty();
         if self.lives.abandoned() == 0 {
             self.lives.abandon();
         }

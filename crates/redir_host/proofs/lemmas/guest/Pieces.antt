@@ -1,6 +1,7 @@
 -- A piece of the guest's bytes: what each packet is, and what the host makes of all that the piece brings.
 use Rattle.std.proofs.Common.{◌≡◌, ℕ, Bool, true, false, List, [], ◌∷◌, ◌++◌, length, map, Option, Some, None, Result, Ok, Err, refl, sym, ap, subst, ◌∙◌, append_assoc, fold}
-use Rattle.std.proofs.lemmas.List.{append-nil, fold-append, map-append}
+use Rattle.std.proofs.lemmas.List.{append-nil, map-append}
+use Rattle.std.proofs.lemmas.List.Sums.{fold-append}
 use Rattle.usb_base.specs.Number.{AreBytes}
 use Rattle.usb_base.specs.declared.memory.Memory.{Memory as NoMemory}
 use Rattle.usb_base.specs.declared.reason.Reason.{Reason}
