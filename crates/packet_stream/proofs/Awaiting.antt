@@ -5,7 +5,7 @@ use Rattle.std.proofs.lemmas.Bool.{and_parts, ltb-true, ltb-false, lt-ltb}
 use Rattle.packet_stream.specs.Format.{Check, wrong_at, Format, Found, Whole, Short, reading_by, reading}
 use Rattle.packet_stream.specs.Joined.{guarded, joined}
 use Rattle.packet_stream.specs.Awaited.{IsComplete, Decides, IsAwaited, StaysShort, first_awaited, awaited}
-use Rattle.packet_stream.proofs.Formats.{AreSteady, none_first, none_later, none_from, none_before}
+use Rattle.packet_stream.proofs.Formats.{AreSteady, Passes, none_first, none_later, none_from, none_before}
 use Rattle.packet_stream.proofs.Joins.{both, found_as, reading-left, reading-right}
 
 -- ---- less than a packet
@@ -119,39 +119,49 @@ first_within {R = R} (c ∷ cs) n b size within = go (c.tried b && nat_lt (lengt
 
 -- ---- nothing fails before
 
--- a check that isn't tried passes, whatever comes
-abbrev pub AreIdle : {R : Type 0} → List (Check R) → List ℕ → List ℕ → Type 0
-AreIdle [] b x = Unit {0}
-AreIdle (c ∷ cs) b x = (c.tried b ≡ false → c.needed ≤ length x → c.passes x ≡ true) × AreIdle cs b x
+-- of each check that has its bytes in x, b tells whether it is tried there
+abbrev pub AreSettled : {R : Type 0} → List (Check R) → List ℕ → List ℕ → Type 0
+AreSettled [] b x = Unit {0}
+AreSettled (c ∷ cs) b x = (c.needed ≤ length x → c.tried x ≡ c.tried b) × AreSettled cs b x
 
-passes_by : {R : Type 0} (c : Check R) (b more : List ℕ) (n : ℕ) (t : Bool) → (c.tried b && nat_lt (length b) c.needed) ≡ t → (c.needed ≤ length b → c.passes (b ++ more) ≡ true) →
-    (c.tried b ≡ false → c.needed ≤ length (b ++ more) → c.passes (b ++ more) ≡ true) → length (b ++ more) < cond t c.needed n → (u : Bool) → c.tried b ≡ u → c.needed ≤ length (b ++ more) → c.passes (b ++ more) ≡ true
-passes_by c b more n true e seen idle less u is there = absurd (omega arith)
-passes_by c b more n false e seen idle less true is there = seen (ltb-false (length b) c.needed (one_false (c.tried b) (nat_lt (length b) c.needed) e is))
-passes_by c b more n false e seen idle less false is there = idle is there
+-- guarded ones are settled where the test says of x what it says of b
+pub guarded-settled : {R : Type 0} (test : List ℕ → Bool) (n : ℕ) (cs : List (Check R)) (b x : List ℕ) → (n ≤ length x → test x ≡ test b) → AreSteady n cs → AreSettled cs b x → AreSettled (guarded test cs) b x
+guarded-settled test n [] b x same steady settled = tt
+guarded-settled test n (c ∷ cs) b x same steady settled = (
+  λ there. let guard = same (omega (arith, steady.0, there)) in (λ i. guard i && settled.0 there i),
+  guarded-settled test c.needed cs b x (λ there. same (omega (arith, steady.0, there))) steady.2 settled.1,
+)
+
+passes_by : {R : Type 0} (c : Check R) (b more : List ℕ) (n : ℕ) (t : Bool) → (c.tried b && nat_lt (length b) c.needed) ≡ t → (c.needed ≤ length b → c.passes (b ++ more) ≡ c.passes b) → Passes c b →
+    (c.needed ≤ length (b ++ more) → c.tried (b ++ more) ≡ c.tried b) → length (b ++ more) < cond t c.needed n → Passes c (b ++ more)
+passes_by c b more n true e same now settled less tried there = absurd (omega (arith, less, there))
+passes_by c b more n false e same now settled less tried there =
+    let before = sym (settled there) ∙ tried in
+    let enough = ltb-false (length b) c.needed (one_false (c.tried b) (nat_lt (length b) c.needed) e before) in
+    same enough ∙ now before enough
 
 none_by : {R : Type 0} (c : Check R) (cs : List (Check R)) (x : List ℕ) (n : ℕ) (t : Bool) → AreSteady c.needed cs → (length x < n → wrong_at cs x ≡ None) → length x < cond t c.needed n → wrong_at cs x ≡ None
 none_by c cs x n true steady later less = none_before cs c.needed x steady less
 none_by c cs x n false steady later less = later less
 
-none_yet : {R : Type 0} (cs : List (Check R)) (k : ℕ) (b more : List ℕ) (size : ℕ) → AreSteady k cs → AreIdle cs b (b ++ more) → wrong_at cs b ≡ None → length (b ++ more) < first_awaited cs b size →
+none_yet : {R : Type 0} (cs : List (Check R)) (k : ℕ) (b more : List ℕ) (size : ℕ) → AreSteady k cs → AreSettled cs b (b ++ more) → wrong_at cs b ≡ None → length (b ++ more) < first_awaited cs b size →
     wrong_at cs (b ++ more) ≡ None
-none_yet [] k b more size steady idle none less = refl
-none_yet (c ∷ cs) k b more size steady idle none less =
+none_yet [] k b more size steady settled none less = refl
+none_yet (c ∷ cs) k b more size steady settled none less =
     let t = c.tried b && nat_lt (length b) c.needed in
     let n = first_awaited cs b size in
     none_from c cs (b ++ more)
-    (passes_by c b more n t refl (λ there. steady.1 b more there ∙ none_first c cs b none there) idle.0 less (c.tried b) refl)
-    (none_by c cs (b ++ more) n t steady.2 (λ less. none_yet cs c.needed b more size steady.2 idle.1 (none_later c cs b none) less) less)
+    (passes_by c b more n t refl (λ there. (steady.1 b more there).1) (none_first c cs b none) settled.0 less)
+    (none_by c cs (b ++ more) n t steady.2 (λ less. none_yet cs c.needed b more size steady.2 settled.1 (none_later c cs b none) less) less)
 
 -- ---- formats whose packets can be awaited
 
--- checks that see only their bytes, need rising numbers of them, and pass where they aren't tried; a size that no later
--- byte makes less
+-- checks that see only their bytes, and need rising numbers of them; which of them are tried is settled by the bytes
+-- that are there, as long as fewer have come than are awaited; a size that no later byte makes less
 pub record IsPatient {P R : Type 0} (f : Format P R) : Type 0 where
   pub first : ℕ
   pub steady : AreSteady first f.checks
-  pub idle : (b more : List ℕ) → length (b ++ more) < awaited f b → AreIdle f.checks b (b ++ more)
+  pub settled : (b more : List ℕ) → length (b ++ more) < awaited f b → AreSettled f.checks b (b ++ more)
   pub longer : (b more : List ℕ) → wrong_at f.checks b ≡ None → length (b ++ more) < awaited f b → length (b ++ more) < f.size (b ++ more)
   pub most : (b : List ℕ) → wrong_at f.checks b ≡ None → awaited f b ≤ f.size b
 
@@ -168,7 +178,7 @@ pub stays_short : {P R : Type 0} (f : Format P R) → IsPatient f → (b : List 
 stays_short f patient b short n is more less =
     let below : length (b ++ more) < awaited f b = omega (arith, is, less) in
     let none = (short_parts f b short).0 in
-    short_from f (b ++ more) (none_yet f.checks patient.first b more (f.size b) patient.steady (patient.idle b more below) none below) (patient.longer b more none below)
+    short_from f (b ++ more) (none_yet f.checks patient.first b more (f.size b) patient.steady (patient.settled b more below) none below) (patient.longer b more none below)
 
 -- ---- formats that are joined
 

@@ -4,61 +4,69 @@ use Rattle.std.specs.Prelude.{nat_le, nat_lt, not, ◌&&◌}
 use Rattle.std.proofs.lemmas.Bool.{ltb-true, ltb-false, le-ltb, leb-true, leb-false, le-leb}
 use Rattle.std.proofs.lemmas.List.{take-append-drop, take_at, length-append, length-take}
 use Rattle.usb_base.specs.Number.{AreBytes}
-use Rattle.packet_stream.specs.Format.{Check, wrong_at, Format, IsWhole, IsShort, Found, Whole, Short, Wrong, StandsAtFront, reading_by, reading, StaysWrong, IsSound}
+use Rattle.packet_stream.specs.Format.{Check, fails, wrong_at, Format, IsWhole, IsShort, Found, Whole, Short, Wrong, StandsAtFront, reading_by, reading, StaysWrong, IsSound}
 
 -- ---- checks that stay as they are
+
+-- whether a check is tried, and whether it passes, is seen in the bytes that it needs
+abbrev pub IsSeen : {R : Type 0} → Check R → Type 0
+IsSeen c = (bytes more : List ℕ) → c.needed ≤ length bytes → (c.tried (bytes ++ more) ≡ c.tried bytes) × (c.passes (bytes ++ more) ≡ c.passes bytes)
 
 -- each check sees only the bytes that it needs, and needs as many as those before it
 abbrev pub AreSteady : {R : Type 0} → ℕ → List (Check R) → Type 0
 AreSteady n [] = Unit {0}
-AreSteady n (c ∷ cs) = (n ≤ c.needed) × ((bytes more : List ℕ) → c.needed ≤ length bytes → c.passes (bytes ++ more) ≡ c.passes bytes) × AreSteady c.needed cs
+AreSteady n (c ∷ cs) = (n ≤ c.needed) × IsSeen c × AreSteady c.needed cs
 
 -- ---- one check and those after it
 
-none_cases : {W : Type 0} (x : W) (t p : Bool) (now : Option W) → cond (t && not p) (Some x) now ≡ None → (now ≡ None) × (t ≡ true → p ≡ true)
-none_cases x false p now e = (e, λ h. absurd cc)
-none_cases x true true now e = (e, λ h. refl)
-none_cases x true false now e = absurd cc
+-- where it is tried and its bytes are there, it passes
+abbrev pub Passes : {R : Type 0} → Check R → List ℕ → Type 0
+Passes c b = c.tried b ≡ true → c.needed ≤ length b → c.passes b ≡ true
 
-none_steps : {W : Type 0} (x : W) (t p : Bool) (now : Option W) → (t ≡ true → p ≡ true) → now ≡ None → cond (t && not p) (Some x) now ≡ None
-none_steps x false p now h e = e
-none_steps x true true now h e = e
-none_steps x true false now h e = let no = h refl in absurd cc
+none_cases : {W : Type 0} (x : W) (u t p : Bool) (now : Option W) → cond (u && (t && not p)) (Some x) now ≡ None → (now ≡ None) × (u ≡ true → t ≡ true → p ≡ true)
+none_cases x false t p now e = (e, λ h k. absurd cc)
+none_cases x true false p now e = (e, λ h k. absurd cc)
+none_cases x true true true now e = (e, λ h k. refl)
+none_cases x true true false now e = absurd cc
 
--- where no check fails, none of the later ones does, and the first passes once its bytes are there
+none_steps : {W : Type 0} (x : W) (u t p : Bool) (now : Option W) → (u ≡ true → t ≡ true → p ≡ true) → now ≡ None → cond (u && (t && not p)) (Some x) now ≡ None
+none_steps x false t p now h e = e
+none_steps x true false p now h e = e
+none_steps x true true true now h e = e
+none_steps x true true false now h e = let no = h refl refl in absurd cc
+
+-- where no check fails, none of the later ones does, and the first passes where it is tried and its bytes are there
 pub none_later : {R : Type 0} (c : Check R) (cs : List (Check R)) (b : List ℕ) → wrong_at (c ∷ cs) b ≡ None → wrong_at cs b ≡ None
-none_later c cs b e = (none_cases (c.place, c.reason) (nat_le c.needed (length b)) (c.passes b) (wrong_at cs b) e).0
+none_later c cs b e = (none_cases (c.place, c.reason) (c.tried b) (nat_le c.needed (length b)) (c.passes b) (wrong_at cs b) e).0
 
-pub none_first : {R : Type 0} (c : Check R) (cs : List (Check R)) (b : List ℕ) → wrong_at (c ∷ cs) b ≡ None → c.needed ≤ length b → c.passes b ≡ true
-none_first c cs b e there =
-    (none_cases (c.place, c.reason) (nat_le c.needed (length b)) (c.passes b) (wrong_at cs b) e).1 (le-leb c.needed (length b) there)
+pub none_first : {R : Type 0} (c : Check R) (cs : List (Check R)) (b : List ℕ) → wrong_at (c ∷ cs) b ≡ None → Passes c b
+none_first c cs b e tried there =
+    (none_cases (c.place, c.reason) (c.tried b) (nat_le c.needed (length b)) (c.passes b) (wrong_at cs b) e).1 tried (le-leb c.needed (length b) there)
 
-pub none_from : {R : Type 0} (c : Check R) (cs : List (Check R)) (b : List ℕ) → (c.needed ≤ length b → c.passes b ≡ true) → wrong_at cs b ≡ None → wrong_at (c ∷ cs) b ≡ None
+pub none_from : {R : Type 0} (c : Check R) (cs : List (Check R)) (b : List ℕ) → Passes c b → wrong_at cs b ≡ None → wrong_at (c ∷ cs) b ≡ None
 none_from c cs b passes later =
-    none_steps (c.place, c.reason) (nat_le c.needed (length b)) (c.passes b) (wrong_at cs b) (λ h. passes (leb-true c.needed (length b) h)) later
+    none_steps (c.place, c.reason) (c.tried b) (nat_le c.needed (length b)) (c.passes b) (wrong_at cs b) (λ tried h. passes tried (leb-true c.needed (length b) h)) later
 
 -- no check is made before its bytes are there
 pub none_before : {R : Type 0} (cs : List (Check R)) (n : ℕ) (b : List ℕ) → AreSteady n cs → length b < n → wrong_at cs b ≡ None
 none_before [] n b steady less = refl
 none_before (c ∷ cs) n b steady less =
-    none_from c cs b (λ h. absurd (omega (arith, steady.0))) (none_before cs c.needed b steady.2 (omega (arith, steady.0)))
+    none_from c cs b (λ tried there. absurd (omega (arith, steady.0))) (none_before cs c.needed b steady.2 (omega (arith, steady.0)))
 
-some_cases : {W : Type 0} (x w : W) (p : Bool) (now then : Option W) → (now ≡ Some w → then ≡ Some w) → cond (not p) (Some x) now ≡ Some w → cond (not p) (Some x) then ≡ Some w
-some_cases x w true now then later e = later e
-some_cases x w false now then later e = e
+pub some_cases : {W : Type 0} (x w : W) (t : Bool) (now then : Option W) → (now ≡ Some w → then ≡ Some w) → cond t (Some x) now ≡ Some w → cond t (Some x) then ≡ Some w
+some_cases x w true now then later e = e
+some_cases x w false now then later e = later e
 
 wrong_step : {R : Type 0} (c : Check R) (cs : List (Check R)) (b more : List ℕ) (w : ℕ × R) (t : Bool) → nat_le c.needed (length b) ≡ t → AreSteady c.needed (c ∷ cs) →
     (wrong_at cs b ≡ Some w → wrong_at cs (b ++ more) ≡ Some w) → wrong_at (c ∷ cs) b ≡ Some w → wrong_at (c ∷ cs) (b ++ more) ≡ Some w
 wrong_step c cs b more w true now steady later e =
     let there = leb-true c.needed (length b) now in
     let then : nat_le c.needed (length (b ++ more)) ≡ true = le-leb c.needed (length (b ++ more)) (omega (arith, length-append b more)) in
-    let same = steady.1 b more there in
-    let e' : cond (not (c.passes b)) (Some (c.place, c.reason)) (wrong_at cs b) ≡ Some w = rw now at e in
-    rw (then, same) (some_cases (c.place, c.reason) w (c.passes b) (wrong_at cs b) (wrong_at cs (b ++ more)) later e')
+    let seen = steady.1 b more there in
+    let same : fails c (b ++ more) ≡ fails c b = rw (now, then, seen.0, seen.1) refl in
+    rw same (some_cases (c.place, c.reason) w (fails c b) (wrong_at cs b) (wrong_at cs (b ++ more)) later e)
 wrong_step c cs b more w false now steady later e =
-    let none = none_before cs c.needed b steady.2 (leb-false c.needed (length b) now) in
-    let e' : wrong_at cs b ≡ Some w = rw now at e in
-    absurd cc
+    let none = none_before (c ∷ cs) c.needed b steady (leb-false c.needed (length b) now) in absurd cc
 
 -- what is wrong stays wrong
 pub wrong_more : {R : Type 0} (cs : List (Check R)) (n : ℕ) (b more : List ℕ) (w : ℕ × R) → AreSteady n cs → wrong_at cs b ≡ Some w → wrong_at cs (b ++ more) ≡ Some w

@@ -1,11 +1,12 @@
 -- Two formats joined to one, and a format under other names: sound where they are.
-use Rattle.std.proofs.Common.{◌≡◌, ℕ, ◌<◌, ◌≤◌, Bool, true, false, cond, List, [], ◌∷◌, ◌++◌, ◌⊎◌, inl, inr, length, take, Option, Some, None, refl, sym, ap, subst, ◌∙◌}
-use Rattle.std.specs.Prelude.{nat_le, nat_lt, not, ◌&&◌, ◌||◌}
+use Rattle.std.proofs.Common.{◌≡◌, ℕ, ◌<◌, ◌≤◌, Bool, true, false, cond, List, [], ◌∷◌, ◌++◌, ◌⊎◌, inl, inr, length, take, Option, Some, None, refl, sym, ap, subst, ◌∙◌, arith}
+use Rattle.std.specs.Prelude.{nat_lt, not, ◌&&◌}
 use Rattle.std.proofs.lemmas.Bool.{cases_lt}
 use Rattle.std.proofs.lemmas.List.{append-nil}
 use Rattle.usb_base.specs.Number.{AreBytes}
-use Rattle.packet_stream.specs.Format.{Check, wrong_at, Format, Found, Whole, Short, Wrong, reading_by, reading, StaysWrong, IsSound}
+use Rattle.packet_stream.specs.Format.{Check, fails, wrong_at, Format, Found, Whole, Short, Wrong, reading_by, reading, StaysWrong, IsSound}
 use Rattle.packet_stream.specs.Joined.{guarded, joined_spelling, JoinedFits, joined}
+use Rattle.packet_stream.proofs.Formats.{AreSteady}
 
 -- no check is made before n bytes are there
 abbrev pub Waits : {R : Type 0} → ℕ → List (Check R) → Type 0
@@ -13,23 +14,31 @@ Waits n cs = (b : List ℕ) → length b < n → wrong_at cs b ≡ None
 
 -- ---- guarded checks
 
-off_step : {W : Type 0} (t p : Bool) (x : W) (now : Option W) → cond (t && not (true || p)) (Some x) now ≡ now
-off_step true p x now = refl
-off_step false p x now = refl
-
 pub guarded-off : {R : Type 0} (test : List ℕ → Bool) (cs ds : List (Check R)) (b : List ℕ) → test b ≡ false → wrong_at (guarded test cs ++ ds) b ≡ wrong_at ds b
 guarded-off test [] ds b e = refl
-guarded-off test (c ∷ cs) ds b e = rw e (off_step (nat_le c.needed (length b)) (c.passes b) (c.place, c.reason) (wrong_at (guarded test cs ++ ds) b) ∙ guarded-off test cs ds b e)
+guarded-off test (c ∷ cs) ds b e = rw e (guarded-off test cs ds b e)
 
 pub guarded-on : {R : Type 0} (test : List ℕ → Bool) (cs ds : List (Check R)) (b : List ℕ) → test b ≡ true → wrong_at ds b ≡ None → wrong_at (guarded test cs ++ ds) b ≡ wrong_at cs b
 guarded-on test [] ds b e none = none
-guarded-on {R = R} test (c ∷ cs) ds b e none = rw e (ap (λ (y : Option (ℕ × R)). cond (nat_le c.needed (length b) && not (c.passes b)) (Some (c.place, c.reason)) y) (guarded-on test cs ds b e none))
+guarded-on {R = R} test (c ∷ cs) ds b e none = rw e (ap (λ (y : Option (ℕ × R)). cond (fails c b) (Some (c.place, c.reason)) y) (guarded-on test cs ds b e none))
 
-none_guarded : {R : Type 0} (test : List ℕ → Bool) (cs : List (Check R)) (b : List ℕ) → test b ≡ false → wrong_at (guarded test cs) b ≡ None
+pub none_guarded : {R : Type 0} (test : List ℕ → Bool) (cs : List (Check R)) (b : List ℕ) → test b ≡ false → wrong_at (guarded test cs) b ≡ None
 none_guarded test cs b e = ap (λ ds. wrong_at ds b) (sym (append-nil (guarded test cs))) ∙ guarded-off test cs [] b e
 
-all_guarded : {R : Type 0} (test : List ℕ → Bool) (cs : List (Check R)) (b : List ℕ) → test b ≡ true → wrong_at (guarded test cs) b ≡ wrong_at cs b
+pub all_guarded : {R : Type 0} (test : List ℕ → Bool) (cs : List (Check R)) (b : List ℕ) → test b ≡ true → wrong_at (guarded test cs) b ≡ wrong_at cs b
 all_guarded test cs b e = ap (λ ds. wrong_at ds b) (sym (append-nil (guarded test cs))) ∙ guarded-on test cs [] b e refl
+
+-- guarded checks are steady where the test sees no more bytes than they need
+pub guarded-steady : {R : Type 0} (test : List ℕ → Bool) (seen n : ℕ) (cs : List (Check R)) → ((b more : List ℕ) → seen ≤ length b → test (b ++ more) ≡ test b) → seen ≤ n → AreSteady n cs → AreSteady n (guarded test cs)
+guarded-steady test seen n [] sees le steady = tt
+guarded-steady test seen n (c ∷ cs) sees le steady = (
+  steady.0,
+  λ b more there.
+      let own = steady.1 b more there in
+      let same = sees b more (omega (arith, steady.0, le, there)) in
+      ((λ i. same i && own.0 i), own.1),
+  guarded-steady test seen c.needed cs sees (omega (arith, steady.0, le)) steady.2,
+)
 
 -- ---- the joined format: as a sum, and by its packets' names
 

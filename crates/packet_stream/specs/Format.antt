@@ -3,11 +3,11 @@
 use Rattle.std.specs.Prelude.{◌≡◌, ℕ, ◌≤◌, ◌<◌, Bool, true, List, [], ◌∷◌, ◌++◌, length, take, Option, Some, None, nat_le, nat_lt, if◌then◌else◌, not, ◌&&◌}
 use Rattle.usb_base.specs.Number.{AreBytes}
 
--- once the first `needed` bytes are there, a packet that fails the test is wrong at `place`
+-- where it is tried, a packet that fails the test is wrong at `place`, once the first `needed` bytes are there
 pub record Check (R : Type 0) : Type 0 where
   pub place : ℕ
   pub needed : ℕ
-  -- whether it is tried in a packet that begins so, as far as the bytes tell: a packet in which it isn't tried passes
+  -- whether it is tried in a packet that begins so, as far as the bytes tell
   pub tried : List ℕ → Bool
   pub passes : List ℕ → Bool
   pub reason : R
@@ -16,10 +16,14 @@ pub record Check (R : Type 0) : Type 0 where
 abbrev pub check : {R : Type 0} → ℕ → ℕ → R → (List ℕ → Bool) → Check R
 check place needed reason passes = record { place = place; needed = needed; tried = λ b. true; passes = passes; reason = reason }
 
--- the first check, in their order, whose bytes are there and whose test fails
+-- the check is tried, its bytes are there, and they fail its test
+abbrev pub fails : {R : Type 0} → Check R → List ℕ → Bool
+fails c bytes = c.tried bytes && (nat_le c.needed (length bytes) && not (c.passes bytes))
+
+-- the first check, in their order, that fails
 abbrev pub wrong_at : {R : Type 0} → List (Check R) → List ℕ → Option (ℕ × R)
 wrong_at [] bytes = None
-wrong_at (c ∷ cs) bytes = if nat_le c.needed (length bytes) && not (c.passes bytes) then Some (c.place, c.reason) else wrong_at cs bytes
+wrong_at (c ∷ cs) bytes = if fails c bytes then Some (c.place, c.reason) else wrong_at cs bytes
 
 pub record Format (P R : Type 0) : Type 1 where
   pub checks : List (Check R)

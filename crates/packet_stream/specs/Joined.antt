@@ -1,12 +1,12 @@
 -- Two formats joined to one: a test of the first bytes says by which of them a packet is read.
-use Rattle.std.specs.Prelude.{ℕ, Bool, not, ◌&&◌, ◌||◌, if◌then◌else◌, List, [], ◌∷◌, ◌++◌, ◌⊎◌}
+use Rattle.std.specs.Prelude.{ℕ, Bool, not, ◌&&◌, if◌then◌else◌, List, [], ◌∷◌, ◌++◌, ◌⊎◌}
 use Rattle.std.proofs.Common.{inl, inr}
 use Rattle.packet_stream.specs.Format.{Check, Format}
 
 -- the checks are tried only where the test holds
 abbrev pub guarded : {R : Type 0} → (List ℕ → Bool) → List (Check R) → List (Check R)
 guarded test [] = []
-guarded test (c ∷ cs) = record c { tried = λ b. test b && c.tried b; passes = λ b. not (test b) || c.passes b } ∷ guarded test cs
+guarded test (c ∷ cs) = record c { tried = λ b. test b && c.tried b } ∷ guarded test cs
 
 abbrev pub joined_spelling : {P Q R : Type 0} → Format P R → Format Q R → P ⊎ Q → List ℕ
 joined_spelling f g (inl p) = f.spelling p

@@ -1,9 +1,9 @@
 -- What a packet of any type awaits is what the one of both formats awaits.
 use Rattle.std.proofs.Common.{◌≡◌, ℕ, ◌+◌, ◌<◌, ◌≤◌, ◌==◌, Bool, true, false, cond, List, ◌++◌, length, None, refl, sym, ap, ◌∙◌, arith}
-use Rattle.std.specs.Prelude.{nat_lt, not}
+use Rattle.std.specs.Prelude.{nat_lt}
 use Rattle.std.specs.Int.{w32}
-use Rattle.std.proofs.lemmas.Bool.{eqb-true, le-ltb, lt-ltb, not_from_false, or_left}
-use Rattle.usb_base.specs.Number.{le_at, byte_at}
+use Rattle.std.proofs.lemmas.Bool.{eqb-true, le-ltb, lt-ltb}
+use Rattle.usb_base.specs.Number.{le_at}
 use Rattle.usb_base.specs.declared.reason.Reason.{Reason}
 use Rattle.usb_base.proofs.Numbers.{le_at-append_32}
 use Rattle.packet_stream.specs.Format.{Found, Whole, Short, Wrong, reading}
@@ -13,7 +13,6 @@ use Rattle.packet_stream.proofs.Joins.{found_as, reading-left, reading-right}
 use Rattle.packet_stream.proofs.Awaiting.{IsPatient, short_parts, short_from, awaited_least, stays_short, awaited-left, awaited-right, stays-left, stays-right}
 use Rattle.redir_wire.specs.declared.packet.Caps.{Caps}
 use Rattle.redir_wire.specs.declared.packet.Way.{Way}
-use Rattle.redir_wire.specs.declared.packet.Header.{Header}
 use Rattle.redir_wire.specs.declared.kind.DataKind.{DataKind}
 use Rattle.redir_wire.specs.declared.kind.DataKind.TheVariants.{Control, Bulk, Iso, Interrupt}
 use Rattle.redir_wire.specs.Table.{data_row, data_numbered}
@@ -25,9 +24,8 @@ use Rattle.redir_wire.proofs.Numbers.{data_again}
 use Rattle.redir_wire.proofs.Packets.{headed, packets_steady}
 use Rattle.redir_wire.proofs.Plain.{plain_bodies}
 use Rattle.redir_wire.proofs.Awaits.{AreOwn, size_long, packets_patient, plain_patient}
-use Rattle.redir_data.specs.Spelling.{data_count}
-use Rattle.redir_data.specs.Places.{fixed, told_length}
-use Rattle.redir_data.specs.Carrying.{data_check, transfers, carrying}
+use Rattle.redir_data.specs.Places.{fixed}
+use Rattle.redir_data.specs.Carrying.{transfers, carrying}
 use Rattle.redir_data.specs.Packets.{begins_plain, from_packet, redir_packets}
 use Rattle.redir_data.specs.sound.Joined.{as_plain, as_carrying}
 use Rattle.redir_data.specs.sound.Carrying.{data_bodies}
@@ -39,15 +37,8 @@ its_fields : (caps : Caps) (k : DataKind) (kind length : ℕ) → (kind == (data
 its_fields caps k kind length is its =
     least_length caps (record { kind = kind; length = length; id = 0 }) k (ap data_numbered (eqb-true kind (data_row k).number is) ∙ data_again k) its
 
-idle_of : (caps : Caps) (way : Way) (k : DataKind) (h : Header) (b : List ℕ) → (h.kind == (data_row k).number) ≡ false → (data_check caps way k).passes h b ≡ true
-idle_of caps way k h b untried = or_left (not (h.kind == (data_row k).number)) (h.length == fixed caps k + data_count way (byte_at 0 b) (told_length caps k b)) (not_from_false (h.kind == (data_row k).number) untried)
-
 transfers_own : (caps : Caps) (way : Way) → AreOwn caps (transfers caps way).checks
-transfers_own caps way = (
-  idle_of caps way Iso,
-  its_fields caps Iso,
-  (idle_of caps way Interrupt, its_fields caps Interrupt, (idle_of caps way Bulk, its_fields caps Bulk, (idle_of caps way Control, its_fields caps Control, tt))),
-)
+transfers_own caps way = (its_fields caps Iso, (its_fields caps Interrupt, (its_fields caps Bulk, (its_fields caps Control, tt))))
 
 pub carrying_patient : (first : Bool) (caps : Caps) (way : Way) → IsPatient (carrying first caps way)
 carrying_patient first caps way = packets_patient (transfers caps way) first caps way (data_bodies first caps way).steady (transfers_own caps way)
@@ -89,7 +80,7 @@ pub is_data : (first : Bool) (caps : Caps) (way : Way) (b : List ℕ) → readin
 is_data first caps way b short there carries none =
     let right = (short_parts (carrying first caps way) b short).0 in
     let checks = passed (headed (transfers caps way) first caps way) (behind_head (is_wide first caps) (transfers caps way).checks) b right in
-    is_numbered caps (record { kind = le_at w32 0 b; length = le_at w32 4 b; id = 0 }) carries (checks.0.1.1.1.1.1.1.0 there) none
+    is_numbered caps (record { kind = le_at w32 0 b; length = le_at w32 4 b; id = 0 }) carries (checks.0.1.1.1.1.1.1.0 refl there) none
 
 -- ---- without a whole type
 

@@ -1,11 +1,11 @@
 -- What the readers behind a header find.
 use Rattle.std.proofs.Common.{◌≡◌, ℕ, ◌+◌, ◌-◌, ◌<◌, ◌≤◌, Bool, true, false, cond, List, [], ◌∷◌, length, take, drop, Option, Some, Err, refl, sym, ap, subst, ◌∙◌, arith}
-use Rattle.std.specs.Prelude.{nat_le, not, ◌&&◌, ◌==◌}
+use Rattle.std.specs.Prelude.{not, ◌==◌}
 use Rattle.std.proofs.lemmas.Grind.{common_steps}
 use Rattle.usb_base.specs.Number.{part}
 use Rattle.usb_base.proofs.Numbers.{length-part}
 use Rattle.usb_base.specs.declared.reason.Reason.{Reason}
-use Rattle.packet_stream.specs.Format.{Check, wrong_at, Found, Whole, Short, Wrong, reading}
+use Rattle.packet_stream.specs.Format.{Check, fails, wrong_at, Found, Whole, Short, Wrong, reading}
 use Rattle.packet_stream.specs.Reads.{WantsMemory, Answers}
 use Rattle.packet_stream.specs.declared.read.ReadError.{ReadError}
 use Rattle.packet_stream.specs.declared.read.ReadError.TheVariants as error
@@ -69,7 +69,7 @@ near_step false place reason later w near h e = h e
 near_checks : (cs : List (Check Reason)) (b : List ℕ) (w : ℕ × Reason) → AreNear cs → wrong_at cs b ≡ Some w → w.0 ≤ 8
 unfolding AreNear
 near_checks [] b w near e = absurd cc
-near_checks (c ∷ cs) b w near e = near_step (nat_le c.needed (length b) && not (c.passes b)) c.place c.reason (wrong_at cs b) w near.0 (near_checks cs b w near.1) e
+near_checks (c ∷ cs) b w near e = near_step (fails c b) c.place c.reason (wrong_at cs b) w near.0 (near_checks cs b w near.1) e
 
 pub control_near : (caps : Caps) (h : Header) (b : List ℕ) (e : ReadError) → AnswersBehind h wire.takes_memory (Err e) (reading (behind (controls caps) h) b) → IsNear e
 unfolding AreNear

@@ -1,5 +1,5 @@
 -- The packets that move data.
-use Rattle.std.specs.Prelude.{◌+◌, ◌==◌, ◌||◌, not, Bool, [], ◌∷◌, length}
+use Rattle.std.specs.Prelude.{◌+◌, ◌==◌, not, Bool, [], ◌∷◌, length}
 use Rattle.usb_base.specs.declared.reason.Reason.{Reason}
 use Rattle.usb_base.specs.declared.reason.Reason.TheVariants.{DataLength}
 use Rattle.usb_base.specs.Number.{byte_at}
@@ -23,7 +23,7 @@ data_check caps way kind = record {
   place = length_place kind;
   needed = fixed caps kind;
   tried = λ number. number == (data_row kind).number;
-  passes = λ h b. not (h.kind == (data_row kind).number) || (h.length == fixed caps kind + data_count way (byte_at 0 b) (told_length caps kind b));
+  passes = λ h b. h.length == fixed caps kind + data_count way (byte_at 0 b) (told_length caps kind b);
   reason = DataLength;
 }
 

@@ -1,18 +1,18 @@
--- What lets a reader wait for bytes: no later byte makes a packet shorter, and no check that isn't tried fails.
-use Rattle.std.proofs.Common.{◌≡◌, ℕ, ◌+◌, ◌<◌, ◌≤◌, ◌==◌, inl, inr, Bool, true, false, cond, List, [], ◌∷◌, ◌++◌, length, drop, None, refl, sym, ap, ◌∙◌, arith}
-use Rattle.std.specs.Prelude.{nat_le, nat_lt, not}
+-- What lets a reader wait for bytes: no later byte makes a packet shorter, and what is awaited of the type settles
+-- which checks are tried.
+use Rattle.std.proofs.Common.{◌≡◌, ℕ, ◌+◌, ◌<◌, ◌≤◌, ◌==◌, inl, inr, Bool, true, false, cond, List, [], ◌∷◌, ◌++◌, length, None, refl, sym, ap, ◌∙◌, arith}
+use Rattle.std.specs.Prelude.{nat_lt}
 use Rattle.std.specs.Int.{w32}
-use Rattle.std.proofs.lemmas.Bool.{cases_lt, le-ltb, eqb-true, not_from_false, or_left}
+use Rattle.std.proofs.lemmas.Bool.{cases_lt, le-ltb, eqb-true}
 use Rattle.std.proofs.lemmas.List.{length-append}
 use Rattle.usb_base.specs.Number.{le_at}
 use Rattle.usb_base.proofs.Numbers.{le_at-append_32}
 use Rattle.packet_stream.specs.Format.{wrong_at}
 use Rattle.packet_stream.specs.Awaited.{awaited}
-use Rattle.packet_stream.proofs.Awaiting.{IsPatient, AreIdle, AreAtMost, first_soon, first_most}
+use Rattle.packet_stream.proofs.Awaiting.{IsPatient, AreSettled, AreAtMost, first_soon, first_most}
 use Rattle.redir_wire.specs.declared.packet.Caps.{Caps}
 use Rattle.redir_wire.specs.declared.packet.Way.{Way}
-use Rattle.redir_wire.specs.declared.packet.Header.{Header}
-use Rattle.redir_wire.specs.Header.{is_wide, head_size, header_at, is_its_length}
+use Rattle.redir_wire.specs.Header.{is_wide, head_size, is_its_length}
 use Rattle.redir_wire.specs.Bodies.{BodyCheck, Bodies, behind_head, packets}
 use Rattle.redir_wire.specs.Plain.{controls, plain}
 use Rattle.redir_wire.specs.Table.{has_length}
@@ -26,13 +26,10 @@ use Rattle.redir_wire.proofs.Packets.{AreSteadyBehind, headed, packets_steady}
 
 -- ---- what bodies owe
 
--- each check passes where it isn't tried, and needs no more than a header announces where it is
+-- each check needs no more than a header announces where it is tried
 abbrev pub AreOwn : Caps → List BodyCheck → Type 0
 AreOwn caps [] = Unit {0}
-AreOwn caps (c ∷ cs) =
-    ((h : Header) (b : List ℕ) → c.tried h.kind ≡ false → c.passes h b ≡ true)
-    × ((kind length : ℕ) → c.tried kind ≡ true → is_its_length caps kind length ≡ true → c.needed ≤ length)
-    × AreOwn caps cs
+AreOwn caps (c ∷ cs) = ((kind length : ℕ) → c.tried kind ≡ true → is_its_length caps kind length ≡ true → c.needed ≤ length) × AreOwn caps cs
 
 -- ---- how many bytes are awaited
 
@@ -66,14 +63,14 @@ same_size wide b more there =
 at_most_behind : (wide : Bool) (caps : Caps) (cs : List BodyCheck) (b : List ℕ) (n : ℕ) → AreOwn caps cs → is_its_length caps (le_at w32 0 b) (le_at w32 4 b) ≡ true → head_size wide + le_at w32 4 b ≤ n → AreAtMost n (behind_head wide cs) b
 at_most_behind wide caps [] b n own its le = tt
 at_most_behind wide caps (c ∷ cs) b n own its le =
-    (λ tried less. let most = own.1 (le_at w32 0 b) (le_at w32 4 b) tried its in omega (arith, most, le), at_most_behind wide caps cs b n own.2 its le)
+    (λ tried less. let most = own.0 (le_at w32 0 b) (le_at w32 4 b) tried its in omega (arith, most, le), at_most_behind wide caps cs b n own.1 its le)
 
 most_told : {P : Type 0} (f : Bodies P) (first : Bool) (caps : Caps) (way : Way) (b : List ℕ) → AreOwn caps f.checks → 8 ≤ length b → wrong_at (packets f first caps way).checks b ≡ None →
     awaited (packets f first caps way) b ≤ size (is_wide first caps) b
 most_told f first caps way b own there none =
     let wide = is_wide first caps in
     let checks = passed (headed f first caps way) (behind_head wide f.checks) b none in
-    let its = checks.0.1.1.1.1.1.1.0 there in
+    let its = checks.0.1.1.1.1.1.1.0 refl there in
     let told = size_told wide b there in
     let long = size_long wide b in
     let late : (n : ℕ) → n ≤ 8 → n ≤ size wide b = λ n le. omega (arith, le, long) in
@@ -106,12 +103,11 @@ longer f first caps way b more steady own none less = elim (cases_lt (length b) 
   | inr there ↦ omega (arith, less, most f first caps way b steady own none, same_size (is_wide first caps) b more there)
 ]
 
--- ---- what isn't tried
+-- ---- which checks are tried
 
-idle_behind : (wide : Bool) (caps : Caps) (cs : List BodyCheck) (b x : List ℕ) → AreOwn caps cs → (8 ≤ length x → le_at w32 0 x ≡ le_at w32 0 b) → AreIdle (behind_head wide cs) b x
-idle_behind wide caps [] b x own same = tt
-idle_behind wide caps (c ∷ cs) b x own same =
-    (λ untried there. let least = size_least wide in own.0 (header_at wide x) (drop (head_size wide) x) (ap c.tried (same (omega (arith, least, there))) ∙ untried), idle_behind wide caps cs b x own.2 same)
+settled_behind : (wide : Bool) (cs : List BodyCheck) (b x : List ℕ) → (8 ≤ length x → le_at w32 0 x ≡ le_at w32 0 b) → AreSettled (behind_head wide cs) b x
+settled_behind wide [] b x same = tt
+settled_behind wide (c ∷ cs) b x same = (λ there. let least = size_least wide in ap c.tried (same (omega (arith, least, there))), settled_behind wide cs b x same)
 
 same_type : {P : Type 0} (f : Bodies P) (first : Bool) (caps : Caps) (way : Way) (b more : List ℕ) → AreSteadyBehind 0 f.checks → length (b ++ more) < awaited (packets f first caps way) b → 8 ≤ length (b ++ more) →
     le_at w32 0 (b ++ more) ≡ le_at w32 0 b
@@ -120,24 +116,11 @@ same_type f first caps way b more steady less there = elim (cases_lt (length b) 
   | inr enough ↦ le_at-append_32 0 b more enough
 ]
 
-idle : {P : Type 0} (f : Bodies P) (first : Bool) (caps : Caps) (way : Way) (b more : List ℕ) → AreSteadyBehind 0 f.checks → AreOwn caps f.checks → length (b ++ more) < awaited (packets f first caps way) b →
-    AreIdle (packets f first caps way).checks b (b ++ more)
-idle f first caps way b more steady own less = (
-  λ untried there. absurd cc,
-  (
-    λ untried there. absurd cc,
-    (
-      λ untried there. absurd cc,
-      (
-        λ untried there. absurd cc,
-        (
-          λ untried there. absurd cc,
-          (λ untried there. absurd cc, (λ untried there. absurd cc, idle_behind (is_wide first caps) caps f.checks b (b ++ more) own (same_type f first caps way b more steady less))),
-        ),
-      ),
-    ),
-  ),
-)
+settled : {P : Type 0} (f : Bodies P) (first : Bool) (caps : Caps) (way : Way) (b more : List ℕ) → AreSteadyBehind 0 f.checks → length (b ++ more) < awaited (packets f first caps way) b →
+    AreSettled (packets f first caps way).checks b (b ++ more)
+settled f first caps way b more steady less =
+    let behind = settled_behind (is_wide first caps) f.checks b (b ++ more) (same_type f first caps way b more steady less) in
+    (λ there. refl, (λ there. refl, (λ there. refl, (λ there. refl, (λ there. refl, (λ there. refl, (λ there. refl, behind)))))))
 
 -- ---- the law
 
@@ -145,7 +128,7 @@ pub packets_patient : {P : Type 0} (f : Bodies P) (first : Bool) (caps : Caps) (
 packets_patient f first caps way steady own = record {
   first = 4;
   steady = packets_steady f first caps way steady;
-  idle = λ b more less. idle f first caps way b more steady own less;
+  settled = λ b more less. settled f first caps way b more steady less;
   longer = λ b more none less. longer f first caps way b more steady own none less;
   most = λ b none. most f first caps way b steady own none;
 }
@@ -159,7 +142,7 @@ count_there caps kind length is its =
     omega (arith, eqb-true length 132 told)
 
 pub controls_own : (caps : Caps) → AreOwn caps (controls caps).checks
-controls_own caps = (λ h b untried. or_left (not (h.kind == 4)) (nat_le (le_at w32 0 b) 32) (not_from_false (h.kind == 4) untried), count_there caps, tt)
+controls_own caps = (count_there caps, tt)
 
 pub plain_patient : (first : Bool) (caps : Caps) (way : Way) → IsPatient (plain first caps way)
 plain_patient first caps way = packets_patient (controls caps) first caps way (plain_bodies first caps way).steady (controls_own caps)

@@ -1,8 +1,8 @@
 -- The fields of packets that move no data: spelled again where they stand, and read again where they are spelled.
 use Rattle.std.proofs.Common.{◌≡◌, ℕ, zero, suc, ◌+◌, ◌*◌, ◌-◌, ◌/◌, ◌%◌, ◌^◌, ◌<◌, ◌≤◌, Bool, true, false, cond, List, [], ◌∷◌, ◌++◌, length, take, drop, refl, sym, ap, ◌∙◌, append_assoc, arith, length-drop, replicate}
-use Rattle.std.specs.Prelude.{nat_le, not, ◌&&◌, ◌||◌, ◌==◌}
+use Rattle.std.specs.Prelude.{nat_le, ◌&&◌, ◌==◌}
 use Rattle.std.specs.Int.{w16, w32}
-use Rattle.std.proofs.lemmas.Bool.{eqb-true}
+use Rattle.std.proofs.lemmas.Bool.{eqb-true, le-leb}
 use Rattle.std.proofs.lemmas.Grind.{common_steps}
 use Rattle.std.proofs.lemmas.List.{append-nil, drop-drop, take_at, drop_at}
 use Rattle.std.proofs.lemmas.Nat.{from_le_bytes-to_le_bytes_2, from_le_bytes-to_le_bytes_4}
@@ -250,11 +250,8 @@ fields_again caps n c more is e = refl
 
 -- ---- the count of interfaces
 
-few_by : (k n : ℕ) → n ≤ 32 → (not (k == 4) || nat_le n 32) ≡ true
-few_by k n le = grind (arith, common_steps)
-
-pub count_passes : (caps : Caps) (k : ℕ) (c : RedirControl) (more : List ℕ) → k ≡ number_of c → IsControl caps c → (not (k == 4) || nat_le (le_at w32 0 (fields caps c ++ more)) 32) ≡ true
-count_passes caps k (controls.InterfaceInfo x) more e is =
+pub count_passes : (caps : Caps) (k : ℕ) (c : RedirControl) (more : List ℕ) → k ≡ number_of c → IsControl caps c → (k == 4) ≡ true → nat_le (le_at w32 0 (fields caps c ++ more)) 32 ≡ true
+count_passes caps k (controls.InterfaceInfo x) more e is tried =
     let count = count_again x more (omega (arith, is.writable)) in
-    few_by k (le_at w32 0 (wire_bytes (interface_fields x) ++ more)) (omega (arith, count, is.writable))
-count_passes caps k c more e is = ap (λ (n : ℕ). not (n == 4) || nat_le (le_at w32 0 (fields caps c ++ more)) 32) e
+    le-leb (le_at w32 0 (wire_bytes (interface_fields x) ++ more)) 32 (omega (arith, count, is.writable))
+count_passes caps k c more e is tried = let no = sym (ap (λ (n : ℕ). n == 4) e) ∙ tried in absurd cc

@@ -1,5 +1,5 @@
 -- The checks of a header, and that headers are sound.
-use Rattle.std.proofs.Common.{◌≡◌, ℕ, ◌≤◌, Bool, List, [], ◌++◌, length, take, None, sym, ap, subst, arith}
+use Rattle.std.proofs.Common.{◌≡◌, ℕ, ◌≤◌, Bool, List, [], ◌++◌, length, take, None, refl, sym, ap, subst, arith}
 use Rattle.std.specs.Int.{w32}
 use Rattle.usb_base.specs.Number.{le_at, AreBytes}
 use Rattle.usb_base.specs.declared.reason.Reason.{Reason}
@@ -18,12 +18,12 @@ use Rattle.redir_wire.proofs.Says.{is_in_turn, is_known, is_agreed, is_in_limit,
 -- the checks of a whole header say that it is one
 pub header_passed : (first : Bool) (caps : Caps) (way : Way) (b : List ℕ) → AreBytes b → 8 ≤ length b → Passed (head_checks first caps way) b → IsHeader first caps way (header_at (is_wide first caps) b)
 header_passed first caps way b are there p = is_header first caps way (header_at (is_wide first caps) b) (record {
-  in_turn = p.0 (omega arith);
-  known = p.1.0 (omega arith);
-  agreed = p.1.1.0 (omega arith);
-  on_its_way = p.1.1.1.0 (omega arith);
-  in_limit = p.1.1.1.1.0 (omega arith);
-  its_length = p.1.1.1.1.1.0 (omega arith);
+  in_turn = p.0 refl (omega arith);
+  known = p.1.0 refl (omega arith);
+  agreed = p.1.1.0 refl (omega arith);
+  on_its_way = p.1.1.1.0 refl (omega arith);
+  in_limit = p.1.1.1.1.0 refl (omega arith);
+  its_length = p.1.1.1.1.1.0 refl (omega arith);
   kind_fits = le_at-below_32 0 b are;
   id_fits = id_fits (is_wide first caps) b are;
 })
@@ -36,20 +36,20 @@ kind_more b more there = le_at-append_32 0 b more there
 pub heads_steady : (first : Bool) (caps : Caps) (way : Way) (ds : List (Check Reason)) (n : ℕ) → n ≤ 4 → AreSteady 8 ds → AreSteady n (head_checks first caps way ++ ds)
 heads_steady first caps way ds n le steady = (
   omega arith,
-  λ b more there. ap (is_in_turn first) (kind_more b more there),
+  λ b more there. (refl, ap (is_in_turn first) (kind_more b more there)),
   (
     omega arith,
-    λ b more there. ap is_known (kind_more b more there),
+    λ b more there. (refl, ap is_known (kind_more b more there)),
     (
       omega arith,
-      λ b more there. ap (is_agreed caps) (kind_more b more there),
+      λ b more there. (refl, ap (is_agreed caps) (kind_more b more there)),
       (
         omega arith,
-        λ b more there. ap (row_says (goes way)) (kind_more b more there),
+        λ b more there. (refl, ap (row_says (goes way)) (kind_more b more there)),
         (
           omega arith,
-          λ b more there. ap is_in_limit (le_at-append_32 4 b more there),
-          (omega arith, λ b more there. (λ i. is_its_length caps (kind_more b more (omega arith) i) (le_at-append_32 4 b more there i)), steady),
+          λ b more there. (refl, ap is_in_limit (le_at-append_32 4 b more there)),
+          (omega arith, λ b more there. (refl, (λ i. is_its_length caps (kind_more b more (omega arith) i) (le_at-append_32 4 b more there i))), steady),
         ),
       ),
     ),

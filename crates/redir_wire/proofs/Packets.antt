@@ -61,7 +61,7 @@ wrong_behind wide [] b there = refl
 wrong_behind wide (c ∷ cs) b there =
     let k = head_size wide in
     let same : nat_le (k + c.needed) (length b) ≡ nat_le c.needed (length (drop k b)) = le_past k c.needed (length b) there ∙ ap (nat_le c.needed) (sym (length-drop k b)) in
-    let test : Bool → Bool = λ t. t && not (c.passes (header_at wide b) (drop k b)) in
+    let test : Bool → Bool = λ t. c.tried (le_at w32 0 b) && (t && not (c.passes (header_at wide b) (drop k b))) in
     ap (λ (t : Bool). cond (test t) (Some (k + c.place, c.reason)) (wrong_at (behind_head wide cs) b)) same
     ∙ step (past_head wide) (test (nat_le c.needed (length (drop k b)))) (c.place, c.reason) (wrong_at (with_header (header_at wide b) cs) (drop k b)) (wrong_at (behind_head wide cs) b) (wrong_behind wide cs b there)
 
@@ -76,7 +76,7 @@ headed f first caps way = type_check UnknownType f.owns ∷ head_checks first ca
 
 -- a length that was checked
 pub limit_there : {P : Type 0} (f : Bodies P) (first : Bool) (caps : Caps) (way : Way) (b : List ℕ) → wrong_at (packets f first caps way).checks b ≡ None → 8 ≤ length b → is_in_limit (le_at w32 4 b) ≡ true
-limit_there f first caps way b right there = (passed (headed f first caps way) (behind_head (is_wide first caps) f.checks) b right).0.1.1.1.1.1.0 there
+limit_there f first caps way b right there = (passed (headed f first caps way) (behind_head (is_wide first caps) f.checks) b right).0.1.1.1.1.1.0 refl there
 
 size_long : (wide : Bool) (b : List ℕ) → size wide b ≤ length b → (head_size wide + le_at w32 4 b ≤ length b) × (size wide b ≡ head_size wide + le_at w32 4 b)
 size_long wide b there = let least = size_least wide in (grind (arith, common_steps), grind (arith, common_steps))
@@ -90,7 +90,7 @@ found_there f first caps way bodies b are right there =
     let k = head_size wide in
     let least = size_least wide in
     let checks = passed (headed f first caps way) (behind_head wide f.checks) b right in
-    let own = checks.0.0 (omega arith) in
+    let own = checks.0.0 refl (omega arith) in
     let header = header_passed first caps way b are (omega arith) checks.0.1 in
     let h = header_at wide b in
     let rest = drop k b in
@@ -152,7 +152,7 @@ right f first caps way bodies p more is =
     let body = bodies.right p more is in
     let none : wrong_at (behind_head wide f.checks) b ≡ None =
     wrong_behind wide f.checks b long ∙ ap (option_map (past_head wide)) ((λ i. wrong_at (with_header (s.header i) f.checks) (s.behind i)) ∙ body) in
-    none_passed (headed f first caps way) (behind_head wide f.checks) b (λ _. ap f.owns (s.kind ∙ is.kind) ∙ bodies.owned p.1, passes first caps way p.0 b (header_says is.header) s.kind s.size) none
+    none_passed (headed f first caps way) (behind_head wide f.checks) b (λ _ _. ap f.owns (s.kind ∙ is.kind) ∙ bodies.owned p.1, passes first caps way p.0 b (header_says is.header) s.kind s.size) none
 
 size_by : (wide : Bool) (n m : ℕ) (b : List ℕ) → 8 ≤ length b → le_at w32 4 b ≡ n → head_size wide + n ≡ m → size wide b ≡ m
 size_by wide n m b long e f = rw (le-ltb (length b) 8 long, e) f
@@ -181,9 +181,13 @@ pub behind_steady : (wide : Bool) (cs : List BodyCheck) (n m : ℕ) → AreStead
 behind_steady wide [] n m steady le = tt
 behind_steady wide (c ∷ cs) n m steady le =
     let k = head_size wide in
-    let same : (b more : List ℕ) → k + c.needed ≤ length b → c.passes (header_at wide (b ++ more)) (drop k (b ++ more)) ≡ c.passes (header_at wide b) (drop k b) =
+    let same : (b more : List ℕ) → k + c.needed ≤ length b →
+    (c.tried (le_at w32 0 (b ++ more)) ≡ c.tried (le_at w32 0 b)) × (c.passes (header_at wide (b ++ more)) (drop k (b ++ more)) ≡ c.passes (header_at wide b) (drop k b)) =
     λ b more there.
-    (λ i. c.passes (header_more wide b more (omega arith) i) (drop-append-le k b more (omega arith) i)) ∙ steady.1 (header_at wide b) (drop k b) more (omega (arith, length-drop k b)) in
+    let header = header_more wide b more (omega arith) in (
+      ap (λ (h : Header). c.tried h.kind) header,
+      (λ i. c.passes (header i) (drop-append-le k b more (omega arith) i)) ∙ steady.1 (header_at wide b) (drop k b) more (omega (arith, length-drop k b)),
+    ) in
     (omega (arith, steady.0), same, behind_steady wide cs c.needed (k + c.needed) steady.2 (omega arith))
 
 size_some : (wide : Bool) (b : List ℕ) → 0 < size wide b
@@ -194,7 +198,7 @@ packets_steady f first caps way bodies =
     let wide = is_wide first caps in
     let least = size_least wide in (
       omega arith,
-      λ b more there. ap f.owns (le_at-append_32 0 b more there),
+      λ b more there. (refl, ap f.owns (le_at-append_32 0 b more there)),
       heads_steady first caps way (behind_head wide f.checks) 4 (omega arith) (behind_steady wide f.checks 0 8 bodies (omega arith)),
     )
 

@@ -56,13 +56,13 @@ read_past f first caps way b there own header =
     let wide = is_wide first caps in
     let least = size_least wide in
     let w = wrong_at (with_header (header_at wide b) f.checks) (drop (head_size wide) b) in
-    ap (reading_by (packets f first caps way) b) (skip (headed f first caps way) (behind_head wide f.checks) b (λ _. own, passes first caps way (header_at wide b) b (header_says header) refl refl) ∙ wrong_behind wide f.checks b there)
+    ap (reading_by (packets f first caps way) b) (skip (headed f first caps way) (behind_head wide f.checks) b (λ _ _. own, passes first caps way (header_at wide b) b (header_says header) refl refl) ∙ wrong_behind wide f.checks b there)
     ∙ past_by f first caps way b (omega arith) there w
 
 -- ---- without a whole header
 
 own_passes : {P : Type 0} (f : Bodies P) (b : List ℕ) (cs : List (Check Reason)) → (4 ≤ length b → f.owns (le_at w32 0 b) ≡ true) → wrong_at (type_check UnknownType f.owns ∷ cs) b ≡ wrong_at cs b
-own_passes f b cs own = skip (type_check UnknownType f.owns ∷ []) cs b (own, tt)
+own_passes f b cs own = skip (type_check UnknownType f.owns ∷ []) cs b (λ _. own, tt)
 
 pub read_wrong : {P : Type 0} (f : Bodies P) (first : Bool) (caps : Caps) (way : Way) (b : List ℕ) (place : ℕ) (reason : Reason) → (4 ≤ length b → f.owns (le_at w32 0 b) ≡ true) →
     reading (headers first caps way) b ≡ Wrong place reason → reading (packets f first caps way) b ≡ Wrong place reason

@@ -1,8 +1,8 @@
 -- The packets that move no data are sound, and what is written of them is read again.
 use Rattle.std.proofs.Common.{◌≡◌, ℕ, ◌+◌, ◌*◌, ◌-◌, ◌%◌, ◌≤◌, Bool, true, false, cond, List, [], ◌∷◌, ◌++◌, length, Option, Some, None, refl, sym, ap, subst, ◌∙◌, arith}
-use Rattle.std.specs.Prelude.{nat_le, not, ◌&&◌, ◌||◌, ◌==◌}
+use Rattle.std.specs.Prelude.{nat_le, not, ◌&&◌, ◌==◌}
 use Rattle.std.specs.Int.{w32}
-use Rattle.std.proofs.lemmas.Bool.{le-leb}
+use Rattle.std.proofs.lemmas.Bool.{eq-eqb, leb-true, le-leb}
 use Rattle.std.proofs.lemmas.Grind.{common_steps}
 use Rattle.usb_base.specs.Number.{le_at, AreBytes}
 use Rattle.usb_base.proofs.Numbers.{le_at-append_32}
@@ -18,10 +18,9 @@ use Rattle.redir_wire.specs.declared.kind.Kind.TheVariants.{Plain}
 use Rattle.redir_wire.specs.declared.packet.TheConstants.Caps.{CONNECT_VERSION, MAX_PACKET_SIZE}
 use Rattle.redir_wire.specs.Capability.{has}
 use Rattle.redir_wire.specs.Table.{plain_row, plain_numbered, has_length, has_wanted, goes}
-use Rattle.packet_stream.specs.Format.{check}
 use Rattle.redir_wire.specs.Header.{IsHeader}
 use Rattle.redir_wire.proofs.Says.{header_says, is_header}
-use Rattle.redir_wire.specs.Bodies.{with_header, IsPacket}
+use Rattle.redir_wire.specs.Bodies.{check_behind, with_header, IsPacket}
 use Rattle.redir_wire.specs.Spelling.{kind_of, number_of, fields, length_of, header_of, is_hello}
 use Rattle.redir_wire.specs.Ranges.{Ranges, IsWritable, IsControl}
 use Rattle.redir_wire.specs.Table.{fields_at}
@@ -49,16 +48,13 @@ found_by caps h b k e f =
       fits = subst (IsControl caps) (sym same) f.fits;
     }
 
-few_by : (k n : ℕ) → (not (k == 4) || nat_le n 32) ≡ true → k ≡ 4 → n ≤ 32
-few_by k n e is = grind (arith, common_steps)
-
 found_with : (first : Bool) (caps : Caps) (way : Way) (h : Header) (b : List ℕ) → AreBytes b → IsHeader first caps way h → is_plain h.kind ≡ true → wrong_at (with_header h (count_check ∷ [])) b ≡ None →
     h.length ≤ length b → (o : Option PlainKind) → plain_numbered h.kind ≡ o → IsFound (wire.controls caps) h b
 found_with first caps way h b are header plain none there None e = absurd (is_numbered caps h plain (header_says header).its_length e)
 found_with first caps way h b are header plain none there (Some k) e =
     let its = sym (length_by caps h k e) ∙ (header_says header).its_length in
     let few : (plain_row k).number ≡ 4 → 4 ≤ length b → le_at w32 0 b ≤ 32 =
-    λ is long. few_by h.kind (le_at w32 0 b) (none_first (check 0 4 count_check.reason (count_check.passes h)) [] b none long) (plain_number h.kind k e ∙ is) in
+    λ is long. leb-true (le_at w32 0 b) 32 (none_first (check_behind h count_check) [] b none (eq-eqb h.kind 4 (plain_number h.kind k e ∙ is)) long) in
     found_by caps h b k e (found_as caps h.length k b are its there few)
 
 -- ---- what is spelled
@@ -71,13 +67,13 @@ fields_there : (caps : Caps) (h : Header) (c : RedirControl) (more : List ℕ) �
 fields_there caps h c more kind again = control_by caps h (fields caps c ++ more) (kind_of c) (ap plain_numbered kind ∙ plain_again (kind_of c)) ∙ again
 
 count_steady : (h : Header) (b more : List ℕ) → 4 ≤ length b → count_check.passes h (b ++ more) ≡ count_check.passes h b
-count_steady h b more there = ap (λ (n : ℕ). not (h.kind == 4) || nat_le n 32) (le_at-append_32 0 b more there)
+count_steady h b more there = ap (λ (n : ℕ). nat_le n 32) (le_at-append_32 0 b more there)
 
 pub plain_bodies : (first : Bool) (caps : Caps) (way : Way) → AreBodies (wire.controls caps) first caps way
 plain_bodies first caps way = record {
   steady = (omega arith, count_steady, tt);
   found = λ h b are header plain none there. found_with first caps way h b are header plain none there (plain_numbered h.kind) refl;
-  right = λ p more is. none_from (check 0 4 count_check.reason (count_check.passes p.0)) [] (fields caps p.1 ++ more) (λ _. count_passes caps p.0.kind p.1 more is.kind is.fits) refl;
+  right = λ p more is. none_from (check_behind p.0 count_check) [] (fields caps p.1 ++ more) (λ tried _. count_passes caps p.0.kind p.1 more is.kind is.fits tried) refl;
   fields = λ p more is. fields_there caps p.0 p.1 more is.kind (fields_again caps p.0.length p.1 more is.fits is.length_is);
   owned = plain_owned;
 }

@@ -49,12 +49,12 @@ none_alone cs b p = ap (λ (ds : List (Check Reason)). wrong_at ds b) (sym (appe
 -- of bytes that begin so
 pub passes : (first : Bool) (caps : Caps) (way : Way) (h : Header) (b : List ℕ) → HeaderSays first caps way h → le_at w32 0 b ≡ h.kind → le_at w32 4 b ≡ h.length → Passed (head_checks first caps way) b
 passes first caps way h b is kind size = (
-  λ _. ap (is_in_turn first) kind ∙ is.in_turn,
+  λ _ _. ap (is_in_turn first) kind ∙ is.in_turn,
   (
-    λ _. ap is_known kind ∙ is.known,
+    λ _ _. ap is_known kind ∙ is.known,
     (
-      λ _. ap (is_agreed caps) kind ∙ is.agreed,
-      (λ _. ap (row_says (goes way)) kind ∙ is.on_its_way, (λ _. ap is_in_limit size ∙ is.in_limit, (λ _. (λ i. is_its_length caps (kind i) (size i)) ∙ is.its_length, tt))),
+      λ _ _. ap (is_agreed caps) kind ∙ is.agreed,
+      (λ _ _. ap (row_says (goes way)) kind ∙ is.on_its_way, (λ _ _. ap is_in_limit size ∙ is.in_limit, (λ _ _. (λ i. is_its_length caps (kind i) (size i)) ∙ is.its_length, tt))),
     ),
   ),
 )
@@ -76,12 +76,12 @@ header_says {first = first} {caps = caps} {way = way} {h = h} is =
     let size = sym (length_in wide h is.length_fits) in
     let p = alone (head_checks first caps way) (head_bytes wide h) is.right in
     record {
-      in_turn = ap (is_in_turn first) kind ∙ p.0 (omega arith);
-      known = ap is_known kind ∙ p.1.0 (omega arith);
-      agreed = ap (is_agreed caps) kind ∙ p.1.1.0 (omega arith);
-      on_its_way = ap (row_says (goes way)) kind ∙ p.1.1.1.0 (omega arith);
-      in_limit = ap is_in_limit size ∙ p.1.1.1.1.0 there;
-      its_length = (λ i. is_its_length caps (kind i) (size i)) ∙ p.1.1.1.1.1.0 there;
+      in_turn = ap (is_in_turn first) kind ∙ p.0 refl (omega arith);
+      known = ap is_known kind ∙ p.1.0 refl (omega arith);
+      agreed = ap (is_agreed caps) kind ∙ p.1.1.0 refl (omega arith);
+      on_its_way = ap (row_says (goes way)) kind ∙ p.1.1.1.0 refl (omega arith);
+      in_limit = ap is_in_limit size ∙ p.1.1.1.1.0 refl there;
+      its_length = (λ i. is_its_length caps (kind i) (size i)) ∙ p.1.1.1.1.1.0 refl there;
       kind_fits = is.kind_fits;
       id_fits = is.id_fits;
     }

@@ -14,7 +14,7 @@ use Rattle.redir_wire.specs.Header.{is_wide, head_size, head_bytes, header_at, t
 pub record BodyCheck : Type 0 where
   pub place : ℕ
   pub needed : ℕ
-  -- the numbers of the types in which it is tried: packets of others pass
+  -- the numbers of the types in which it is tried
   pub tried : ℕ → Bool
   pub passes : Header → List ℕ → Bool
   pub reason : Reason
@@ -32,9 +32,13 @@ pub record Bodies (P : Type 0) : Type 1 where
 
 -- ---- behind a header that was read
 
+-- a check of theirs behind this header
+abbrev pub check_behind : Header → BodyCheck → Check Reason
+check_behind h c = record { place = c.place; needed = c.needed; tried = λ b. c.tried h.kind; passes = c.passes h; reason = c.reason }
+
 abbrev pub with_header : Header → List BodyCheck → List (Check Reason)
 with_header h [] = []
-with_header h (c ∷ cs) = record (check c.place c.needed c.reason (c.passes h)) { tried = λ b. c.tried h.kind } ∷ with_header h cs
+with_header h (c ∷ cs) = check_behind h c ∷ with_header h cs
 
 -- the packet is whole once all that the header announces is there
 abbrev pub behind : {P : Type 0} → Bodies P → Header → Format P Reason

@@ -1,5 +1,5 @@
 -- The packets that move no data of a transfer.
-use Rattle.std.specs.Prelude.{ℕ, List, ◌==◌, ◌||◌, not, nat_le, nat_lt, Bool, false, [], ◌∷◌, length}
+use Rattle.std.specs.Prelude.{ℕ, List, ◌==◌, not, nat_le, nat_lt, Bool, false, [], ◌∷◌, length}
 use Rattle.std.specs.Int.{w32}
 use Rattle.std.specs.Option.{option_map_or}
 use Rattle.usb_base.specs.declared.reason.Reason.{Reason}
@@ -24,7 +24,7 @@ is_plain number = nat_lt number FIRST_DATA
 
 -- an interface_info has no more interfaces than its fields have cells
 abbrev pub count_check : BodyCheck
-count_check = record { place = 0; needed = 4; tried = λ number. number == INTERFACE_INFO; passes = λ h b. not (h.kind == INTERFACE_INFO) || nat_le (le_at w32 0 b) MAX_INTERFACES; reason = Count }
+count_check = record { place = 0; needed = 4; tried = λ number. number == INTERFACE_INFO; passes = λ h b. nat_le (le_at w32 0 b) MAX_INTERFACES; reason = Count }
 
 -- no header that passes its checks has another number than a type's
 abbrev pub control_at : Caps → Header → List ℕ → RedirControl

@@ -1,14 +1,14 @@
 //! Reads what stands behind a header.
 
-ghost use Rattle.std.specs.Prelude.{◌≡◌, ◌+◌, ◌*◌, ◌≤◌, ◌&&◌, not, nat_le, length, drop, true, IfOk, OnErr, ◌<◌};
-ghost use Rattle.packet_stream.specs.Format.{reading};
+ghost use Rattle.std.specs.Prelude.{◌≡◌, ◌+◌, ◌*◌, ◌≤◌, length, drop, true, IfOk, OnErr, ◌<◌};
+ghost use Rattle.packet_stream.specs.Format.{fails, reading};
 ghost use Rattle.redir_wire.specs.Table.{plain_row, has_length};
 ghost use Rattle.redir_wire.specs.inner.Sent.{sent_bytes};
 ghost use Rattle.std.specs.Int.{w16, w32};
 ghost use Rattle.redir_wire.specs.Words.{numbers_of};
 ghost use Rattle.redir_wire.specs.Places.{hello_at, connect_at, interface_info_at, ep_info_at};
 ghost use Rattle.redir_wire.specs.Table.{fields_at};
-ghost use Rattle.redir_wire.specs.Bodies.{behind};
+ghost use Rattle.redir_wire.specs.Bodies.{check_behind, behind};
 ghost use Rattle.redir_wire.specs.Plain.{controls, count_check, is_plain, takes_memory};
 ghost use Rattle.redir_wire.specs.Header.{is_its_length};
 ghost use Rattle.redir_wire.specs.Reads.{AnswersBehind};
@@ -52,7 +52,7 @@ pub fn read_control(
 
 /// Whether an interface_info tells more interfaces than there may be.
 fn has_too_many(head: &Header, bytes: &[u8]) -> bool
-    ensures { result ≡ (nat_le 4 (length bytes.now) && not (count_check.passes head.now bytes.now)) }
+    ensures { result ≡ fails (check_behind head.now count_check) bytes.now }
 {
     head.kind == INTERFACE_INFO && bytes.len() >= 4 && le_u32_at(bytes, 0) > MAX_INTERFACES
 }

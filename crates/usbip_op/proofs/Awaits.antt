@@ -1,8 +1,9 @@
--- What lets a reader wait for bytes: no later byte makes a packet shorter, and no check that isn't tried fails.
+-- What lets a reader wait for bytes: no later byte makes a packet shorter, and what is awaited of the head settles
+-- whether the count is tried.
 use Rattle.std.proofs.Common.{◌≡◌, ℕ, zero, suc, ◌+◌, ◌*◌, ◌<◌, ◌≤◌, ◌==◌, inl, inr, Bool, true, false, cond, List, [], ◌∷◌, ◌++◌, length, drop, refl, sym, ap, subst, ◌∙◌, arith}
 use Rattle.std.specs.Prelude.{nat_le, nat_lt, not, ◌&&◌}
 use Rattle.std.specs.Int.{w16, w32}
-use Rattle.std.proofs.lemmas.Bool.{and_parts, cases_lt, le-ltb, lt-ltb, le-leb, leb-true, not_from_false, or_left}
+use Rattle.std.proofs.lemmas.Bool.{and_parts, cases_lt, le-ltb, lt-ltb, leb-true}
 use Rattle.std.proofs.lemmas.Grind.{common_steps}
 use Rattle.std.proofs.lemmas.List.{length-append, drop_all, drop-append-le, get_or_past, get_or_append_left}
 use Rattle.usb_base.specs.Number.{be_at, byte_at}
@@ -18,7 +19,7 @@ use Rattle.usbip_op.specs.Requests.{requests}
 use Rattle.usbip_op.proofs.Requests.{request_size_by}
 use Rattle.usbip_op.specs.Replies.{replies, has_count, reply_size_by, reply_size, count_check}
 use Rattle.usbip_op.proofs.Heads.{heads_steady}
-use Rattle.usbip_op.proofs.Replies.{size_headed, reply_long, count_steady}
+use Rattle.usbip_op.proofs.Replies.{counts, headed_count, size_headed, reply_long, same_count, count_steady}
 
 -- ---- both ways: the first 4 bytes
 
@@ -59,7 +60,7 @@ pub requests_patient : IsPatient requests
 requests_patient = record {
   first = 0;
   steady = heads_steady 0x8005 0x8003 [] tt;
-  idle = λ b more less. (λ untried there. absurd cc, (λ untried there. absurd cc, tt));
+  settled = λ b more less. (λ there. refl, (λ there. refl, tt));
   longer = λ b more none less. request_longer b more less;
   most = λ b none. let some = request_least (be_at w16 2 b == 0x8005) in head_by (nat_lt (length b) 2) (nat_lt (length b) 4) (requests.size b) (requests.size b) (omega arith) (omega (arith, some));
 }
@@ -101,10 +102,6 @@ rows_longer (suc n) b more =
 
 -- ---- replies
 
--- a list reply that succeeds, by its code and status
-abbrev counts : ℕ → ℕ → Bool
-counts code status = (code == 0x0005) && (status == 0)
-
 -- what is awaited behind the head
 abbrev behind_head : List ℕ → ℕ
 behind_head b = cond (has_count b && nat_lt (length b) 12) 12 (reply_size b)
@@ -123,9 +120,6 @@ short_behind : (b : List ℕ) → length b < 8 → behind_head b ≡ 8
 short_behind b less = rw (short_count b less) (short_size b less)
 
 -- with it
-headed_count : (b : List ℕ) → 8 ≤ length b → has_count b ≡ counts (be_at w16 2 b) (be_at w32 4 b)
-headed_count b there = rw (le-leb 8 (length b) there) refl
-
 list_least : (code status : Bool) (r : ℕ) → (code && status) ≡ true → 12 ≤ cond (not status) 8 (cond code (12 + r) 320)
 list_least true true r e = omega arith
 list_least true false r e = absurd cc
@@ -213,14 +207,13 @@ behind_longer b more less =
     and_no true = refl
     and_no false = refl
 
--- ---- the count is tried in no other reply
+-- ---- what is awaited of the head settles whether there is a count
 
-count_idle : (b more : List ℕ) → length (b ++ more) < behind_head b → has_count b ≡ false → 12 ≤ length (b ++ more) → count_check.passes (b ++ more) ≡ true
-count_idle b more less untried there =
-    elim (cases_lt (length b) 8) [
-      | inl short ↦ absurd (omega (arith, less, short_behind b short, there))
-      | inr whole ↦ or_left (not (counts (be_at w16 2 (b ++ more)) (be_at w32 4 (b ++ more)))) (nat_le (be_at w32 8 (b ++ more)) 1024) (not_from_false (counts (be_at w16 2 (b ++ more)) (be_at w32 4 (b ++ more))) (counted b more whole ∙ (sym (headed_count b whole) ∙ untried)))
-    ]
+count_settled : (b more : List ℕ) → length (b ++ more) < behind_head b → 12 ≤ length (b ++ more) → has_count (b ++ more) ≡ has_count b
+count_settled b more less there = elim (cases_lt (length b) 8) [
+  | inl short ↦ absurd (omega (arith, less, short_behind b short, there))
+  | inr whole ↦ same_count b more whole
+]
 
 -- ---- the law
 
@@ -251,7 +244,7 @@ pub replies_patient : IsPatient replies
 replies_patient = record {
   first = 0;
   steady = heads_steady 0x0005 0x0003 (count_check ∷ []) (omega arith, count_steady, tt);
-  idle = λ b more less. (λ untried there. absurd cc, (λ untried there. absurd cc, (λ untried there. count_idle b more (behind b more less) untried there, tt)));
+  settled = λ b more less. (λ there. refl, (λ there. refl, (λ there. count_settled b more (behind b more less) there, tt)));
   longer = λ b more none less. behind_longer b more (behind b more less);
   most = λ b none. head_by (nat_lt (length b) 2) (nat_lt (length b) 4) (behind_head b) (reply_size b) (behind_most b) (omega (arith, reply_long b));
 }

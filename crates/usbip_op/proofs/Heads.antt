@@ -38,7 +38,7 @@ status_again code status rest low =
 -- the checks of both ways pass where the version and the code are right
 pub head_right : (list import : ℕ) (more : List (Check Reason)) (b : List ℕ) → be_at w16 0 b ≡ 0x0111 → ((be_at w16 2 b == list) || (be_at w16 2 b == import)) ≡ true → wrong_at more b ≡ None → wrong_at (version_check ∷ code_check list import ∷ more) b ≡ None
 head_right list import more b version code later =
-    none_from version_check (code_check list import ∷ more) b (λ _. ap (λ (n : ℕ). n == 0x0111) version) (none_from (code_check list import) more b (λ _. code) later)
+    none_from version_check (code_check list import ∷ more) b (λ _ _. ap (λ (n : ℕ). n == 0x0111) version) (none_from (code_check list import) more b (λ _ _. code) later)
 
 pub is_version : (n : ℕ) → (n == 0x0111) ≡ true → n ≡ 0x0111
 is_version n e = grind (arith, common_steps)
@@ -50,10 +50,10 @@ is_code list import code e = grind (arith, common_steps)
 pub heads_steady : (list import : ℕ) (more : List (Check Reason)) → AreSteady 4 more → AreSteady 0 (version_check ∷ code_check list import ∷ more)
 heads_steady list import more later = (
   omega arith,
-  λ b rest h. ap (λ (n : ℕ). n == 0x0111) (be_at-append_16 0 b rest h),
+  λ b rest h. (refl, ap (λ (n : ℕ). n == 0x0111) (be_at-append_16 0 b rest h)),
   (
     omega arith,
-    λ b rest h. ap (λ (n : ℕ). (n == list) || (n == import)) (be_at-append_16 2 b rest h),
+    λ b rest h. (refl, ap (λ (n : ℕ). (n == list) || (n == import)) (be_at-append_16 2 b rest h)),
     later,
   ),
 )

@@ -74,8 +74,8 @@ some_by false = omega arith
 found : (b : List ℕ) → AreBytes b → wrong_at requests.checks b ≡ None → request_size_by (be_at w16 2 b) ≤ length b → IsFound b (be_at w16 2 b)
 found b are none there =
     let least = some_by (be_at w16 2 b == 0x8005) in
-    let version : be_at w16 0 b ≡ 0x0111 = is_version _ (none_first version_check (code_check 0x8005 0x8003 ∷ []) b none (omega arith)) in
-    let code = is_code 0x8005 0x8003 _ (none_first (code_check 0x8005 0x8003) [] b (none_later version_check (code_check 0x8005 0x8003 ∷ []) b none) (omega arith)) in
+    let version : be_at w16 0 b ≡ 0x0111 = is_version _ (none_first version_check (code_check 0x8005 0x8003 ∷ []) b none refl (omega arith)) in
+    let code = is_code 0x8005 0x8003 _ (none_first (code_check 0x8005 0x8003) [] b (none_later version_check (code_check 0x8005 0x8003 ∷ []) b none) refl (omega arith)) in
     found_at b (be_at w16 2 b) are version refl there code
 
 -- ---- the law

@@ -40,11 +40,11 @@ abbrev any_command : Check Reason
 any_command = command_check USBIP_RET_SUBMIT USBIP_RET_UNLINK
 
 none_wrong : (b : List ℕ) → IsRight b → wrong_at answer_checks b ≡ None
-none_wrong b h = none_from any_command limits_on b (λ _. is_one_of USBIP_RET_SUBMIT USBIP_RET_UNLINK (be_at w32 0 b) h.command) (limits_right USBIP_RET_SUBMIT b h.limits)
+none_wrong b h = none_from any_command limits_on b (λ _ _. is_one_of USBIP_RET_SUBMIT USBIP_RET_UNLINK (be_at w32 0 b) h.command) (limits_right USBIP_RET_SUBMIT b h.limits)
 
 is_right : (b : List ℕ) → wrong_at answer_checks b ≡ None → 48 ≤ length b → IsRight b
 is_right b none there = record {
-  command = one_of USBIP_RET_SUBMIT USBIP_RET_UNLINK (be_at w32 0 b) (none_first any_command limits_on b none (omega arith));
+  command = one_of USBIP_RET_SUBMIT USBIP_RET_UNLINK (be_at w32 0 b) (none_first any_command limits_on b none refl (omega arith));
   limits = λ e. limits_found USBIP_RET_SUBMIT b (none_later any_command limits_on b none) (omega arith) e;
 }
 
@@ -52,8 +52,8 @@ is_right b none there = record {
 answers_steady : AreSteady 4 answer_checks
 answers_steady = (
   omega arith,
-  λ b more h. ap (λ (n : ℕ). (n == USBIP_RET_SUBMIT) || (n == USBIP_RET_UNLINK)) (be_at-append_32 0 b more h),
-  limits_steady USBIP_RET_SUBMIT 4 (omega arith),
+  λ b more h. (refl, ap (λ (n : ℕ). (n == USBIP_RET_SUBMIT) || (n == USBIP_RET_UNLINK)) (be_at-append_32 0 b more h)),
+  limits_steady USBIP_RET_SUBMIT 4 (omega arith) (omega arith),
 )
 
 -- ---- what is read is spelled so

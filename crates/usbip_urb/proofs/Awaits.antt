@@ -1,18 +1,17 @@
--- What lets a reader wait for bytes: no later byte makes a request shorter, and no check that isn't tried fails.
-use Rattle.std.proofs.Common.{◌≡◌, ℕ, ◌+◌, ◌*◌, ◌<◌, ◌≤◌, ◌==◌, ◌⊎◌, inl, inr, Bool, true, false, cond, List, ◌++◌, length, refl, ap, ◌∙◌, arith}
-use Rattle.std.specs.Prelude.{nat_le, not, ◌&&◌, ◌||◌}
+-- What lets a reader wait for bytes: no later byte makes a request shorter, and what is awaited of the command
+-- settles which checks are tried.
+use Rattle.std.proofs.Common.{◌≡◌, ℕ, ◌+◌, ◌*◌, ◌<◌, ◌≤◌, ◌==◌, ◌⊎◌, inl, inr, Bool, true, false, cond, List, ◌++◌, length, refl, arith}
 use Rattle.std.specs.Int.{w32}
 use Rattle.std.proofs.lemmas.Bool.{cases_lt}
 use Rattle.usb_base.specs.Number.{be_at}
 use Rattle.usb_base.proofs.Numbers.{be_at-append_32}
 use Rattle.packet_stream.specs.Awaited.{awaited}
-use Rattle.packet_stream.proofs.Awaiting.{IsPatient, AreIdle, first_soon, first_within}
-use Rattle.usb_base.specs.declared.limits.TheConstants.{MAX_TRANSFER}
+use Rattle.packet_stream.proofs.Awaiting.{IsPatient, AreSettled, guarded-settled, first_soon, first_within}
 use Rattle.usbip_urb.specs.declared.code.TheConstants.{USBIP_CMD_SUBMIT}
-use Rattle.usbip_urb.specs.Ranges.{is_packet_count}
 use Rattle.usbip_urb.specs.Sizes.{is_out, body_size, count_of, whole_size}
-use Rattle.usbip_urb.specs.Checks.{has_command, request_checks}
+use Rattle.usbip_urb.specs.Checks.{has_command, size_checks, request_checks}
 use Rattle.usbip_urb.specs.Requests.{requests}
+use Rattle.usbip_urb.specs.Sound.Limits.{same_command, sizes_steady}
 use Rattle.usbip_urb.specs.Sound.Requests.{requests_steady, long_enough}
 
 -- ---- how many bytes are awaited
@@ -64,42 +63,17 @@ longer b more less = elim (cases_lt (length b) 36) [
   | inr there ↦ omega (arith, less, most b, same_size b more there)
 ]
 
--- ---- what is tried in a submit alone
+-- ---- what is awaited of the command settles what is tried in a submit alone
 
-untried_by : (submit : Bool) → (submit && true) ≡ false → submit ≡ false
-untried_by true e = absurd cc
-untried_by false e = refl
-
-passes_by : (submit passes : Bool) → submit ≡ false → (not submit || passes) ≡ true
-passes_by true passes e = absurd cc
-passes_by false passes e = refl
-
-idle_by : (b more : List ℕ) (n : ℕ) (passes : Bool) → 4 < n → length (b ++ more) < awaited requests b → (has_command USBIP_CMD_SUBMIT b && true) ≡ false → n ≤ length (b ++ more) → (not (has_command USBIP_CMD_SUBMIT (b ++ more)) || passes) ≡ true
-idle_by b more n passes late less e there = elim (cases_lt (length b) 4) [
-  | inl short ↦ absurd (omega (arith, less, no_command b short, there, late))
-  | inr enough ↦ passes_by (has_command USBIP_CMD_SUBMIT (b ++ more)) passes (ap (λ (n : ℕ). n == USBIP_CMD_SUBMIT) (be_at-append_32 0 b more enough) ∙ untried_by (has_command USBIP_CMD_SUBMIT b) e)
-]
-
-idle : (b more : List ℕ) → length (b ++ more) < awaited requests b → AreIdle request_checks b (b ++ more)
-idle b more less = (
-  λ untried there. absurd cc,
-  (
-    λ untried there. absurd cc,
-    (
-      λ untried there. absurd cc,
-      (
-        λ untried there. absurd cc,
-        (
-          λ untried there. absurd cc,
-          (
-            λ untried there. idle_by b more 28 (nat_le (be_at w32 24 (b ++ more)) MAX_TRANSFER) (omega arith) less untried there,
-            (λ untried there. idle_by b more 36 (is_packet_count (be_at w32 32 (b ++ more))) (omega arith) less untried there, tt),
-          ),
-        ),
-      ),
-    ),
-  ),
-)
+settled : (b more : List ℕ) → length (b ++ more) < awaited requests b → AreSettled request_checks b (b ++ more)
+settled b more less =
+    let submit : 28 ≤ length (b ++ more) → has_command USBIP_CMD_SUBMIT (b ++ more) ≡ has_command USBIP_CMD_SUBMIT b =
+    λ there. elim (cases_lt (length b) 4) [
+      | inl short ↦ absurd (omega (arith, less, no_command b short, there))
+      | inr enough ↦ same_command USBIP_CMD_SUBMIT b more enough
+    ] in
+    let sizes = guarded-settled (has_command USBIP_CMD_SUBMIT) 28 size_checks b (b ++ more) submit (sizes_steady 28 (omega arith)) (λ there. refl, (λ there. refl, tt)) in
+    (λ there. refl, (λ there. refl, (λ there. refl, (λ there. refl, (λ there. refl, sizes)))))
 
 pub requests_patient : IsPatient requests
-requests_patient = record { first = 2; steady = requests_steady; idle = idle; longer = λ b more none less. longer b more less; most = λ b none. most b }
+requests_patient = record { first = 2; steady = requests_steady; settled = settled; longer = λ b more none less. longer b more less; most = λ b none. most b }

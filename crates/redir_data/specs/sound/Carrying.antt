@@ -1,6 +1,6 @@
 -- The packets that move data are sound.
 use Rattle.std.proofs.Common.{◌≡◌, ℕ, ◌+◌, ◌-◌, ◌*◌, ◌≤◌, Bool, true, false, cond, List, ◌++◌, length, take, Option, Some, None, refl, sym, ap, subst, ◌∙◌, arith}
-use Rattle.std.specs.Prelude.{not, ◌||◌, ◌==◌}
+use Rattle.std.specs.Prelude.{not, ◌==◌}
 use Rattle.std.proofs.lemmas.Bool.{not-true}
 use Rattle.std.proofs.lemmas.List.{get_or_append_left}
 use Rattle.usb_base.specs.Number.{byte_at, part, AreBytes}
@@ -55,7 +55,7 @@ sees caps way k h b more there =
     let least = fixed_least caps k in
     let endpoint = get_or_append_left b more 0 0 (omega arith) in
     let told = told_more caps k b more there in
-    λ i. not (h.kind == (data_row k).number) || (h.length == fixed caps k + data_count way (endpoint i) (told i))
+    λ i. h.length == fixed caps k + data_count way (endpoint i) (told i)
 
 most : (wide : Bool) → 8 + cond wide 2 0 ≤ 10
 most true = omega arith

@@ -1,13 +1,13 @@
 -- Of the checks behind a header only that of its own type matters.
 use Rattle.std.proofs.Common.{◌≡◌, ℕ, ◌+◌, ◌<◌, ◌≤◌, Bool, true, false, cond, List, [], ◌∷◌, length, Option, Some, None, refl, sym, ap, ◌∙◌, arith}
-use Rattle.std.specs.Prelude.{nat_le, not, ◌&&◌, ◌||◌, ◌==◌}
-use Rattle.std.proofs.lemmas.Bool.{eqb-true, leb-true, le-leb, lt-ltb, le-ltb, not_from_false, or_left}
+use Rattle.std.specs.Prelude.{nat_le, not, ◌&&◌, ◌==◌}
+use Rattle.std.proofs.lemmas.Bool.{eqb-true, leb-true, le-leb, lt-ltb, le-ltb}
 use Rattle.std.proofs.lemmas.Grind.{common_steps}
 use Rattle.usb_base.specs.Number.{byte_at}
 use Rattle.usb_base.specs.declared.reason.Reason.{Reason}
 use Rattle.usb_base.specs.declared.reason.Reason.TheVariants.{DataLength}
-use Rattle.packet_stream.specs.Format.{Check, check, wrong_at, reading, reading_by, Whole, Short, Wrong}
-use Rattle.packet_stream.proofs.Formats.{none_first}
+use Rattle.packet_stream.specs.Format.{Check, fails, wrong_at, reading, reading_by, Whole, Short, Wrong}
+use Rattle.packet_stream.proofs.Formats.{Passes, none_first, none_from}
 use Rattle.redir_wire.specs.declared.packet.Caps.{Caps}
 use Rattle.redir_wire.specs.declared.packet.Way.{Way}
 use Rattle.redir_wire.specs.declared.packet.Header.{Header}
@@ -18,7 +18,7 @@ use Rattle.redir_wire.specs.declared.kind.DataKind.TheVariants.{Control, Bulk, I
 use Rattle.redir_wire.specs.declared.kind.Kind.TheVariants.{Carrying}
 use Rattle.redir_wire.specs.Table.{plain_row, data_row, plain_numbered, data_numbered, has_length}
 use Rattle.redir_wire.specs.Header.{is_its_length}
-use Rattle.redir_wire.specs.Bodies.{with_header, behind}
+use Rattle.redir_wire.specs.Bodies.{check_behind, with_header, behind}
 use Rattle.redir_wire.specs.Plain.{is_plain}
 use Rattle.redir_wire.proofs.Checks.{skip}
 use Rattle.redir_wire.proofs.Numbers.{plain_number, data_number, says}
@@ -56,14 +56,7 @@ least_length caps h k e its =
 -- ---- its check
 
 abbrev pub its_check : Caps → Way → Header → DataKind → Check Reason
-its_check caps way h k = check (length_place k) (fixed caps k) DataLength ((data_check caps way k).passes h)
-
-passes_own : (t u : Bool) → t ≡ true → (not t || u) ≡ u
-passes_own true u e = refl
-passes_own false u e = absurd cc
-
-other : (caps : Caps) (way : Way) (h : Header) (k j : DataKind) (b : List ℕ) → h.kind ≡ (data_row k).number → ((data_row k).number == (data_row j).number) ≡ false → (data_check caps way j).passes h b ≡ true
-other caps way h k j b kind apart = or_left (not (h.kind == (data_row j).number)) _ (not_from_false (h.kind == (data_row j).number) (ap (λ (n : ℕ). n == (data_row j).number) kind ∙ apart))
+its_check caps way h k = check_behind h (data_check caps way k)
 
 -- how many bytes a packet with these fields has behind its header
 abbrev pub announced : Caps → Way → DataKind → List ℕ → ℕ
@@ -75,65 +68,58 @@ eq_same n = grind (arith, common_steps)
 eq_apart : (m n : ℕ) → (m ≡ n → ⊥) → (m == n) ≡ false
 eq_apart m n apart = grind (arith, common_steps)
 
-own : (caps : Caps) (way : Way) (h : Header) (k : DataKind) (b : List ℕ) → h.kind ≡ (data_row k).number → (data_check caps way k).passes h b ≡ (h.length == announced caps way k b)
-own caps way h k b kind = passes_own (h.kind == (data_row k).number) (h.length == announced caps way k b) (ap (λ (n : ℕ). n == (data_row k).number) kind ∙ eq_same (data_row k).number)
+is_tried : (h : Header) (k : DataKind) → h.kind ≡ (data_row k).number → (h.kind == (data_row k).number) ≡ true
+is_tried h k kind = ap (λ (n : ℕ). n == (data_row k).number) kind ∙ eq_same (data_row k).number
+
+-- that of another type isn't tried
+other : (caps : Caps) (way : Way) (h : Header) (k j : DataKind) (b : List ℕ) → h.kind ≡ (data_row k).number → ((data_row k).number == (data_row j).number) ≡ false → Passes (its_check caps way h j) b
+other caps way h k j b kind apart tried there = let no = sym tried ∙ (ap (λ (n : ℕ). n == (data_row j).number) kind ∙ apart) in absurd cc
 
 then_none : (c : Check Reason) (cs : List (Check Reason)) (b : List ℕ) → wrong_at cs b ≡ None → wrong_at (c ∷ cs) b ≡ wrong_at (c ∷ []) b
-then_none c cs b e = ap (λ (o : Option (ℕ × Reason)). cond (nat_le c.needed (length b) && not (c.passes b)) (Some (c.place, c.reason)) o) e
+then_none c cs b e = ap (λ (o : Option (ℕ × Reason)). cond (fails c b) (Some (c.place, c.reason)) o) e
 
 pub only : (caps : Caps) (way : Way) (h : Header) (k : DataKind) (b : List ℕ) → h.kind ≡ (data_row k).number →
     wrong_at (with_header h (transfers caps way).checks) b ≡ wrong_at (its_check caps way h k ∷ []) b
 only caps way h Iso b kind =
     let at = its_check caps way h in
-    let pass : (j : DataKind) → ((data_row Iso).number == (data_row j).number) ≡ false → (data_check caps way j).passes h b ≡ true = λ j apart. other caps way h Iso j b kind apart in
-    then_none (at Iso) (at Interrupt ∷ at Bulk ∷ at Control ∷ []) b
-    (skip (at Interrupt ∷ at Bulk ∷ at Control ∷ []) [] b (λ _. pass Interrupt refl, (λ _. pass Bulk refl, (λ _. pass Control refl, tt))))
+    let pass : (j : DataKind) → ((data_row Iso).number == (data_row j).number) ≡ false → Passes (at j) b = λ j apart. other caps way h Iso j b kind apart in
+    then_none (at Iso) (at Interrupt ∷ at Bulk ∷ at Control ∷ []) b (skip (at Interrupt ∷ at Bulk ∷ at Control ∷ []) [] b (pass Interrupt refl, (pass Bulk refl, (pass Control refl, tt))))
 only caps way h Interrupt b kind =
     let at = its_check caps way h in
-    let pass : (j : DataKind) → ((data_row Interrupt).number == (data_row j).number) ≡ false → (data_check caps way j).passes h b ≡ true = λ j apart. other caps way h Interrupt j b kind apart in
-    skip (at Iso ∷ []) (at Interrupt ∷ at Bulk ∷ at Control ∷ []) b (λ _. pass Iso refl, tt)
-    ∙ then_none (at Interrupt) (at Bulk ∷ at Control ∷ []) b (skip (at Bulk ∷ at Control ∷ []) [] b (λ _. pass Bulk refl, (λ _. pass Control refl, tt)))
+    let pass : (j : DataKind) → ((data_row Interrupt).number == (data_row j).number) ≡ false → Passes (at j) b = λ j apart. other caps way h Interrupt j b kind apart in
+    skip (at Iso ∷ []) (at Interrupt ∷ at Bulk ∷ at Control ∷ []) b (pass Iso refl, tt)
+    ∙ then_none (at Interrupt) (at Bulk ∷ at Control ∷ []) b (skip (at Bulk ∷ at Control ∷ []) [] b (pass Bulk refl, (pass Control refl, tt)))
 only caps way h Bulk b kind =
     let at = its_check caps way h in
-    let pass : (j : DataKind) → ((data_row Bulk).number == (data_row j).number) ≡ false → (data_check caps way j).passes h b ≡ true = λ j apart. other caps way h Bulk j b kind apart in
-    skip (at Iso ∷ at Interrupt ∷ []) (at Bulk ∷ at Control ∷ []) b (λ _. pass Iso refl, (λ _. pass Interrupt refl, tt))
-    ∙ then_none (at Bulk) (at Control ∷ []) b (skip (at Control ∷ []) [] b (λ _. pass Control refl, tt))
+    let pass : (j : DataKind) → ((data_row Bulk).number == (data_row j).number) ≡ false → Passes (at j) b = λ j apart. other caps way h Bulk j b kind apart in
+    skip (at Iso ∷ at Interrupt ∷ []) (at Bulk ∷ at Control ∷ []) b (pass Iso refl, (pass Interrupt refl, tt))
+    ∙ then_none (at Bulk) (at Control ∷ []) b (skip (at Control ∷ []) [] b (pass Control refl, tt))
 only caps way h Control b kind =
     let at = its_check caps way h in
-    let pass : (j : DataKind) → ((data_row Control).number == (data_row j).number) ≡ false → (data_check caps way j).passes h b ≡ true = λ j apart. other caps way h Control j b kind apart in
-    skip (at Iso ∷ at Interrupt ∷ at Bulk ∷ []) (at Control ∷ []) b (λ _. pass Iso refl, (λ _. pass Interrupt refl, (λ _. pass Bulk refl, tt)))
+    let pass : (j : DataKind) → ((data_row Control).number == (data_row j).number) ≡ false → Passes (at j) b = λ j apart. other caps way h Control j b kind apart in
+    skip (at Iso ∷ at Interrupt ∷ at Bulk ∷ []) (at Control ∷ []) b (pass Iso refl, (pass Interrupt refl, (pass Bulk refl, tt)))
 
 -- ---- what its check finds
 
-fails : (t p : Bool) (x : ℕ × Reason) → t ≡ true → p ≡ false → cond (t && not p) (Some x) None ≡ Some x
-fails true true x e f = absurd cc
-fails true false x e f = refl
-fails false p x e f = absurd cc
-
-passes : (t p : Bool) (x : ℕ × Reason) → (t ≡ true → p ≡ true) → cond (t && not p) (Some x) None ≡ None
-passes true true x h = refl
-passes true false x h = let no = h refl in absurd cc
-passes false p x h = refl
+all_true : (u t p : Bool) (x : ℕ × Reason) → u ≡ true → t ≡ true → p ≡ false → cond (u && (t && not p)) (Some x) None ≡ Some x
+all_true u t p x tried there wrong = rw (tried, there, wrong) refl
 
 pub none_of : (caps : Caps) (way : Way) (h : Header) (k : DataKind) (b : List ℕ) → h.kind ≡ (data_row k).number → (fixed caps k ≤ length b → h.length ≡ announced caps way k b) →
     wrong_at (with_header h (transfers caps way).checks) b ≡ None
 none_of caps way h k b kind agrees =
-    only caps way h k b kind
-    ∙ passes (nat_le (fixed caps k) (length b)) ((data_check caps way k).passes h b) (length_place k, DataLength)
-    (λ t. own caps way h k b kind ∙ ap (λ (n : ℕ). n == announced caps way k b) (agrees (leb-true (fixed caps k) (length b) t)) ∙ eq_same (announced caps way k b))
+    only caps way h k b kind ∙ none_from (its_check caps way h k) [] b (λ _ there. ap (λ (n : ℕ). n == announced caps way k b) (agrees there) ∙ eq_same (announced caps way k b)) refl
 
 pub wrong_of : (caps : Caps) (way : Way) (h : Header) (k : DataKind) (b : List ℕ) → h.kind ≡ (data_row k).number → fixed caps k ≤ length b → (h.length ≡ announced caps way k b → ⊥) →
     wrong_at (with_header h (transfers caps way).checks) b ≡ Some (length_place k, DataLength)
 wrong_of caps way h k b kind there apart =
     only caps way h k b kind
-    ∙ fails (nat_le (fixed caps k) (length b)) ((data_check caps way k).passes h b) (length_place k, DataLength) (le-leb (fixed caps k) (length b) there)
-    (own caps way h k b kind ∙ eq_apart h.length (announced caps way k b) apart)
+    ∙ all_true (h.kind == (data_row k).number) (nat_le (fixed caps k) (length b)) (h.length == announced caps way k b) (length_place k, DataLength) (is_tried h k kind) (le-leb (fixed caps k) (length b) there)
+    (eq_apart h.length (announced caps way k b) apart)
 
 pub agrees_by : (caps : Caps) (way : Way) (h : Header) (k : DataKind) (b : List ℕ) → h.kind ≡ (data_row k).number → wrong_at (with_header h (transfers caps way).checks) b ≡ None → fixed caps k ≤ length b →
     h.length ≡ announced caps way k b
 agrees_by caps way h k b kind none there =
-    let passed = none_first (its_check caps way h k) [] b (sym (only caps way h k b kind) ∙ none) there in
-    eqb-true h.length (announced caps way k b) (sym (own caps way h k b kind) ∙ passed)
+    eqb-true h.length (announced caps way k b) (none_first (its_check caps way h k) [] b (sym (only caps way h k b kind) ∙ none) (is_tried h k kind) there)
 
 -- ---- what reading finds behind a header of this type
 

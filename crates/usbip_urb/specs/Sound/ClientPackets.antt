@@ -32,7 +32,7 @@ abbrev op_code : Check Reason
 op_code = code_check OP_REQ_DEVLIST OP_REQ_IMPORT
 
 pub op_waits : Waits 2 op_requests.checks
-op_waits b less = none_from op_version (op_code ∷ []) b (λ there. absurd (omega arith)) (none_from op_code [] b (λ there. absurd (omega arith)) refl)
+op_waits b less = none_from op_version (op_code ∷ []) b (λ _ there. absurd (omega arith)) (none_from op_code [] b (λ _ there. absurd (omega arith)) refl)
 
 pub urb_waits : Waits 2 urb_checks
 urb_waits b less = none_before urb_checks 2 b urb_steady less
@@ -50,7 +50,7 @@ op_begins p more fits =
     let size = op_sound.size p more fits in
     let long : 8 ≤ op_requests.size x = op_long x in
     let there : 2 ≤ length x = omega (arith, length-append (op_spelling p) more, size, long) in
-    none_first op_version (op_code ∷ []) x (op_sound.right p more fits) there
+    none_first op_version (op_code ∷ []) x (op_sound.right p more fits) refl there
 
 urb_begins : (p : UrbPacket) (more : List ℕ) → IsRequest p → is_op (urb_spelling p ++ more) ≡ false
 urb_begins p more fits =
@@ -58,7 +58,7 @@ urb_begins p more fits =
     let size = urb_sound.size p more fits in
     let long : 48 ≤ urb_requests.size x = urb_long x in
     let there : 2 ≤ length x = omega (arith, length-append (urb_spelling p) more, size, long) in
-    let zero_first = eqb-true (be_at w16 0 x) 0 (none_first urb_version (any_command ∷ device_on) x (urb_sound.right p more fits) there) in
+    let zero_first = eqb-true (be_at w16 0 x) 0 (none_first urb_version (any_command ∷ device_on) x (urb_sound.right p more fits) refl there) in
     ap (λ (n : ℕ). n == USBIP_VERSION) zero_first
 
 join : IsJoin 2 is_op op_requests urb_requests

@@ -72,11 +72,11 @@ any_command = command_check USBIP_CMD_SUBMIT USBIP_CMD_UNLINK
 
 none_wrong : (b : List ℕ) → IsRight b → wrong_at request_checks b ≡ None
 none_wrong b h =
-    none_from version_check (any_command ∷ device_on) b (λ _. eq-eqb (be_at w16 0 b) 0 h.version)
-    (none_from any_command device_on b (λ _. is_one_of USBIP_CMD_SUBMIT USBIP_CMD_UNLINK (be_at w32 0 b) h.command)
-    (none_from device_check direction_on b (λ _. eq-eqb (be_at w32 8 b) EXPORTED_DEVID h.device)
-    (none_from direction_check endpoint_on b (λ _. le-leb (be_at w32 12 b) 1 h.direction)
-    (none_from endpoint_check limits_on b (λ _. le-leb (be_at w32 16 b) MAX_ENDPOINT h.endpoint)
+    none_from version_check (any_command ∷ device_on) b (λ _ _. eq-eqb (be_at w16 0 b) 0 h.version)
+    (none_from any_command device_on b (λ _ _. is_one_of USBIP_CMD_SUBMIT USBIP_CMD_UNLINK (be_at w32 0 b) h.command)
+    (none_from device_check direction_on b (λ _ _. eq-eqb (be_at w32 8 b) EXPORTED_DEVID h.device)
+    (none_from direction_check endpoint_on b (λ _ _. le-leb (be_at w32 12 b) 1 h.direction)
+    (none_from endpoint_check limits_on b (λ _ _. le-leb (be_at w32 16 b) MAX_ENDPOINT h.endpoint)
     (limits_right USBIP_CMD_SUBMIT b h.limits)))))
 
 -- the limits are the last of them
@@ -92,11 +92,11 @@ is_right b none there =
     let direction = none_later device_check direction_on b device in
     let endpoint = none_later direction_check endpoint_on b direction in
     record {
-      version = eqb-true (be_at w16 0 b) 0 (none_first version_check (any_command ∷ device_on) b none (omega arith));
-      command = one_of USBIP_CMD_SUBMIT USBIP_CMD_UNLINK (be_at w32 0 b) (none_first any_command device_on b command (omega arith));
-      device = eqb-true (be_at w32 8 b) EXPORTED_DEVID (none_first device_check direction_on b device (omega arith));
-      direction = leb-true (be_at w32 12 b) 1 (none_first direction_check endpoint_on b direction (omega arith));
-      endpoint = leb-true (be_at w32 16 b) MAX_ENDPOINT (none_first endpoint_check limits_on b endpoint (omega arith));
+      version = eqb-true (be_at w16 0 b) 0 (none_first version_check (any_command ∷ device_on) b none refl (omega arith));
+      command = one_of USBIP_CMD_SUBMIT USBIP_CMD_UNLINK (be_at w32 0 b) (none_first any_command device_on b command refl (omega arith));
+      device = eqb-true (be_at w32 8 b) EXPORTED_DEVID (none_first device_check direction_on b device refl (omega arith));
+      direction = leb-true (be_at w32 12 b) 1 (none_first direction_check endpoint_on b direction refl (omega arith));
+      endpoint = leb-true (be_at w32 16 b) MAX_ENDPOINT (none_first endpoint_check limits_on b endpoint refl (omega arith));
       limits = λ e. limits_found USBIP_CMD_SUBMIT b (limits_there b none) (omega arith) e;
     }
 
@@ -104,20 +104,20 @@ is_right b none there =
 pub requests_steady : AreSteady 2 request_checks
 requests_steady = (
   omega arith,
-  λ b more h. ap (λ (n : ℕ). n == 0) (be_at-append_16 0 b more h),
+  λ b more h. (refl, ap (λ (n : ℕ). n == 0) (be_at-append_16 0 b more h)),
   (
     omega arith,
-    λ b more h. ap (λ (n : ℕ). (n == USBIP_CMD_SUBMIT) || (n == USBIP_CMD_UNLINK)) (be_at-append_32 0 b more h),
+    λ b more h. (refl, ap (λ (n : ℕ). (n == USBIP_CMD_SUBMIT) || (n == USBIP_CMD_UNLINK)) (be_at-append_32 0 b more h)),
     (
       omega arith,
-      λ b more h. ap (λ (n : ℕ). n == EXPORTED_DEVID) (be_at-append_32 8 b more h),
+      λ b more h. (refl, ap (λ (n : ℕ). n == EXPORTED_DEVID) (be_at-append_32 8 b more h)),
       (
         omega arith,
-        λ b more h. ap (λ (n : ℕ). nat_le n 1) (be_at-append_32 12 b more h),
+        λ b more h. (refl, ap (λ (n : ℕ). nat_le n 1) (be_at-append_32 12 b more h)),
         (
           omega arith,
-          λ b more h. ap (λ (n : ℕ). nat_le n MAX_ENDPOINT) (be_at-append_32 16 b more h),
-          limits_steady USBIP_CMD_SUBMIT 20 (omega arith),
+          λ b more h. (refl, ap (λ (n : ℕ). nat_le n MAX_ENDPOINT) (be_at-append_32 16 b more h)),
+          limits_steady USBIP_CMD_SUBMIT 20 (omega arith) (omega arith),
         ),
       ),
     ),

@@ -35,9 +35,9 @@ returns-then-le_u32_at-lt-FIRST_DATA-clause-quiet c =
 pub returns-else-le_u32_at-lt-FIRST_DATA-clause-least : goal.returns-else-le_u32_at-lt-FIRST_DATA-clause-least
 returns-else-le_u32_at-lt-FIRST_DATA-clause-least c =
     let a = c.args in
-    let e : begins_plain a.bytes.now ≡ false = search rules in data_least a.first a.caps a.way a.bytes.now c.next_data.result e c.requires c.next_data.ensures
+    let e : begins_plain a.bytes.now ≡ false = le-ltb (le_at w32 0 a.bytes.now) 100 (omega (arith, c.le_u32_at.ensures, c.if-le_u32_at-lt-FIRST_DATA.false)) in data_least a.first a.caps a.way a.bytes.now c.next_data.result e c.requires c.next_data.ensures
 
 pub returns-else-le_u32_at-lt-FIRST_DATA-clause-quiet : goal.returns-else-le_u32_at-lt-FIRST_DATA-clause-quiet
 returns-else-le_u32_at-lt-FIRST_DATA-clause-quiet c =
     let a = c.args in
-    let e : begins_plain a.bytes.now ≡ false = search rules in data_quiet a.first a.caps a.way a.bytes.now c.next_data.result (omega (arith, c.if-bytes-lt4.false)) e c.requires c.next_data.ensures
+    let e : begins_plain a.bytes.now ≡ false = le-ltb (le_at w32 0 a.bytes.now) 100 (omega (arith, c.le_u32_at.ensures, c.if-le_u32_at-lt-FIRST_DATA.false)) in data_quiet a.first a.caps a.way a.bytes.now c.next_data.result (omega (arith, c.if-bytes-lt4.false)) e c.requires c.next_data.ensures
