@@ -2,15 +2,17 @@
 use Rattle.std.proofs.Common.{◌≡◌, ℕ, true, false, List, [], ◌∷◌, None, is_some, inr, refl, sym, ap, subst, ◌∙◌, arith}
 use Rattle.std.proofs.lemmas.Bool.{true≢false}
 use Rattle.usb_base.specs.declared.reason.Reason.{Reason}
-use Rattle.packet_stream.specs.Format.{Format, IsSound, wrong_at}
+use Rattle.packet_stream.specs.Format.{Format, IsSound, Short, reading}
 use Rattle.packet_stream.specs.Split.{Position, Splitting, reads}
 use Rattle.packet_stream.specs.Streams.{StreamView, ended, capped}
 use Rattle.redir_wire.specs.declared.packet.Way.TheVariants.{ToGuest}
 use Rattle.redir_data.specs.declared.state.RedirState.{RedirState}
 use Rattle.redir_data.specs.Streams.{start, after, stream_format, stream_start}
 use Rattle.redir_data.specs.sound.Joined.{stream_sound}
+use Rattle.redir_data.proofs.Awaits.{four_quiet}
 use Rattle.usbip_urb.specs.Sound.ClientPackets.{client_packets_sound}
 use Rattle.usbip_urb.specs.ClientPackets.{client_packets}
+use Rattle.usbip_urb.proofs.ClientAwaits.{two_quiet}
 use Rattle.gate_parts.specs.declared.write.outputs.Outputs.{Outputs}
 use Rattle.gate_core.specs.declared.step.inner.Inner.{Inner}
 use Rattle.gate_core.specs.declared.state.kept.Kept.{Kept}
@@ -39,12 +41,12 @@ use Rattle.gate_history.proofs.lemmas.step.Empty.{split-empty}
 abbrev first-kept : {S : Type 0} → S → StreamView S
 first-kept s = record { state = s; rest = []; place = 0; held = []; at = 0; over = false }
 
-all-first : {S P : Type 0} (format : S → Format P Reason) (next : S → P → S) → ((s : S) → IsSound (format s)) → (s : S) (kept : StreamView S) → wrong_at (format s).checks [] ≡ None → kept ≡ first-kept s →
+all-first : {S P : Type 0} (format : S → Format P Reason) (next : S → P → S) → ((s : S) → IsSound (format s)) → (s : S) (kept : StreamView S) → reading (format s) [] ≡ Short → kept ≡ first-kept s →
     HasAll (reads format next) (record { state = s; place = 0 }) kept [] [] false
-all-first {S = S} {P = P} format next sound s kept none is =
+all-first {S = S} {P = P} format next sound s kept short is =
     let a : Position S = record { state = s; place = 0 } in
     let r = reads format next in
-    let parts = split-empty format next sound a none in
+    let parts = split-empty format next sound a short in
     let first : HasAll r a (first-kept s) [] [] false = record {
       over_is = refl;
       none = λ _. refl;
@@ -63,10 +65,10 @@ all-first {S = S} {P = P} format next sound s kept none is =
     subst (λ (k : StreamView S). HasAll r a k [] [] false) (sym is) first
 
 pub client-first : (kept : StreamView (Unit {0})) → kept ≡ record { state = tt; rest = []; place = 0; held = []; at = 0; over = false } → HasAll client_reader client_start kept [] [] false
-client-first kept is = all-first (λ s. client_packets) (λ s p. s) (λ s. client_packets_sound) tt kept refl is
+client-first kept is = all-first (λ s. client_packets) (λ s p. s) (λ s. client_packets_sound) tt kept (two_quiet [] [] (omega arith)) is
 
 host-first : (kept : StreamView RedirState) → kept ≡ record { state = start; rest = []; place = 0; held = []; at = 0; over = false } → HasAll host_reader stream_start kept [] [] false
-host-first kept is = all-first (stream_format ToGuest) after (stream_sound ToGuest) start kept refl is
+host-first kept is = all-first (stream_format ToGuest) after (stream_sound ToGuest) start kept (four_quiet start.first start.caps ToGuest [] [] (omega arith)) is
 
 pub stands-first : (first : ℕ) (g : Inner) → g.want ≡ None → IsFirst g.translator first → g.client ≡ record { state = tt; rest = []; place = 0; held = []; at = 0; over = false } →
     g.host ≡ record { state = start; rest = []; place = 0; held = []; at = 0; over = false } → GateStands first (kept_of g) []

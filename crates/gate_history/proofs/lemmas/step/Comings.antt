@@ -24,6 +24,7 @@ use Rattle.redir_data.specs.declared.packet.RedirPacket.{RedirPacket}
 use Rattle.redir_data.specs.declared.state.RedirState.{RedirState}
 use Rattle.redir_data.specs.Streams.{start, after, stream_format, stream_start}
 use Rattle.redir_data.specs.sound.Joined.{stream_sound}
+use Rattle.redir_data.proofs.Awaits.{four_quiet}
 use Rattle.gate_history.specs.step.Events.{Event, ClientPiece, ClientEnd, HostPiece, HostEnd, client_bytes, host_bytes}
 use Rattle.gate_history.specs.step.History.{client_split, host_split, client_items, host_items, arrivals}
 use Rattle.gate_history.specs.declared.item.Item.{Item}
@@ -166,7 +167,7 @@ host-are (ClientEnd ∷ events) are = host-are events are
 host-are (HostEnd ∷ events) are = host-are events are
 
 nothing-told : (host_split []).packets ≡ []
-nothing-told = ap (λ (x : Splitting RedirState (Header × RedirPacket) Reason). x.packets) (split-empty (stream_format ToGuest) after (stream_sound ToGuest) stream_start refl)
+nothing-told = ap (λ (x : Splitting RedirState (Header × RedirPacket) Reason). x.packets) (split-empty (stream_format ToGuest) after (stream_sound ToGuest) stream_start (four_quiet start.first start.caps ToGuest [] [] (omega arith)))
 
 pub comes : (events : List Event) → AreBytes (flat_map piece_bytes events) → Comes (host_split (host_bytes events)).packets (arrivals events)
 comes [] are = (tt, sym nothing-told)

@@ -1,10 +1,8 @@
 -- One act more: what each call makes of the core.
-use Rattle.std.proofs.Common.{◌≡◌, ℕ, Bool, false, cond, List, [], ◌∷◌, ◌++◌, ◌<◌, None, refl, sym, ap, subst, ◌∙◌, arith}
-use Rattle.std.specs.Prelude.{nat_lt}
-use Rattle.std.proofs.lemmas.Bool.{lt-ltb}
+use Rattle.std.proofs.Common.{◌≡◌, ℕ, false, List, [], ◌∷◌, ◌++◌, None, refl, sym, ap, subst, ◌∙◌, arith}
 use Rattle.std.proofs.lemmas.List.{append-nil}
 use Rattle.usb_base.specs.declared.reason.Reason.{Reason}
-use Rattle.packet_stream.specs.Format.{Found, Short, Whole}
+use Rattle.packet_stream.specs.Format.{Short}
 use Rattle.packet_stream.specs.Split.{Splitting}
 use Rattle.packet_stream.specs.Streams.{StreamView as Stream, capped}
 use Rattle.packet_stream.proofs.Laws.{reads_steady, split-is}
@@ -14,6 +12,7 @@ use Rattle.redir_data.specs.declared.packet.RedirPacket.{RedirPacket}
 use Rattle.redir_data.specs.declared.state.RedirState.{RedirState}
 use Rattle.redir_data.specs.Streams.{start, after, stream_format, stream_start}
 use Rattle.redir_data.specs.sound.Joined.{stream_sound}
+use Rattle.redir_data.proofs.Awaits.{four_quiet}
 use Rattle.model_device.specs.Gadget.{IsGadget}
 use Rattle.model_device.specs.Meaning.{Meaning}
 use Rattle.redir_host.specs.declared.state.host.Host.{Host}
@@ -37,13 +36,8 @@ use Rattle.redir_host.proofs.lemmas.write.Replies.{read-more}
 
 -- ---- nothing has come
 
-short-by : {P : Type 0} (p : P) (n : ℕ) → 0 < n → ◌≡◌ {A = Found P Reason} (cond (nat_lt 0 n) Short (Whole p n)) Short
-short-by {P = P} p n some = ap (λ (b : Bool). cond {A = Found P Reason} b Short (Whole p n)) (lt-ltb 0 n some)
-
 pub split-none : guest_split [] ≡ record { packets = []; wrong = None; position = stream_start; rest = [] }
-split-none =
-    split-is guest_reader (reads_steady (stream_format ToHost) after (stream_sound ToHost)) stream_start [] Short
-    (short-by ((stream_format ToHost start).packet []) ((stream_format ToHost start).size []) ((stream_sound ToHost start).some []))
+split-none = split-is guest_reader (reads_steady (stream_format ToHost) after (stream_sound ToHost)) stream_start [] Short (four_quiet start.first start.caps ToHost [] [] (omega arith))
 
 abbrev first-stream : Stream RedirState
 first-stream = record { state = start; rest = []; place = 0; held = []; at = 0; over = false }
