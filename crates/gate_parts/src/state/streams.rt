@@ -81,12 +81,10 @@ impl Streams {
 
     /// Those that end with a route go down, or all where there is none.
     pub fn lower(&mut self, by: Option<Route>)
-        ensures lowered { self.new ≡ lower (is_ended by) self.old }
-        ensures count { length self.old ≡ ENDPOINTS }
+        ensures { self.new ≡ lower (is_ended by) self.old }
     {
-        for place in 0..ENDPOINTS {
-            let up = self.ups[place].take();
-            self.ups[place] = unless_ended(up, by);
+        for up in &mut self.ups {
+            lower_ended(up, by);
         }
     }
 
@@ -107,12 +105,12 @@ impl Streams {
     }
 }
 
-fn unless_ended(stream: Option<Up>, by: Option<Route>) -> Option<Up>
-    ensures { result ≡ unless (is_ended by) stream }
+// That of one endpoint goes down, where it is up and ends so.
+fn lower_ended(stream: &mut Option<Up>, by: Option<Route>)
+    ensures { stream.new ≡ unless (is_ended by) stream.old }
 {
-    match stream {
-        Some(up) if !is_ended(&up, by) => Some(up),
-        _ => None,
+    if stream.as_ref().is_some_and(|up| is_ended(up, by)) {
+        *stream = None;
     }
 }
 

@@ -3,5 +3,5 @@ use Rattle.gate_history.specs.state.Ups.{unless, is_ended}
 use Rattle.gate_parts.proofs.lemmas.state.Fronts.{mapped}
 use Rattle.gate_parts.proofs.state.streams.Streams.lower.Given as goal
 
-abbrev pub invariant-loop-place : goal.invariant-loop-place
-invariant-loop-place l = l.self-inside.ups ≡ mapped (unless (is_ended l.by)) l.place l.fn.self
+abbrev pub invariant-loop-up : goal.invariant-loop-up
+invariant-loop-up l = l.up-items ≡ mapped (unless (is_ended l.by)) l.up-index l.fn.self
