@@ -1,7 +1,7 @@
 -- The packets that were seen, and the next one.
 use Rattle.std.proofs.Common.{◌≡◌, ℕ, ◌+◌, ◌<◌, ◌≤◌, ◌||◌, nat_le, Bool, false, List, [], ◌∷◌, ◌++◌, length, take, drop, get_or, None, sym, ap, ◌∙◌, arith, below_more}
 use Rattle.std.proofs.lemmas.List.{take_more, take-take, take-append-drop, append-nil, length-append, get_or_default}
-use Rattle.std.proofs.lemmas.Bool.{leb-false, lt-leb, or_parts}
+use Rattle.std.proofs.lemmas.Bool.{lt-leb, or_parts}
 use Rattle.std.proofs.lemmas.Grind.{flat_map-append}
 use Rattle.usb_base.specs.declared.status.UsbStatus.TheVariants.{Success}
 use Rattle.usb_base.specs.declared.transfer.StreamPacket.{StreamPacket}
@@ -12,9 +12,6 @@ use Rattle.stream_buffers.specs.inner.Seen.{IsSeen}
 use Rattle.stream_buffers.proofs.Found.{none_below}
 
 -- a packet that is there, whatever stands for one that is not
-pub there : (packets : List StreamPacket) (k : ℕ) (p : StreamPacket) → k < length packets → p ≡ packet_at packets k → p ≡ get_or packets k p
-there packets k p within is = is ∙ get_or_default packets k (record { status = Success; body = [] }) p within
-
 pub here : (packets : List StreamPacket) (k : ℕ) (p : StreamPacket) → k < length packets → p ≡ get_or packets k p → packet_at packets k ≡ p
 here packets k p within is = get_or_default packets k (record { status = Success; body = [] }) p within ∙ sym is
 
@@ -43,9 +40,8 @@ pub record Looked (max_packet wanted : ℕ) (packets : List StreamPacket) (k byt
   pub test_is : (ends max_packet p || nat_le wanted (bytes + length p.body)) ≡ test
   pub fills_is : fills max_packet wanted packets k ≡ test
 
-pub looked : (max_packet wanted : ℕ) (packets : List StreamPacket) (k bytes sum : ℕ) (p : StreamPacket) (test : Bool) → k < length packets → p ≡ packet_at packets k → bytes ≡ length (bodies (take k packets)) → sum ≡ bytes + length p.body → (ends max_packet p || nat_le wanted sum) ≡ test → Looked max_packet wanted packets k bytes sum p test
-looked max_packet wanted packets k bytes sum p test within is seen came tested =
-    let read = there packets k p within is in
+pub looked : (max_packet wanted : ℕ) (packets : List StreamPacket) (k bytes sum : ℕ) (p : StreamPacket) (test : Bool) → k < length packets → p ≡ get_or packets k p → bytes ≡ length (bodies (take k packets)) → sum ≡ bytes + length p.body → (ends max_packet p || nat_le wanted sum) ≡ test → Looked max_packet wanted packets k bytes sum p test
+looked max_packet wanted packets k bytes sum p test within read seen came tested =
     let now : (ends max_packet p || nat_le wanted (bytes + length p.body)) ≡ test = ap (λ (n : ℕ). ends max_packet p || nat_le wanted n) (sym came) ∙ tested in
     record { within = within; read = read; came = came; test_is = now; fills_is = fills_here max_packet wanted packets k bytes p within read seen ∙ now }
 
@@ -53,9 +49,6 @@ looked max_packet wanted packets k bytes sum p test within is seen came tested =
 
 pub go_on : (max_packet wanted bytes : ℕ) (p : StreamPacket) → (ends max_packet p || nat_le wanted bytes) ≡ false → ends max_packet p ≡ false
 go_on max_packet wanted bytes p fails = (or_parts (ends max_packet p) (nat_le wanted bytes) fails).0
-
-pub too_few : (max_packet wanted bytes : ℕ) (p : StreamPacket) → (ends max_packet p || nat_le wanted bytes) ≡ false → bytes < wanted
-too_few max_packet wanted bytes p fails = leb-false wanted bytes (or_parts (ends max_packet p) (nat_le wanted bytes) fails).1
 
 shorter : (n : ℕ) (packets : List StreamPacket) → length (bodies (take n packets)) ≤ length (bodies packets)
 shorter n packets =
@@ -74,10 +67,10 @@ seen_too_few max_packet wanted packets seen is few = none_below (fills max_packe
     let short : length (bodies_to j packets) < wanted = omega (arith, is.bytes, few, fewer (j + 1) seen.count packets (omega arith)) in
     ap (λ (e : Bool). e || nat_le wanted (length (bodies_to j packets))) (is.go_on j less) ∙ lt-leb wanted (length (bodies_to j packets)) short)
 
-pub seen_more : (max_packet : ℕ) (packets : List StreamPacket) (seen : Seen) (k bytes : ℕ) (p : StreamPacket) → IsSeen max_packet packets seen → seen.count ≡ k → k < length packets → p ≡ get_or packets k p →
-    bytes ≡ seen.bytes + length p.body → ends max_packet p ≡ false → IsSeen max_packet packets (record { count = k + 1; bytes = bytes })
-seen_more max_packet packets seen k bytes p is at within read sum goes_on = record {
+pub seen_more : (max_packet : ℕ) (packets : List StreamPacket) (seen : Seen) (bytes : ℕ) (p : StreamPacket) → IsSeen max_packet packets seen → seen.count < length packets → p ≡ get_or packets seen.count p →
+    bytes ≡ seen.bytes + length p.body → ends max_packet p ≡ false → IsSeen max_packet packets (record { count = seen.count + 1; bytes = bytes })
+seen_more max_packet packets seen bytes p is within read sum goes_on = record {
   there = omega arith;
-  bytes = sum ∙ sym (bytes_more packets k seen.bytes p within read (is.bytes ∙ ap (λ (n : ℕ). length (bodies (take n packets))) at));
-  go_on = below_more _ _ (λ j less. is.go_on j (omega arith)) (ap (ends max_packet) (here packets k p within read) ∙ goes_on);
+  bytes = sum ∙ sym (bytes_more packets seen.count seen.bytes p within read is.bytes);
+  go_on = below_more _ _ (λ j less. is.go_on j (omega arith)) (ap (ends max_packet) (here packets seen.count p within read) ∙ goes_on);
 }

@@ -1,5 +1,5 @@
+pub mod Left
 pub mod Found
 pub mod Fillings
 pub mod Joining
-pub mod Descriptors
 pub mod Buffers

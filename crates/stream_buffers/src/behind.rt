@@ -1,10 +1,12 @@
 //! The packets that a stream holds behind the first so many, as they are lent.
 
-ghost use Rattle.std.specs.Prelude.{◌≡◌, ◌<◌, ◌≤◌, drop, length};
+ghost use Rattle.std.specs.Prelude.{◌≡◌, ◌<◌, ◌≤◌, ◌+◌, drop, length};
+ghost use Rattle.std.specs.VecDeque.Iter.{deque_iter_rest};
 ghost use Rattle.stream_buffers.specs.declared.up.TheConstants.{MAX_HELD};
 ghost use Rattle.stream_buffers.specs.Interrupt.{packet_at};
 
 use std::collections::VecDeque;
+use std::collections::vec_deque::Iter;
 use std::marker::Model;
 use usb_base::StreamPacket;
 
@@ -43,6 +45,22 @@ impl<'a> Behind<'a> {
         ensures bound { result ≤ MAX_HELD }
     {
         self.packets.len() - self.from
+    }
+
+    /// They, one after another.
+    pub(crate) fn iter(&self) -> Iter<'_, StreamPacket>
+        ensures { deque_iter_rest result ≡ self.now }
+    {
+        self.iter_from(0)
+    }
+
+    /// Those from a place on, one after another.
+    pub(crate) fn iter_from(&self, place: usize) -> Iter<'_, StreamPacket>
+        requires { place ≤ length self.now }
+        ensures rest { deque_iter_rest result ≡ drop place self.now }
+        ensures bound { place + length (deque_iter_rest result) ≤ MAX_HELD }
+    {
+        self.packets.range(self.from + place..)
     }
 
     /// That at a place.

@@ -60,9 +60,9 @@ impl<'a> Behind<'a> {
         ensures there { IfSome result.0 (λ f. f.last < length self.now) }
         ensures seen { IsSeen max_packet self.now result.1 }
     {
-        for last in seen.count..self.len() {
-            let packet = self.at(last);
+        for packet in self.iter_from(seen.count) {
             let bytes = u64::from(seen.bytes) + packet.body.as_slice().len() as u64;
+            let last = seen.count;
             if fills(max_packet, packet, bytes, wanted) {
                 return (Some(Fewest { last, bytes }), seen);
             }

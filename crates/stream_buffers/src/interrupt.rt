@@ -48,8 +48,8 @@ impl<'a> Behind<'a> {
         ensures wants { OnErr result (0 < length (filling_body self.now filling)) }
     {
         let mut room = filling.done as usize;
-        for place in 0..filling.count {
-            let fitting = fitting(self.at(place).body.as_slice(), room);
+        for packet in self.iter().take(filling.count) {
+            let fitting = fitting(packet.body.as_slice(), room);
             out.append(fitting)?;
             room -= fitting.len();
         }

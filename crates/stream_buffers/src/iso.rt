@@ -53,8 +53,8 @@ impl<'a> Behind<'a> {
     {
         let mut done = 0;
         let mut errors = 0;
-        for (place, desc) in descs.as_slice().iter().enumerate() {
-            let filled = filled_by(desc, self.at(place));
+        for (desc, packet) in descs.as_slice().iter().zip(self.iter()) {
+            let filled = filled_by(desc, packet);
             done += u64::from(filled.actual);
             errors += errors_of(&filled);
         }
@@ -68,8 +68,8 @@ impl<'a> Behind<'a> {
         ensures sent { AppendsSome result out.old out.new (pieces descs.now self.now) }
         ensures wants { OnErr result (0 < length (pieces descs.now self.now)) }
     {
-        for (place, desc) in descs.as_slice().iter().enumerate() {
-            out.append(piece(desc, self.at(place)))?;
+        for (desc, packet) in descs.as_slice().iter().zip(self.iter()) {
+            out.append(piece(desc, packet))?;
         }
         Ok(())
     }
@@ -81,8 +81,8 @@ impl<'a> Behind<'a> {
         ensures sent { AppendsSome result out.old out.new (descs_bytes (all_filled descs.now self.now)) }
         ensures wants { OnErr result (0 < length descs.now) }
     {
-        for (place, desc) in descs.as_slice().iter().enumerate() {
-            push_desc(&filled_by(desc, self.at(place)), out)?;
+        for (desc, packet) in descs.as_slice().iter().zip(self.iter()) {
+            push_desc(&filled_by(desc, packet), out)?;
         }
         Ok(())
     }
@@ -97,8 +97,8 @@ impl<'a> Behind<'a> {
         let mut body = Bytes::new(alloc);
         self.append_pieces(descs, &mut body)?;
         let mut filled = List::new(alloc);
-        for (place, desc) in descs.as_slice().iter().enumerate() {
-            filled.push(filled_by(desc, self.at(place)))?;
+        for (desc, packet) in descs.as_slice().iter().zip(self.iter()) {
+            filled.push(filled_by(desc, packet))?;
         }
         Ok(IsoOutcome {
             body,

@@ -1,35 +1,29 @@
-use Rattle.std.proofs.Common.{◌≡◌, ℕ, List, ◌++◌, ◌<◌, ◌≤◌, length, sym, ap, ◌∙◌, take, length-append, length-take, append_assoc, arith}
-use Rattle.stream_buffers.specs.Interrupt.{bodies, bodies_to}
-use Rattle.stream_buffers.proofs.Joining.{fit_more, some_fits, on-err}
+use Rattle.std.proofs.Common.{◌≡◌, ◌<◌, ◌++◌, ◌∙◌, ◌+◌, ◌-◌, ℕ, List, length, take, ap, length-take, arith}
+use Rattle.stream_buffers.proofs.Left.{begins_on, one_put, all_put, some_of_all}
+use Rattle.stream_buffers.proofs.Joining.{fit_next, none_fits, on-err}
 use Rattle.stream_buffers.proofs.behind.Behind.append_bodies.Goals as goal
 
-pub loop-place-preserved : goal.loop-place-preserved
-loop-place-preserved c =
-    let n = c.args.filling.done in
-    let ps = c.args.self.now in
-    let i = c.loop-place.place in
-    let p = c.at.result.now in
-    let piece = c.fitting-fitting.result.now in
-    let before = take n (bodies (take i ps)) in
-    let in_ps : i < length ps = omega (arith, c.loop-place-test.true, c.requires) in
-    let fits : piece ≡ take c.loop-place.room p.body = c.fitting-fitting.ensures ∙ ap (take c.loop-place.room) c.as_slice.ensures in
-    let one_more : take n (bodies_to i ps) ≡ before ++ piece =
-    fit_more n c.loop-place.room ps i p in_ps c.at.ensures c.loop-place.invariant.room ∙ ap (λ (l : List ℕ). before ++ l) (sym fits) in
-    let long = ap length one_more ∙ length-append before piece in
-    let short = ap length fits ∙ length-take c.loop-place.room p.body in
-    record {
-      out = c.in_ok-append.ensures.ok
-          ∙ ap (λ (l : List ℕ). l ++ piece) c.loop-place.invariant.out
-          ∙ append_assoc c.args.out.now before piece
-          ∙ ap (λ (l : List ℕ). c.args.out.now ++ l) (sym one_more);
-      room = omega (arith, long, short, c.loop-place.invariant.room);
-    }
+pub loop-packet-preserved : goal.loop-packet-preserved
+loop-packet-preserved c =
+    let room = c.loop-packet.room in
+    let body = c.in-Some.packet.now.body in
+    let fits : c.fitting-fitting.result.now ≡ take room body = c.fitting-fitting.ensures ∙ ap (take room) c.as_slice.ensures in
+    let more = room - length c.fitting-fitting.result.now in
+    let left : more + length (take room body) ≡ room = omega (arith, ap length fits, length-take room body) in
+    let next = fit_next room more _ _ _ _ c.in-Some.packet.now c.in-Some.ensures.steps.0 c.in-Some.ensures.steps.1 left in
+    let put = c.in_ok-append.ensures.ok ∙ ap (λ (l : List ℕ). c.loop-packet.out ++ l) fits in
+    record { begins = begins_on _ _ _ _ c.loop-packet.invariant.begins put; sent = one_put _ _ _ _ _ _ c.loop-packet.invariant.sent next put }
 
 pub returns-in_err-append-clause-wants : goal.returns-in_err-append-clause-wants
 returns-in_err-append-clause-wants c =
-    let ps = c.args.self.now in
-    let fits = c.fitting-fitting.ensures ∙ ap (take c.loop-place.room) c.as_slice.ensures in
-    let some : 0 < length (take c.loop-place.room c.at.result.now.body) = omega (arith, c.in_err-append.ensures.wants, ap length fits) in
-    let there : c.args.filling.count ≤ length ps = omega (arith, c.requires) in
-    on-err c.from_residual.result _
-    (some_fits c.args.filling.done c.loop-place.room ps c.loop-place.place c.args.filling.count c.at.result.now c.loop-place-test.true there c.at.ensures c.loop-place.invariant.room some)
+    let room = c.loop-packet.room in
+    let body = c.in-Some.packet.now.body in
+    let fits : c.fitting-fitting.result.now ≡ take room body = c.fitting-fitting.ensures ∙ ap (take room) c.as_slice.ensures in
+    let left : (room - length c.fitting-fitting.result.now) + length (take room body) ≡ room = omega (arith, ap length fits, length-take room body) in
+    let next = fit_next room _ _ _ _ _ c.in-Some.packet.now c.in-Some.ensures.steps.0 c.in-Some.ensures.steps.1 left in
+    let some : 0 < length (take room body) = omega (arith, c.in_err-append.ensures.wants, ap length fits) in
+    on-err c.from_residual.result _ (some_of_all _ _ _ _ _ _ c.loop-packet.invariant.begins c.loop-packet.invariant.sent next some)
+
+pub returns-clause-sent : goal.returns-clause-sent
+returns-clause-sent c =
+    all_put _ _ _ c.loop-packet.invariant.sent (none_fits c.loop-packet.room _ _ (λ some. (c.in-None.ensures.steps some).0))

@@ -1,7 +1,16 @@
-use Rattle.std.proofs.Common.{◌≡◌, ◌++◌, take}
+use Rattle.std.proofs.Common.{◌≡◌, ◌≤◌, ◌++◌, length, map}
+use Rattle.usb_base.specs.Writes.{Begins}
+use Rattle.std.specs.Iterator.Adapters.{zip_first}
+use Rattle.std.specs.Slice.Iter.{iter_rest}
 use Rattle.usbip_urb.specs.Spelling.{descs_bytes}
-use Rattle.stream_buffers.specs.Iso.{all_filled}
+use Rattle.stream_buffers.specs.Iso.{filled, all_filled}
+use Rattle.stream_buffers.proofs.Left.{left}
 use Rattle.stream_buffers.proofs.behind.Behind.append_filled.Given as goal
 
-abbrev pub invariant-loop-place : goal.invariant-loop-place
-invariant-loop-place l = l.out ≡ l.fn.out ++ descs_bytes (all_filled (take l.place l.descs) l.self)
+-- with those that are left
+abbrev pub invariant-loop-desc : goal.invariant-loop-desc
+invariant-loop-desc l = record {
+  begins : Begins l.fn.out l.out;
+  sent : l.out ++ descs_bytes (map (λ x. filled x.0 x.1) (left l.desc-iterator)) ≡ l.fn.out ++ descs_bytes (all_filled l.descs l.self);
+  few : length (iter_rest (zip_first l.desc-iterator)) ≤ length l.descs;
+}
