@@ -193,7 +193,7 @@ fn mismatched(place: u64, behind: u64, expected: u32, came: u32) -> Refusal
 // ---- what came of the transfer
 
 /// Whether a request in flight asks for a value of one byte, which its status tells.
-pub fn gets(kind: &LiveKind) -> bool
+fn gets(kind: &LiveKind) -> bool
     ensures { result ≡ row_gets kind.now }
 {
     match kind {
@@ -209,22 +209,17 @@ fn route_gets(route: &Route) -> bool
     matches!(route, Route::GetConfig | Route::GetAlt(_))
 }
 
-/// What came of a transfer by its answer, whose data are moved. A status gives a byte where the request `gets` its
-/// value, and so many bytes are `wanted` at most; memory is wanting for that byte alone.
-pub fn told_outcome(
-    alloc: Global,
-    gets: bool,
-    wanted: u32,
-    response: Response,
-) -> Result<Outcome, Memory>
-    ensures ok { IfOk result (λ o. (r : Request) (v : Verdict) → r.transfer.wanted ≡ wanted → gets_value v ≡ gets → o ≡ told_outcome r v (response_view response)) }
-    ensures err { OnErr result ((gets ≡ true) × (0 < wanted) × (has_succeeded (response_view response) ≡ true)) }
+/// What came of a request's transfer by its answer, whose data are moved. A status gives a byte where the request asks
+/// for its value and for any bytes; memory is wanting for that byte alone.
+pub fn told_outcome(alloc: Global, live: &Live, response: Response) -> Result<Outcome, Memory>
+    ensures ok { IfOk result (λ o. (r : Request) (v : Verdict) → r.transfer.wanted ≡ live.now.wanted → gets_value v ≡ row_gets live.now.kind → o ≡ told_outcome r v (response_view response)) }
+    ensures err { OnErr result ((row_gets live.now.kind ≡ true) × (0 < live.now.wanted) × (has_succeeded (response_view response) ≡ true)) }
 {
     match response {
         Response::Data { outcome, .. } => Ok(outcome),
         Response::Status { status, value } => {
-            let tells = gets && status == 0;
-            status_outcome(alloc, status, tells && wanted > 0, value)
+            let tells = gets(&live.kind) && status == 0;
+            status_outcome(alloc, status, tells && live.wanted > 0, value)
         }
     }
 }

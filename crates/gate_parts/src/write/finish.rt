@@ -17,7 +17,7 @@ ghost use Rattle.unlink_race.specs.Endings.{ending_of};
 ghost use Rattle.unlink_race.specs.Searches.{ended_by};
 ghost use Rattle.gate_parts.specs.write.Outputs.{with_answers};
 
-use crate::host::response::{Response, gets, told_outcome};
+use crate::host::response::{Response, told_outcome};
 use crate::write::answer::{write_outcome, write_ret_unlink, write_without_packets};
 use crate::write::outputs::Outputs;
 use gate_history::{AnsweredSubmit, Note, Request};
@@ -122,7 +122,7 @@ pub fn write_completed(
     ensures err { OnErr result (out.new ≡ record out.old { notes = out.new.notes }) }
     ensures err_notes { OnErr result (Begins out.old.notes out.new.notes) }
 {
-    let outcome = told_outcome(alloc, gets(&live.kind), live.wanted, response)?;
+    let outcome = told_outcome(alloc, live, response)?;
     out.notes.push(Note::Answered {
         seqnum: live.seqnum,
     })?;
