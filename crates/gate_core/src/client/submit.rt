@@ -217,12 +217,7 @@ impl Kept {
         ensures value { result ≡ draw (greatest (wide_ids self.now.caps)) (flying_in self.now) last }
         ensures fits { IdFits (wide_ids self.now.caps) result }
     {
-        draw(
-            &self.lives,
-            &self.stream_ids,
-            self.caps.contains(Caps::WIDE_IDS),
-            last,
-        )
+        draw(&self.lives, &self.stream_ids, self.caps, last)
     }
 
     /// Takes a request in, the last of those in flight, for which this id was drawn last.

@@ -1,4 +1,5 @@
 use Rattle.std.proofs.Common.{◌<◌, ◌++◌, length, refl, sym, subst, ◌∙◌, arith}
+use Rattle.gate_history.specs.state.Flight.{wide_ids}
 use Rattle.gate_history.specs.state.Ids.{Fits}
 use Rattle.gate_history.specs.state.StreamIds.{ids_of_streams}
 use Rattle.gate_parts.specs.state.Ids.{ids_in}
@@ -10,7 +11,7 @@ use Rattle.gate_parts.proofs.state.id.draw.Goals.{After-id_after-id-in-loop-id}
 
 -- more ids than are in flight
 room : (c : After-id_after-id-in-loop-id) → length (ids_in c.args.lives.now ++ ids_of_streams c.args.stream_ids.now) < c.greatest-greatest.result
-room c = let few = few-all c.args.lives.now c.args.stream_ids.now in omega (arith, large c.args.wide, c.loop-id.invariant.most, c.requires)
+room c = let few = few-all c.args.lives.now c.args.stream_ids.now in omega (arith, large (wide_ids c.args.caps), c.loop-id.invariant.most, c.requires)
 
 pub loop-id-smaller : goal.loop-id-smaller
 loop-id-smaller c =
@@ -28,7 +29,7 @@ loop-id-preserved c =
 
 pub loop-id-init : goal.loop-id-init
 loop-id-init c =
-    let some = large c.args.wide in
+    let some = large (wide_ids c.args.caps) in
     record {
       most = c.greatest-greatest.ensures;
       fits = rw c.id_after-id.ensures (after-fits c.greatest-greatest.result c.args.last (omega (arith, some, c.greatest-greatest.ensures)));
@@ -44,4 +45,4 @@ pub returns-clause-free : goal.returns-clause-free
 returns-clause-free c = sym c.is_held.ensures ∙ c.loop-id-test.false
 
 pub returns-clause-fits : goal.returns-clause-fits
-returns-clause-fits c = fits-wide c.args.wide c.loop-id.id (subst (λ m. Fits m c.loop-id.id) c.loop-id.invariant.most c.loop-id.invariant.fits)
+returns-clause-fits c = fits-wide (wide_ids c.args.caps) c.loop-id.id (subst (λ m. Fits m c.loop-id.id) c.loop-id.invariant.most c.loop-id.invariant.fits)
