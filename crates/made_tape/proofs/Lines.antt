@@ -12,8 +12,8 @@ use Rattle.hex.specs.Hex.{decode_of, decode_sized, encode_lower, encode_with, he
 use Rattle.hex.specs.declared.error.FromHexError.{FromHexError}
 use Rattle.hex.proofs.HexLemmas.{IsDigits-lower_digits, decode_of-encode_lower, decode_sized-twice, length-encode_with}
 use Rattle.usb_base.specs.Number.{AreBytes}
-use Rattle.packet_show.specs.declared.tape.TapeLine.{TapeLine}
-use Rattle.packet_show.specs.declared.tape.TapeLine.TheVariants.{Client, ToHost, ToGate, Perform}
+use Rattle.packet_show.specs.declared.tape.ModelLine.{ModelLine}
+use Rattle.packet_show.specs.declared.tape.ModelLine.TheVariants.{Client, ToHost, ToGate, Perform}
 use Rattle.packet_show.specs.Number.{IsNumber, number_of}
 use Rattle.packet_show.specs.Tape.{address, some_bytes}
 use Rattle.packet_show.proofs.Numbers.{is_number_of}
@@ -22,7 +22,7 @@ use Rattle.made_tape.specs.Again.{IsReadAgain}
 use Rattle.made_tape.proofs.Bytes.{ArePiece}
 
 -- what is written is read again, and is short
-pub record IsLine (said : TapeLine) : Type 0 where
+pub record IsLine (said : ModelLine) : Type 0 where
   pub again : IsReadAgain said
   pub short : length (line_of said) ≤ 1123
 

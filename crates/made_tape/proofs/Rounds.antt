@@ -2,7 +2,7 @@
 use Rattle.std.proofs.Common.{◌≡◌, ℕ, zero, suc, ◌+◌, ◌-◌, ◌*◌, ◌/◌, ◌%◌, ◌<◌, ◌≤◌, Bool, true, false, cond, List, [], ◌∷◌, ◌++◌, length, map, nat_eq, refl, sym, ap, ◌∙◌, arith}
 use Rattle.std.proofs.lemmas.List.{length-append}
 use Rattle.std.proofs.lemmas.Grind.{flat_map-append}
-use Rattle.packet_show.specs.declared.tape.TapeLine.{TapeLine}
+use Rattle.packet_show.specs.declared.tape.ModelLine.{ModelLine}
 use Rattle.packet_show.specs.Number.{IsNumber}
 use Rattle.made_tape.specs.declared.made.TheConstants.{MOST_ROUNDS}
 use Rattle.made_tape.specs.declared.task.TheConstants.{ALL, MOST_MOVED}
@@ -39,18 +39,18 @@ task-line round x PerformIn = perform-line 0x81 (omega arith) refl
 -- ---- lines
 
 -- they are read again, and each has at most 1,123 bytes
-record AreLines (lines : List TapeLine) (count : ℕ) : Type 0 where
+record AreLines (lines : List ModelLine) (count : ℕ) : Type 0 where
   again : AreReadAgain lines
   short : length (tape_text lines) ≤ 1123 * count
 
 AreLines-nil : (count : ℕ) → AreLines [] count
 AreLines-nil count = record { again = tt; short = omega arith }
 
-AreReadAgain-append : (xs ys : List TapeLine) → AreReadAgain xs → AreReadAgain ys → AreReadAgain (xs ++ ys)
+AreReadAgain-append : (xs ys : List ModelLine) → AreReadAgain xs → AreReadAgain ys → AreReadAgain (xs ++ ys)
 AreReadAgain-append [] ys p q = q
 AreReadAgain-append (x ∷ xs) ys p q = (p.0, AreReadAgain-append xs ys p.1 q)
 
-AreLines-append : (xs ys : List TapeLine) (m n : ℕ) → AreLines xs m → AreLines ys n → AreLines (xs ++ ys) (m + n)
+AreLines-append : (xs ys : List ModelLine) (m n : ℕ) → AreLines xs m → AreLines ys n → AreLines (xs ++ ys) (m + n)
 AreLines-append xs ys m n p q = record {
   again = AreReadAgain-append xs ys p.again q.again;
   short = omega (arith, p.short, q.short, length-append (tape_text xs) (tape_text ys), ap length (flat_map-append line_of xs ys));
@@ -83,7 +83,7 @@ few-tasks : (x : ℕ) → length (tasks_of x) ≤ 8
 unfolding tasks_of
 few-tasks x = omega (arith, few-ordered (x / MOST_MOVED % 4))
 
-more-room : (lines : List TapeLine) (m n : ℕ) → m ≤ n → AreLines lines m → AreLines lines n
+more-room : (lines : List ModelLine) (m n : ℕ) → m ≤ n → AreLines lines m → AreLines lines n
 more-room lines m n le p = record { again = p.again; short = omega (arith, p.short) }
 
 rounds-lines : (more round x : ℕ) → AreLines (rounds more round x) (8 * more)

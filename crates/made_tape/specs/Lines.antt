@@ -1,33 +1,25 @@
 -- The lines of a model's tape, as they are written.
-use Rattle.std.specs.Prelude.{ℕ, Bool, true, false, List, [], ◌∷◌, ◌++◌, codes}
+use Rattle.std.specs.Prelude.{ℕ, List, [], ◌∷◌, ◌++◌, codes}
 use Rattle.std.specs.List.{flat_map}
 use Rattle.std.specs.Fmt.{decimal}
 use Rattle.hex.specs.Hex.{encode_lower}
-use Rattle.packet_show.specs.declared.tape.TapeLine.{TapeLine}
-use Rattle.packet_show.specs.declared.tape.TapeLine.TheVariants as line
+use Rattle.packet_show.specs.declared.tape.ModelLine.{ModelLine}
+use Rattle.packet_show.specs.declared.tape.ModelLine.TheVariants as line
 use Rattle.packet_show.specs.Line.{LF}
 
 -- a line without its LF: bytes are in lower-case hexadecimal, numbers in decimal
-abbrev pub words_of : TapeLine → List ℕ
+abbrev pub words_of : ModelLine → List ℕ
 words_of line.Skip = []
 words_of (line.Client bytes) = codes "c " ++ encode_lower bytes
 words_of line.ClientEnd = codes "c."
-words_of (line.Host bytes) = codes "h " ++ encode_lower bytes
-words_of line.HostEnd = codes "h."
 words_of (line.ToHost n) = codes "g " ++ decimal n
 words_of (line.ToGate n) = codes "h " ++ decimal n
 words_of (line.Perform ep) = codes "p " ++ encode_lower (ep ∷ [])
 words_of (line.Offer ep) = codes "o " ++ encode_lower (ep ∷ [])
 words_of line.Unplug = codes "x"
 
--- to say it takes memory, for the bytes of a piece
-abbrev pub takes_memory : TapeLine → Bool
-takes_memory (line.Client bytes) = true
-takes_memory (line.Host bytes) = true
-takes_memory said = false
-
-abbrev pub line_of : TapeLine → List ℕ
+abbrev pub line_of : ModelLine → List ℕ
 line_of said = words_of said ++ LF ∷ []
 
-abbrev pub tape_text : List TapeLine → List ℕ
+abbrev pub tape_text : List ModelLine → List ℕ
 tape_text lines = flat_map line_of lines

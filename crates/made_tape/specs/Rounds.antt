@@ -1,8 +1,8 @@
 -- The lines of the tape that a number stands for. Each round has a number, made of the one before it, which says how
 -- many bytes it moves, and in which of four orders.
 use Rattle.std.specs.Prelude.{ℕ, zero, suc, ◌+◌, ◌*◌, ◌/◌, ◌%◌, ◌^◌, ◌==◌, if◌then◌else◌, List, [], ◌∷◌, ◌++◌, map}
-use Rattle.packet_show.specs.declared.tape.TapeLine.{TapeLine}
-use Rattle.packet_show.specs.declared.tape.TapeLine.TheVariants.{Client, ToHost, ToGate, Perform}
+use Rattle.packet_show.specs.declared.tape.ModelLine.{ModelLine}
+use Rattle.packet_show.specs.declared.tape.ModelLine.TheVariants.{Client, ToHost, ToGate, Perform}
 use Rattle.made_tape.specs.declared.task.TheConstants.{ALL, MOST_MOVED}
 use Rattle.made_tape.specs.declared.task.Task.{Task}
 use Rattle.made_tape.specs.declared.task.Task.TheVariants.{Import, Configure, Send, Ask, TakeBack, OneToHost, AllToHost, OneToGate, AllToGate, PerformControl, PerformOut, PerformIn}
@@ -17,7 +17,7 @@ abbrev pub size_of : ℕ → ℕ
 size_of x = 1 + x % MOST_MOVED
 
 -- the line of a task in a round with this number
-abbrev pub said : (round x : ℕ) → Task → TapeLine
+abbrev pub said : (round x : ℕ) → Task → ModelLine
 said round x Import = Client import_bytes
 said round x Configure = Client configure_bytes
 said round x Send = Client (send_bytes round (size_of x))
@@ -48,10 +48,10 @@ unfoldable pub tasks_of : ℕ → List Task
 tasks_of x = Send ∷ Ask ∷ ordered (x / MOST_MOVED % 4)
 
 -- so many rounds more behind a round with this number
-abbrev pub rounds : (more round x : ℕ) → List TapeLine
+abbrev pub rounds : (more round x : ℕ) → List ModelLine
 rounds zero round x = []
 rounds (suc more) round x = map (said (round + 1) (next_number x)) (tasks_of (next_number x)) ++ rounds more (round + 1) (next_number x)
 
 -- the number of the rounds is also that from which their numbers are made
-abbrev pub made_lines : ℕ → List TapeLine
+abbrev pub made_lines : ℕ → List ModelLine
 made_lines count = map (said 0 count) opening ++ rounds count 0 count

@@ -7,31 +7,29 @@ ghost use Rattle.packet_show.specs.Line.{SPACE};
 ghost use Rattle.made_tape.specs.Lines.{line_of, words_of};
 
 use itoa::Buffer;
-use packet_show::TapeLine;
+use packet_show::ModelLine;
 use usb_base::{Bytes, Memory, push_hex};
 
 /// Appends what a line says, and LF. For want of memory a front of it may be there.
-pub fn push_line(line: &TapeLine, text: &mut Bytes) -> Result<(), Memory>
+pub fn push_line(line: &ModelLine, text: &mut Bytes) -> Result<(), Memory>
     ensures { OnOk result (text.new ≡ text.old ++ line_of line.now) }
 {
     push_words(line, text)?;
     text.push(b'\n')
 }
 
-fn push_words(line: &TapeLine, text: &mut Bytes) -> Result<(), Memory>
+fn push_words(line: &ModelLine, text: &mut Bytes) -> Result<(), Memory>
     ensures { OnOk result (text.new ≡ text.old ++ words_of line.now) }
 {
     match line {
-        TapeLine::Skip => Ok(()),
-        TapeLine::Client(piece) => push_bytes(b'c', piece.as_slice(), text),
-        TapeLine::ClientEnd => text.append(b"c."),
-        TapeLine::Host(piece) => push_bytes(b'h', piece.as_slice(), text),
-        TapeLine::HostEnd => text.append(b"h."),
-        TapeLine::ToHost(count) => push_number(b'g', *count, text),
-        TapeLine::ToGate(count) => push_number(b'h', *count, text),
-        TapeLine::Perform(ep) => push_bytes(b'p', &[ep.byte()], text),
-        TapeLine::Offer(ep) => push_bytes(b'o', &[ep.byte()], text),
-        TapeLine::Unplug => text.push(b'x'),
+        ModelLine::Skip => Ok(()),
+        ModelLine::Client(piece) => push_bytes(b'c', piece.as_slice(), text),
+        ModelLine::ClientEnd => text.append(b"c."),
+        ModelLine::ToHost(count) => push_number(b'g', *count, text),
+        ModelLine::ToGate(count) => push_number(b'h', *count, text),
+        ModelLine::Perform(ep) => push_bytes(b'p', &[ep.byte()], text),
+        ModelLine::Offer(ep) => push_bytes(b'o', &[ep.byte()], text),
+        ModelLine::Unplug => text.push(b'x'),
     }
 }
 

@@ -2,12 +2,13 @@
 
 ghost use Rattle.std.specs.Prelude.{◌≡◌, ◌∷◌, [], IfOk, OnErr, MatchOption, IsSomeAnd, true};
 ghost use Rattle.std.specs.List.{slice_get};
-ghost use Rattle.made_tape.specs.Lines.{tape_text, takes_memory};
+ghost use Rattle.packet_show.specs.Tape.{model_has_bytes};
+ghost use Rattle.made_tape.specs.Lines.{tape_text};
 ghost use Rattle.made_tape.specs.Rounds.{made_lines};
 
 use crate::line::push_line;
 use crate::progress::Progress;
-use packet_show::TapeLine;
+use packet_show::ModelLine;
 use std::alloc::Global;
 use std::marker::Model;
 use usb_base::{Bytes, Memory};
@@ -23,10 +24,10 @@ pub struct MadeTape {
 
 impl Model for MadeTape {
     ghost use Rattle.std.specs.Prelude.{List};
-    ghost use Rattle.packet_show.specs.declared.tape.TapeLine.{TapeLine as ALine};
+    ghost use Rattle.packet_show.specs.declared.tape.ModelLine.{ModelLine as Line};
     ghost use Rattle.made_tape.specs.inner.Left.{lines_left};
 
-    ghost Value = { List ALine };
+    ghost Value = { List Line };
 
     ghost view = { λ tape. lines_left tape.progress };
 }
@@ -42,10 +43,10 @@ impl MadeTape {
     }
 
     /// The next line, or none behind the last one. For want of memory, which only a piece takes, none is passed over.
-    pub fn next_line(&mut self, alloc: Global) -> Result<Option<TapeLine>, Memory>
+    pub fn next_line(&mut self, alloc: Global) -> Result<Option<ModelLine>, Memory>
         ensures line { IfOk result (λ line. MatchOption line (self.old ≡ []) (λ said. self.old ≡ said ∷ self.new)) }
         ensures same { OnErr result (self.new ≡ self.old) }
-        ensures wants { OnErr result (IsSomeAnd (slice_get self.old 0) (λ said. takes_memory said ≡ true)) }
+        ensures wants { OnErr result (IsSomeAnd (slice_get self.old 0) (λ said. model_has_bytes said ≡ true)) }
     {
         self.progress.next_line(alloc)
     }

@@ -2,12 +2,12 @@
 
 ghost use Rattle.std.specs.Prelude.{◌≡◌, ◌∷◌, [], IfOk, OnErr, MatchOption, IsSomeAnd, true};
 ghost use Rattle.std.specs.List.{slice_get};
-ghost use Rattle.made_tape.specs.Lines.{takes_memory};
+ghost use Rattle.packet_show.specs.Tape.{model_has_bytes};
 ghost use Rattle.made_tape.specs.Rounds.{made_lines};
 ghost use Rattle.made_tape.specs.inner.Left.{lines_left};
 
 use crate::task::{Task, next_number, opening, said, tasks};
-use packet_show::TapeLine;
+use packet_show::ModelLine;
 use std::alloc::Global;
 use usb_base::Memory;
 
@@ -38,10 +38,10 @@ impl Progress {
     }
 
     /// The next line, or none behind the last one. For want of memory, which only a piece takes, none is passed over.
-    pub fn next_line(&mut self, alloc: Global) -> Result<Option<TapeLine>, Memory>
+    pub fn next_line(&mut self, alloc: Global) -> Result<Option<ModelLine>, Memory>
         ensures line { IfOk result (λ line. MatchOption line (lines_left self.old ≡ []) (λ said. lines_left self.old ≡ said ∷ lines_left self.new)) }
         ensures same { OnErr result (lines_left self.new ≡ lines_left self.old) }
-        ensures wants { OnErr result (IsSomeAnd (slice_get (lines_left self.old) 0) (λ said. takes_memory said ≡ true)) }
+        ensures wants { OnErr result (IsSomeAnd (slice_get (lines_left self.old) 0) (λ said. model_has_bytes said ≡ true)) }
     {
         self.go_on();
         let [task, rest @ ..] = self.tasks else {

@@ -2,11 +2,11 @@
 
 ghost use Rattle.std.specs.Prelude.{◌≡◌, true, IfOk, OnErr};
 ghost use Rattle.usb_base.specs.Endpoint.{IsEndpoint};
-ghost use Rattle.made_tape.specs.Lines.{takes_memory};
+ghost use Rattle.packet_show.specs.Tape.{model_has_bytes};
 ghost use Rattle.made_tape.specs.Rounds.{said, opening, tasks_of, next_number, size_of};
 
 use crate::packet::{ask, configure, import, send, take_back};
-use packet_show::TapeLine;
+use packet_show::ModelLine;
 use std::alloc::Global;
 use usb_base::{EpAddr, Memory};
 
@@ -127,22 +127,22 @@ fn endpoint(byte: u8) -> EpAddr
 }
 
 /// The line of a task in a round.
-pub fn said(alloc: Global, round: u16, number: u32, task: Task) -> Result<TapeLine, Memory>
+pub fn said(alloc: Global, round: u16, number: u32, task: Task) -> Result<ModelLine, Memory>
     ensures line { IfOk result (λ line. line ≡ said round number task) }
-    ensures wants { OnErr result (takes_memory (said round number task) ≡ true) }
+    ensures wants { OnErr result (model_has_bytes (said round number task) ≡ true) }
 {
     Ok(match task {
-        Task::Import => TapeLine::Client(import(alloc)?),
-        Task::Configure => TapeLine::Client(configure(alloc)?),
-        Task::Send => TapeLine::Client(send(alloc, round, size_of(number))?),
-        Task::Ask => TapeLine::Client(ask(alloc, round, size_of(number))?),
-        Task::TakeBack => TapeLine::Client(take_back(alloc, round)?),
-        Task::OneToHost => TapeLine::ToHost(1),
-        Task::AllToHost => TapeLine::ToHost(ALL),
-        Task::OneToGate => TapeLine::ToGate(1),
-        Task::AllToGate => TapeLine::ToGate(ALL),
-        Task::PerformControl => TapeLine::Perform(endpoint(0x00)),
-        Task::PerformOut => TapeLine::Perform(endpoint(0x01)),
-        Task::PerformIn => TapeLine::Perform(endpoint(0x81)),
+        Task::Import => ModelLine::Client(import(alloc)?),
+        Task::Configure => ModelLine::Client(configure(alloc)?),
+        Task::Send => ModelLine::Client(send(alloc, round, size_of(number))?),
+        Task::Ask => ModelLine::Client(ask(alloc, round, size_of(number))?),
+        Task::TakeBack => ModelLine::Client(take_back(alloc, round)?),
+        Task::OneToHost => ModelLine::ToHost(1),
+        Task::AllToHost => ModelLine::ToHost(ALL),
+        Task::OneToGate => ModelLine::ToGate(1),
+        Task::AllToGate => ModelLine::ToGate(ALL),
+        Task::PerformControl => ModelLine::Perform(endpoint(0x00)),
+        Task::PerformOut => ModelLine::Perform(endpoint(0x01)),
+        Task::PerformIn => ModelLine::Perform(endpoint(0x81)),
     })
 }

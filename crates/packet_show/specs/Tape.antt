@@ -6,12 +6,12 @@ use Rattle.std.specs.Prelude.{ℕ, ◌%◌, ◌==◌, nat_lt, Bool, true, false,
 use Rattle.hex.specs.Hex.{decode_of, decode_sized}
 use Rattle.usb_base.specs.declared.memory.Memory.{Memory}
 use Rattle.hex.specs.declared.error.FromHexError.{FromHexError}
-use Rattle.packet_show.specs.declared.tape.TapeKind.{TapeKind}
-use Rattle.packet_show.specs.declared.tape.TapeKind.TheVariants.{Replay, Model}
-use Rattle.packet_show.specs.declared.tape.TapeLine.{TapeLine}
+use Rattle.packet_show.specs.declared.tape.ReplayLine.{ReplayLine}
+use Rattle.packet_show.specs.declared.tape.ReplayLine.TheVariants as replay
+use Rattle.packet_show.specs.declared.tape.ModelLine.{ModelLine}
+use Rattle.packet_show.specs.declared.tape.ModelLine.TheVariants as model
 use Rattle.packet_show.specs.declared.tape.LineError.{LineError}
 use Rattle.packet_show.specs.declared.tape.LineError.TheVariants as error
-use Rattle.packet_show.specs.declared.tape.TapeLine.TheVariants.{Skip, Client, ClientEnd, Host, HostEnd, ToHost, ToGate, Perform, Offer, Unplug}
 use Rattle.packet_show.specs.Line.{SPACE, letter}
 use Rattle.packet_show.specs.Number.{number_of}
 
@@ -34,55 +34,62 @@ abbrev pub endpoint_of : List ℕ → Option ℕ
 endpoint_of digits = address (decode_sized digits 1)
 
 -- nothing
-abbrev pub alone : TapeLine → List ℕ → Option TapeLine
+abbrev pub alone : {L : Type 0} → L → List ℕ → Option L
 alone line [] = Some line
 alone line (b ∷ bs) = None
 
 -- a space and an argument
-abbrev pub with_argument : (List ℕ → Option TapeLine) → List ℕ → Option TapeLine
+abbrev pub with_argument : {L : Type 0} → (List ℕ → Option L) → List ℕ → Option L
 with_argument line [] = None
 with_argument line (b ∷ bs) = if b == SPACE then line bs else None
 
 -- a space and a piece of a stream, or a `.` and nothing
-abbrev pub of_stream : (List ℕ → TapeLine) → TapeLine → List ℕ → Option TapeLine
+abbrev pub of_stream : {L : Type 0} → (List ℕ → L) → L → List ℕ → Option L
 of_stream piece end [] = None
 of_stream piece end (b ∷ bs) = if b == SPACE then option_map piece (bytes_of bs) else if b == letter (codes ".") then alone end bs else None
 
--- ---- the lines that only one kind of tape has
-
-abbrev pub replay_line : List ℕ → Option TapeLine
-replay_line [] = None
-replay_line (b ∷ bs) = if b == letter (codes "h") then of_stream Host HostEnd bs else None
-
-abbrev pub model_line : List ℕ → Option TapeLine
-model_line [] = None
-model_line (b ∷ bs) =
-    if b == letter (codes "g") then with_argument (λ text. option_map ToHost (number_of text)) bs
-    else if b == letter (codes "h") then with_argument (λ text. option_map ToGate (number_of text)) bs
-    else if b == letter (codes "p") then with_argument (λ digits. option_map Perform (endpoint_of digits)) bs
-    else if b == letter (codes "o") then with_argument (λ digits. option_map Offer (endpoint_of digits)) bs
-    else if b == letter (codes "x") then alone Unplug bs
-    else None
-
-abbrev pub kind_line : TapeKind → List ℕ → Option TapeLine
-kind_line Replay line = replay_line line
-kind_line Model line = model_line line
-
 -- ---- what a line says, or none where it isn't a line of such a tape
 
-abbrev pub tape_line : TapeKind → List ℕ → Option TapeLine
-tape_line kind [] = Some Skip
-tape_line kind (b ∷ bs) = if b == letter (codes "#") then Some Skip else if b == letter (codes "c") then of_stream Client ClientEnd bs else kind_line kind (b ∷ bs)
+abbrev pub replay_line : List ℕ → Option ReplayLine
+replay_line [] = Some replay.Skip
+replay_line (b ∷ bs) =
+    if b == letter (codes "#") then Some replay.Skip
+    else if b == letter (codes "c") then of_stream replay.Client replay.ClientEnd bs
+    else if b == letter (codes "h") then of_stream replay.Host replay.HostEnd bs
+    else None
 
--- the line brings bytes, for which memory is needed
-abbrev pub has_bytes : TapeLine → Bool
-has_bytes (Client bytes) = true
-has_bytes (Host bytes) = true
-has_bytes _ = false
+-- a step of the wires or of the device
+abbrev pub step_line : List ℕ → Option ModelLine
+step_line [] = None
+step_line (b ∷ bs) =
+    if b == letter (codes "g") then with_argument (λ text. option_map model.ToHost (number_of text)) bs
+    else if b == letter (codes "h") then with_argument (λ text. option_map model.ToGate (number_of text)) bs
+    else if b == letter (codes "p") then with_argument (λ digits. option_map model.Perform (endpoint_of digits)) bs
+    else if b == letter (codes "o") then with_argument (λ digits. option_map model.Offer (endpoint_of digits)) bs
+    else if b == letter (codes "x") then alone model.Unplug bs
+    else None
 
-abbrev pub takes_memory : Option TapeLine → Bool
-takes_memory None = false
-takes_memory (Some line) = has_bytes line
+abbrev pub model_line : List ℕ → Option ModelLine
+model_line [] = Some model.Skip
+model_line (b ∷ bs) =
+    if b == letter (codes "#") then Some model.Skip else if b == letter (codes "c") then of_stream model.Client model.ClientEnd bs else step_line (b ∷ bs)
+
+-- ---- which lines bring bytes, for which memory is needed
+
+abbrev pub replay_has_bytes : ReplayLine → Bool
+replay_has_bytes (replay.Client bytes) = true
+replay_has_bytes (replay.Host bytes) = true
+replay_has_bytes _ = false
+
+abbrev pub model_has_bytes : ModelLine → Bool
+model_has_bytes (model.Client bytes) = true
+model_has_bytes _ = false
+
+abbrev pub takes_memory : {L : Type 0} → (L → Bool) → Option L → Bool
+takes_memory has_bytes None = false
+takes_memory has_bytes (Some line) = has_bytes line
+
+-- ---- errors
 
 -- want of memory is one value, whichever call has told it
 abbrev pub want : Memory

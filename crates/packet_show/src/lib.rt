@@ -11,5 +11,5 @@ mod urb;
 pub use client::show_client;
 pub use number::read_number;
 pub use redir::show_redir;
-pub use tape::{LineError, TAPE_LIMIT, TapeKind, TapeLine, read_line};
+pub use tape::{LineError, ModelLine, ReplayLine, TAPE_LIMIT};
 pub use urb::show_urb;

@@ -1,7 +1,7 @@
 //! The lines of a tape.
 
 ghost use Rattle.std.specs.Prelude.{◌≡◌, Some, None, true, is_some, IfOk};
-ghost use Rattle.packet_show.specs.Tape.{tape_line, bytes_of, endpoint_of, takes_memory, replay_line, model_line, want, error_text};
+ghost use Rattle.packet_show.specs.Tape.{bytes_of, endpoint_of, replay_line, step_line, model_line, replay_has_bytes, model_has_bytes, takes_memory, want, error_text};
 
 use crate::number::read_number;
 use hex::{FromHex, FromHexError};
@@ -13,29 +13,33 @@ use usb_base::{Bytes, EpAddr, Memory};
 /// How many bytes a tape may have, the LFs of its lines counted.
 pub const TAPE_LIMIT: u64 = 67_108_864;
 
-/// Which lines a tape has.
-#[derive(Clone, Copy)]
-pub enum TapeKind {
-    /// The bytes of both sides, as they come to the gateway.
-    Replay,
-    /// The client's bytes, and the steps of the two wires and of a modelled device.
-    Model,
-}
-
-/// What a line says. The bytes of a piece are one at least.
+/// What a line of a tape to replay says, which has the bytes of both sides, as they come to the gateway. The bytes of a
+/// piece are one at least.
 #[derive(Drop)]
-pub enum TapeLine {
+pub enum ReplayLine {
     /// Nothing: it is empty, or begins with `#`.
     Skip,
     /// `c HEX`: the next bytes of the client's stream.
     Client(Bytes),
     /// `c.`
     ClientEnd,
-    /// `h HEX`, in a replay tape alone: the next bytes of the host's stream.
+    /// `h HEX`: the next bytes of the host's stream.
     Host(Bytes),
-    /// `h.`, in a replay tape alone.
+    /// `h.`
     HostEnd,
-    /// `g N`, in a model tape alone, as all that follow: so many bytes go to the host, or all there are.
+}
+
+/// What a line of a model's tape says, which has the client's bytes, and the steps of the two wires and of a modelled
+/// device. The bytes of a piece are one at least.
+#[derive(Drop)]
+pub enum ModelLine {
+    /// Nothing: it is empty, or begins with `#`.
+    Skip,
+    /// `c HEX`: the next bytes of the client's stream.
+    Client(Bytes),
+    /// `c.`
+    ClientEnd,
+    /// `g N`: so many bytes go to the host, or all there are.
     ToHost(u32),
     /// `h N`: so many bytes go to the gateway, or all there are.
     ToGate(u32),
@@ -79,51 +83,52 @@ impl From<Memory> for LineError {
     }
 }
 
-/// Reads a line, which is given without its LF. It wants memory for the bytes of a piece alone.
-pub fn read_line(alloc: Global, kind: TapeKind, line: &[u8]) -> Result<TapeLine, LineError>
-    ensures ok { IfOk result (λ said. tape_line kind line.now ≡ Some said) }
-    ensures bad { result ≡ Err LineError.Bad → tape_line kind line.now ≡ None }
-    ensures memory { result ≡ Err (LineError.Memory want) → takes_memory (tape_line kind line.now) ≡ true }
-{
-    match line {
-        [] | [b'#', ..] => Ok(TapeLine::Skip),
-        [b'c', b'.'] => Ok(TapeLine::ClientEnd),
-        [b'c', b' ', digits @ ..] => Ok(TapeLine::Client(read_bytes(alloc, digits)?)),
-        _ => match kind {
-            TapeKind::Replay => read_host(alloc, line),
-            TapeKind::Model => read_step(line),
-        },
+impl ReplayLine {
+    /// Reads a line, which is given without its LF. It wants memory for the bytes of a piece alone.
+    pub fn read(alloc: Global, line: &[u8]) -> Result<ReplayLine, LineError>
+        ensures ok { IfOk result (λ said. replay_line line.now ≡ Some said) }
+        ensures bad { result ≡ Err LineError.Bad → replay_line line.now ≡ None }
+        ensures memory { result ≡ Err (LineError.Memory want) → takes_memory replay_has_bytes (replay_line line.now) ≡ true }
+    {
+        match line {
+            [] | [b'#', ..] => Ok(ReplayLine::Skip),
+            [b'c', b'.'] => Ok(ReplayLine::ClientEnd),
+            [b'c', b' ', digits @ ..] => Ok(ReplayLine::Client(read_bytes(alloc, digits)?)),
+            [b'h', b'.'] => Ok(ReplayLine::HostEnd),
+            [b'h', b' ', digits @ ..] => Ok(ReplayLine::Host(read_bytes(alloc, digits)?)),
+            _ => Err(LineError::Bad),
+        }
     }
 }
 
-/// Reads a line of the host's stream.
-fn read_host(alloc: Global, line: &[u8]) -> Result<TapeLine, LineError>
-    ensures ok { IfOk result (λ said. replay_line line.now ≡ Some said) }
-    ensures bad { result ≡ Err LineError.Bad → replay_line line.now ≡ None }
-    ensures memory { result ≡ Err (LineError.Memory want) → takes_memory (replay_line line.now) ≡ true }
-{
-    match line {
-        [b'h', b'.'] => Ok(TapeLine::HostEnd),
-        [b'h', b' ', digits @ ..] => Ok(TapeLine::Host(read_bytes(alloc, digits)?)),
-        _ => Err(LineError::Bad),
+impl ModelLine {
+    /// Reads a line, which is given without its LF. It wants memory for the bytes of a piece alone.
+    pub fn read(alloc: Global, line: &[u8]) -> Result<ModelLine, LineError>
+        ensures ok { IfOk result (λ said. model_line line.now ≡ Some said) }
+        ensures bad { result ≡ Err LineError.Bad → model_line line.now ≡ None }
+        ensures memory { result ≡ Err (LineError.Memory want) → takes_memory model_has_bytes (model_line line.now) ≡ true }
+    {
+        match line {
+            [] | [b'#', ..] => Ok(ModelLine::Skip),
+            [b'c', b'.'] => Ok(ModelLine::ClientEnd),
+            [b'c', b' ', digits @ ..] => Ok(ModelLine::Client(read_bytes(alloc, digits)?)),
+            _ => read_step(line).ok_or(LineError::Bad),
+        }
     }
 }
 
 /// Reads a step of the wires or of a modelled device.
-fn read_step(line: &[u8]) -> Result<TapeLine, LineError>
-    ensures ok { IfOk result (λ said. model_line line.now ≡ Some said) }
-    ensures bad { result ≡ Err LineError.Bad → model_line line.now ≡ None }
-    ensures memory { result ≡ Err (LineError.Memory want) → takes_memory (model_line line.now) ≡ true }
+fn read_step(line: &[u8]) -> Option<ModelLine>
+    ensures { result ≡ step_line line.now }
 {
-    let step = match line {
-        [b'g', b' ', number @ ..] => read_number(number).map(TapeLine::ToHost),
-        [b'h', b' ', number @ ..] => read_number(number).map(TapeLine::ToGate),
-        [b'p', b' ', digits @ ..] => read_endpoint(digits).map(TapeLine::Perform),
-        [b'o', b' ', digits @ ..] => read_endpoint(digits).map(TapeLine::Offer),
-        [b'x'] => Some(TapeLine::Unplug),
+    match line {
+        [b'g', b' ', number @ ..] => read_number(number).map(ModelLine::ToHost),
+        [b'h', b' ', number @ ..] => read_number(number).map(ModelLine::ToGate),
+        [b'p', b' ', digits @ ..] => read_endpoint(digits).map(ModelLine::Perform),
+        [b'o', b' ', digits @ ..] => read_endpoint(digits).map(ModelLine::Offer),
+        [b'x'] => Some(ModelLine::Unplug),
         _ => None,
-    };
-    step.ok_or(LineError::Bad)
+    }
 }
 
 /// Reads the hexadecimal digits of bytes.

@@ -1,37 +1,51 @@
 //! Lines of tapes, and the numbers in them.
 
 use crate::output::Output;
-use packet_show::{LineError, TapeKind, TapeLine, read_line, read_number};
+use packet_show::{LineError, ModelLine, ReplayLine, read_number};
 
 /// Appends what a line says in a tape to replay, and what it says in one of a model's steps.
 pub fn push_tape_line(line: &[u8], out: &mut Output) {
-    push_line_of("replay: ", TapeKind::Replay, line, out);
-    push_line_of("model: ", TapeKind::Model, line, out);
-}
-
-fn push_line_of(name: &str, kind: TapeKind, line: &[u8], out: &mut Output) {
-    out.text(name);
-    match read_line(out.alloc, kind, line) {
-        Ok(line) => push_said(&line, out),
-        Err(LineError::Bad) => out.text("bad"),
-        Err(LineError::Memory(_)) => out.text("out of memory"),
+    out.text("replay: ");
+    match ReplayLine::read(out.alloc, line) {
+        Ok(line) => push_replay_line(&line, out),
+        Err(error) => push_error(error, out),
+    }
+    out.text("\nmodel: ");
+    match ModelLine::read(out.alloc, line) {
+        Ok(line) => push_model_line(&line, out),
+        Err(error) => push_error(error, out),
     }
     out.text("\n");
 }
 
-fn push_said(line: &TapeLine, out: &mut Output) {
+fn push_replay_line(line: &ReplayLine, out: &mut Output) {
     match line {
-        TapeLine::Skip => out.text("nothing"),
-        TapeLine::Client(bytes) => push_piece("client ", bytes.as_slice(), out),
-        TapeLine::ClientEnd => out.text("the client's end"),
-        TapeLine::Host(bytes) => push_piece("host ", bytes.as_slice(), out),
-        TapeLine::HostEnd => out.text("the host's end"),
-        TapeLine::ToHost(count) => out.number("to the host ", u64::from(*count), ""),
-        TapeLine::ToGate(count) => out.number("to the gate ", u64::from(*count), ""),
-        TapeLine::Perform(ep) => push_piece("perform ", &[ep.byte()], out),
-        TapeLine::Offer(ep) => push_piece("offer ", &[ep.byte()], out),
-        TapeLine::Unplug => out.text("unplug"),
+        ReplayLine::Skip => out.text("nothing"),
+        ReplayLine::Client(bytes) => push_piece("client ", bytes.as_slice(), out),
+        ReplayLine::ClientEnd => out.text("the client's end"),
+        ReplayLine::Host(bytes) => push_piece("host ", bytes.as_slice(), out),
+        ReplayLine::HostEnd => out.text("the host's end"),
     }
+}
+
+fn push_model_line(line: &ModelLine, out: &mut Output) {
+    match line {
+        ModelLine::Skip => out.text("nothing"),
+        ModelLine::Client(bytes) => push_piece("client ", bytes.as_slice(), out),
+        ModelLine::ClientEnd => out.text("the client's end"),
+        ModelLine::ToHost(count) => out.number("to the host ", u64::from(*count), ""),
+        ModelLine::ToGate(count) => out.number("to the gate ", u64::from(*count), ""),
+        ModelLine::Perform(ep) => push_piece("perform ", &[ep.byte()], out),
+        ModelLine::Offer(ep) => push_piece("offer ", &[ep.byte()], out),
+        ModelLine::Unplug => out.text("unplug"),
+    }
+}
+
+fn push_error(error: LineError, out: &mut Output) {
+    out.text(match error {
+        LineError::Bad => "bad",
+        LineError::Memory(_) => "out of memory",
+    });
 }
 
 fn push_piece(name: &str, piece: &[u8], out: &mut Output) {

@@ -14,10 +14,9 @@ use Rattle.gate_history.specs.declared.note.Note.{Note}
 use Rattle.gate_history.specs.step.Events.{Event as GateEvent}
 use Rattle.gate_history.specs.step.Events as gate
 use Rattle.session_tape.specs.Lines.{refusal_comment}
-use Rattle.packet_show.specs.declared.tape.TapeLine.{TapeLine}
-use Rattle.packet_show.specs.declared.tape.TapeLine.TheVariants as tape
-use Rattle.packet_show.specs.declared.tape.TapeKind.TheVariants.{Replay}
-use Rattle.packet_show.specs.Tape.{tape_line, bytes_of, some_bytes}
+use Rattle.packet_show.specs.declared.tape.ReplayLine.{ReplayLine}
+use Rattle.packet_show.specs.declared.tape.ReplayLine.TheVariants as tape
+use Rattle.packet_show.specs.Tape.{replay_line, bytes_of, some_bytes}
 use Rattle.bridge_run.specs.events.Events.{LinkEvent, ClientComes, ClientQuiet, SidePiece, SideEnd}
 use Rattle.bridge_run.specs.written.Recorded.{lines_of}
 use Rattle.bridge_run.specs.events.Prescribed.{gained}
@@ -66,16 +65,16 @@ some-bytes (b ∷ bs) some = refl
 digits-back : (bytes : List ℕ) → IsPiece bytes → bytes_of (encode_lower bytes) ≡ Some bytes
 digits-back bytes piece = ap (λ (r : Result (List ℕ) FromHexError). some_bytes r) (decode_of-encode_lower bytes piece.bytes-are) ∙ some-bytes bytes piece.some
 
-client-line : (bytes : List ℕ) → IsPiece bytes → tape_line Replay (99 ∷ 32 ∷ encode_lower bytes) ≡ Some (tape.Client bytes)
+client-line : (bytes : List ℕ) → IsPiece bytes → replay_line (99 ∷ 32 ∷ encode_lower bytes) ≡ Some (tape.Client bytes)
 client-line bytes piece = ap (λ (o : Option (List ℕ)). option_map tape.Client o) (digits-back bytes piece)
 
-host-line : (bytes : List ℕ) → IsPiece bytes → tape_line Replay (104 ∷ 32 ∷ encode_lower bytes) ≡ Some (tape.Host bytes)
+host-line : (bytes : List ℕ) → IsPiece bytes → replay_line (104 ∷ 32 ∷ encode_lower bytes) ≡ Some (tape.Host bytes)
 host-line bytes piece = ap (λ (o : Option (List ℕ)). option_map tape.Host o) (digits-back bytes piece)
 
 -- a line tells an event that may happen
-tells : (command : EventCommand) (events : List GateEvent) (text : List ℕ) (said : TapeLine) → tape_line Replay text ≡ Some said → (x : Option (List ℕ × List GateEvent)) → on_event command events (event_said said) ≡ x
+tells : (command : EventCommand) (events : List GateEvent) (text : List ℕ) (said : ReplayLine) → replay_line text ≡ Some said → (x : Option (List ℕ × List GateEvent)) → on_event command events (event_said said) ≡ x
     → (over_events command).line events text ≡ x
-tells command events text said is x gives = ap (option_and_then (λ (line : TapeLine). on_event command events (event_said line))) is ∙ gives
+tells command events text said is x gives = ap (option_and_then (λ (line : ReplayLine). on_event command events (event_said line))) is ∙ gives
 
 abbrev told : EventCommand → List GateEvent → GateEvent → Option (List ℕ × List GateEvent)
 told command events e = Some (command.text events e, e ∷ events)

@@ -7,10 +7,9 @@ use Rattle.gate_history.specs.step.Events.{Event as GateEvent}
 use Rattle.session_tape.specs.Lines.{first_comment}
 use Rattle.bridge_run.specs.events.Events.{LinkEvent}
 use Rattle.bridge_run.specs.served.Gate.{gate_events}
-use Rattle.packet_show.specs.declared.tape.TapeKind.TheVariants.{Replay}
-use Rattle.packet_show.specs.declared.tape.TapeLine.{TapeLine}
-use Rattle.packet_show.specs.declared.tape.TapeLine.TheVariants.{Skip}
-use Rattle.packet_show.specs.Tape.{tape_line}
+use Rattle.packet_show.specs.declared.tape.ReplayLine.{ReplayLine}
+use Rattle.packet_show.specs.declared.tape.ReplayLine.TheVariants.{Skip}
+use Rattle.packet_show.specs.Tape.{replay_line}
 use Rattle.usbgate_tapes.specs.tape.Tape.{before_first, event_said, lines_of, content}
 use Rattle.usbgate_tapes.specs.Text.{opening_text}
 use Rattle.packet_show.specs.declared.tape.TheConstants.{TAPE_LIMIT as tape_limit}
@@ -113,15 +112,15 @@ one-line (p ∷ ps) (h ∷ hs) lost whole is =
     go (inr one) = ap (before_first h) one
 
 -- what begins with `#` says nothing, with an LF and without
-front-skips : (n : ℕ) (bs : List ℕ) → tape_line Replay (take n (35 ∷ bs)) ≡ Some Skip
+front-skips : (n : ℕ) (bs : List ℕ) → replay_line (take n (35 ∷ bs)) ≡ Some Skip
 front-skips zero bs = refl
 front-skips (suc n) bs = refl
 
-comment-skips : (bs : List ℕ) → tape_line Replay (content (35 ∷ bs)) ≡ Some Skip
+comment-skips : (bs : List ℕ) → replay_line (content (35 ∷ bs)) ≡ Some Skip
 comment-skips bs =
     let line = 35 ∷ bs in
     let last = length line - 1 in
-    cond_both (nat_lt 0 (length line) && (slice_index line last == 10)) (take last line) line (λ (l : List ℕ). tape_line Replay l ≡ Some Skip) (λ ends. front-skips last bs) (λ goes_on. refl)
+    cond_both (nat_lt 0 (length line) && (slice_index line last == 10)) (take last line) line (λ (l : List ℕ). replay_line l ≡ Some Skip) (λ ends. front-skips last bs) (λ goes_on. refl)
 
 -- it is read as no event, and has no text
 pub record IsSilent (asked : ServeSettings) (held : List ℕ) : Type 0 where
@@ -138,7 +137,7 @@ comment-read asked bs one room =
     let within : nat_lt tape_limit (0 + length line) ≡ false = le-ltb tape_limit (0 + length line) (omega (arith, room)) in
     let next : next_line command from line ≡ Some (one_further from line none) =
     ap (λ (t : Bool). cond t None (option_map (one_further from line) (command.line [] (content line)))) within
-    ∙ ap (λ (o : Option TapeLine). option_map (one_further from line) (option_and_then (λ (said : TapeLine). on_event (replay asked.first_id) [] (event_said said)) o)) (comment-skips bs) in
+    ∙ ap (λ (o : Option ReplayLine). option_map (one_further from line) (option_and_then (λ (said : ReplayLine). on_event (replay asked.first_id) [] (event_said said)) o)) (comment-skips bs) in
     record {
       to = (one_further from line none).1;
       read-is = ap (λ (l : List (List ℕ)). read_lines command from l) one ∙ ap (λ (o : Option (List ℕ × Progress (List GateEvent))). on_line from (λ (q : Progress (List GateEvent)). read_lines command q []) o) next;

@@ -17,7 +17,7 @@ use crate::tape::command::TapeCommand;
 use crate::text::{push_counts, push_told};
 use direct_run::{Step, System, Told};
 use model_device::Gadget;
-use packet_show::{LineError, TapeKind, TapeLine, read_line};
+use packet_show::{LineError, ModelLine};
 use std::alloc::Global;
 use usb_base::{Bytes, Memory};
 
@@ -65,20 +65,20 @@ fn push_first(alloc: Global, told: Told, text: &mut Bytes) -> Result<(), Memory>
 }
 
 /// Does the step that a line says, if there is one.
-pub fn do_line<G: Gadget>(system: &mut System<G>, line: &TapeLine) -> Result<Option<Told>, Memory>
+pub fn do_line<G: Gadget>(system: &mut System<G>, line: &ModelLine) -> Result<Option<Told>, Memory>
     ensures takes { IfOk result (λ told. (first : G) (past : List PastStep) → SystemStands G.meaning first system.old past → TakesSaid G.meaning first system.new past (step_said line.now) told) }
     ensures told { IfOk result (λ told. IsSome told → IsSome (step_said line.now)) }
     ensures err { OnErr result (IsSome (step_said line.now)) }
 {
     let step = match line {
-        TapeLine::Client(piece) => Step::Client(piece.as_slice()),
-        TapeLine::ClientEnd => Step::ClientEnd,
-        TapeLine::ToHost(count) => Step::ToHost(*count),
-        TapeLine::ToGate(count) => Step::ToGate(*count),
-        TapeLine::Perform(ep) => Step::Perform(*ep),
-        TapeLine::Offer(ep) => Step::Offer(*ep),
-        TapeLine::Unplug => Step::Unplug,
-        TapeLine::Skip | TapeLine::Host(_) | TapeLine::HostEnd => return Ok(None),
+        ModelLine::Skip => return Ok(None),
+        ModelLine::Client(piece) => Step::Client(piece.as_slice()),
+        ModelLine::ClientEnd => Step::ClientEnd,
+        ModelLine::ToHost(count) => Step::ToHost(*count),
+        ModelLine::ToGate(count) => Step::ToGate(*count),
+        ModelLine::Perform(ep) => Step::Perform(*ep),
+        ModelLine::Offer(ep) => Step::Offer(*ep),
+        ModelLine::Unplug => Step::Unplug,
     };
     Ok(Some(system.step(step)?))
 }
@@ -93,7 +93,7 @@ impl<G: Gadget> TapeCommand for ModelRun<G> {
     ghost Keeps = { HasDone G.meaning };
 
     fn take_line(&mut self, alloc: Global, line: &[u8], text: &mut Bytes) -> Result<(), LineError> {
-        let said = read_line(alloc, TapeKind::Model, line)?;
+        let said = ModelLine::read(alloc, line)?;
         let Some(told) = do_line(&mut self.system, &said)? else {
             return Ok(());
         };

@@ -1,10 +1,9 @@
 -- The command `model`: the steps that a tape says are done with a gateway and a modelled device, which begins as it was
 -- plugged in.
 use Rattle.std.specs.Prelude.{ℕ, List, [], ◌∷◌, Option, Some, None, is_some, option_map, option_and_then}
-use Rattle.packet_show.specs.declared.tape.TapeKind.TheVariants.{Model}
-use Rattle.packet_show.specs.declared.tape.TapeLine.{TapeLine}
-use Rattle.packet_show.specs.declared.tape.TapeLine.TheVariants as line
-use Rattle.packet_show.specs.Tape.{tape_line}
+use Rattle.packet_show.specs.declared.tape.ModelLine.{ModelLine}
+use Rattle.packet_show.specs.declared.tape.ModelLine.TheVariants as line
+use Rattle.packet_show.specs.Tape.{model_line}
 use Rattle.gate_history.specs.write.All.{counts_of}
 use Rattle.gate_history.specs.step.History.{history}
 use Rattle.model_device.specs.Meaning.{Meaning}
@@ -17,8 +16,9 @@ use Rattle.usbgate_tapes.specs.model.Device.{as_plugged}
 use Rattle.usbgate_tapes.specs.tape.TapeCommand.{TapeCommand}
 use Rattle.usbgate_tapes.specs.Text.{told_text, counts_line}
 
--- the step that a line says, or none; such a tape has no lines of a host's own bytes
-abbrev pub step_said : TapeLine → Option Step
+-- the step that a line says, or none
+abbrev pub step_said : ModelLine → Option Step
+step_said line.Skip = None
 step_said (line.Client piece) = Some (Client piece)
 step_said line.ClientEnd = Some ClientEnd
 step_said (line.ToHost n) = Some (ToHost n)
@@ -26,7 +26,6 @@ step_said (line.ToGate n) = Some (ToGate n)
 step_said (line.Perform ep) = Some (Perform ep)
 step_said (line.Offer ep) = Some (Offer ep)
 step_said line.Unplug = Some Unplug
-step_said said = None
 
 -- a line that says nothing adds nothing
 abbrev pub on_step : {S : Type 0} → Meaning S → S → List Step → Option Step → List ℕ × List Step
@@ -38,8 +37,8 @@ abbrev pub model : {S : Type 0} → Meaning S → S → TapeCommand (List Step)
 model m s = record {
   opening = told_text (told_first m s);
   start = [];
-  line = λ steps content. option_map (λ said. on_step m s steps (step_said said)) (tape_line Model content);
-  says = λ content. is_some (option_and_then step_said (tape_line Model content));
+  line = λ steps content. option_map (λ said. on_step m s steps (step_said said)) (model_line content);
+  says = λ content. is_some (option_and_then step_said (model_line content));
   closing = λ steps. counts_line (counts_of first_id (history first_id (course m s steps).events));
   refused = λ steps. has_refusal (history first_id (course m s steps).events);
 }

@@ -1,7 +1,6 @@
 -- Commands over a replay tape, as data: they keep the events that its lines say, the latest first.
 use Rattle.std.specs.Prelude.{ℕ, Bool, if◌then◌else◌, List, [], ◌∷◌, Option, Some, None, is_some, option_and_then}
-use Rattle.packet_show.specs.declared.tape.TapeKind.TheVariants.{Replay}
-use Rattle.packet_show.specs.Tape.{tape_line}
+use Rattle.packet_show.specs.Tape.{replay_line}
 use Rattle.gate_history.specs.step.Events.{Event}
 use Rattle.usbgate_tapes.specs.tape.Tape.{event_said, may_happen}
 use Rattle.usbgate_tapes.specs.tape.TapeCommand.{TapeCommand}
@@ -25,8 +24,8 @@ abbrev pub over_events : EventCommand → TapeCommand (List Event)
 over_events command = record {
   opening = command.opening;
   start = [];
-  line = λ events content. option_and_then (λ line. on_event command events (event_said line)) (tape_line Replay content);
-  says = λ content. is_some (option_and_then event_said (tape_line Replay content));
+  line = λ events content. option_and_then (λ line. on_event command events (event_said line)) (replay_line content);
+  says = λ content. is_some (option_and_then event_said (replay_line content));
   closing = command.closing;
   refused = command.refused;
 }

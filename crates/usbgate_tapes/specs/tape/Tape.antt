@@ -2,8 +2,8 @@
 use Rattle.std.specs.Prelude.{ℕ, ◌==◌, Bool, true, false, not, if◌then◌else◌, List, [], ◌∷◌, length, drop, Option, Some, None}
 use Rattle.std.specs.Io.BufRead.{strip_last}
 use Rattle.packet_show.specs.Line.{LF}
-use Rattle.packet_show.specs.declared.tape.TapeLine.{TapeLine}
-use Rattle.packet_show.specs.declared.tape.TapeLine.TheVariants as line
+use Rattle.packet_show.specs.declared.tape.ReplayLine.{ReplayLine}
+use Rattle.packet_show.specs.declared.tape.ReplayLine.TheVariants as line
 use Rattle.gate_history.specs.step.Events.{Event, ClientPiece, ClientEnd, HostPiece, HostEnd}
 
 -- ---- lines
@@ -24,13 +24,13 @@ content line = strip_last LF line
 
 -- ---- events
 
--- the event that a line says, or none; lines for a modelled host say none here
-abbrev pub event_said : TapeLine → Option Event
+-- the event that a line says, or none
+abbrev pub event_said : ReplayLine → Option Event
+event_said line.Skip = None
 event_said (line.Client piece) = Some (ClientPiece piece)
 event_said line.ClientEnd = Some ClientEnd
 event_said (line.Host piece) = Some (HostPiece piece)
 event_said line.HostEnd = Some HostEnd
-event_said said = None
 
 -- nothing of the host comes after its end; after a client's comes the next client
 abbrev pub host_ended : List Event → Bool

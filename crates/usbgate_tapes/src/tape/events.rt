@@ -2,15 +2,14 @@
 
 ghost use Rattle.std.specs.Prelude.{◌≡◌, ◌++◌, ◌∷◌, [], List, None, OnOk, option_map, true, false};
 ghost use Rattle.gate_history.specs.step.Events.{Event as PastEvent, event_of};
-ghost use Rattle.packet_show.specs.Tape.{tape_line};
-ghost use Rattle.packet_show.specs.declared.tape.TapeKind.TheVariants as kind;
+ghost use Rattle.packet_show.specs.Tape.{replay_line};
 ghost use Rattle.usbgate_tapes.specs.tape.Tape.{event_said, host_ended};
 ghost use Rattle.usbgate_tapes.specs.tape.EventCommand.{EventCommand as Meant, over_events};
 ghost use Rattle.usbgate_tapes.specs.inner.tape.EventTape.{HasEvents, MayStand};
 
 use crate::tape::command::TapeCommand;
 use gate_history::Event;
-use packet_show::{LineError, TapeKind, TapeLine, read_line};
+use packet_show::{LineError, ReplayLine};
 use std::alloc::Global;
 use usb_base::{Bytes, Memory};
 
@@ -34,20 +33,15 @@ pub trait EventCommand {
 }
 
 /// The event that a line says, if there is one.
-fn event_said(line: &TapeLine) -> Option<Event<'_>>
+fn event_said(line: &ReplayLine) -> Option<Event<'_>>
     ensures { option_map event_of result ≡ event_said line.now }
 {
     match line {
-        TapeLine::Client(piece) => Some(Event::ClientPiece(piece.as_slice())),
-        TapeLine::ClientEnd => Some(Event::ClientEnd),
-        TapeLine::Host(piece) => Some(Event::HostPiece(piece.as_slice())),
-        TapeLine::HostEnd => Some(Event::HostEnd),
-        TapeLine::Skip
-        | TapeLine::ToHost(_)
-        | TapeLine::ToGate(_)
-        | TapeLine::Perform(_)
-        | TapeLine::Offer(_)
-        | TapeLine::Unplug => None,
+        ReplayLine::Skip => None,
+        ReplayLine::Client(piece) => Some(Event::ClientPiece(piece.as_slice())),
+        ReplayLine::ClientEnd => Some(Event::ClientEnd),
+        ReplayLine::Host(piece) => Some(Event::HostPiece(piece.as_slice())),
+        ReplayLine::HostEnd => Some(Event::HostEnd),
     }
 }
 
@@ -71,7 +65,7 @@ impl<E: EventCommand> EventTape<E> {
 
     /// Whether the line isn't one of a host that has ended.
     fn may_stand(&self, line: &[u8]) -> bool
-        ensures stands { result ≡ true → (events : List PastEvent) → self.now.host_ended ≡ host_ended events → MayStand events (tape_line kind.Replay line.now) }
+        ensures stands { result ≡ true → (events : List PastEvent) → self.now.host_ended ≡ host_ended events → MayStand events (replay_line line.now) }
         ensures bad { result ≡ false → (meant : Meant) (events : List PastEvent) → self.now.host_ended ≡ host_ended events → (over_events meant).line events line.now ≡ None }
     {
         match line {
@@ -104,7 +98,7 @@ impl<E: EventCommand> TapeCommand for EventTape<E> {
         if !self.may_stand(line) {
             return Err(LineError::Bad);
         }
-        let said = read_line(alloc, TapeKind::Replay, line)?;
+        let said = ReplayLine::read(alloc, line)?;
         let Some(event) = event_said(&said) else {
             return Ok(());
         };

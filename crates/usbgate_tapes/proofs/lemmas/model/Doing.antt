@@ -3,7 +3,7 @@ use Rattle.std.proofs.Common.{◌≡◌, ℕ, List, [], ◌∷◌, ◌++◌, Opt
 use Rattle.gate_history.specs.write.All.{counts_of}
 use Rattle.gate_history.specs.step.History.{history}
 use Rattle.gate_history.specs.declared.note.Counts.{Counts}
-use Rattle.packet_show.specs.declared.tape.TapeLine.{TapeLine}
+use Rattle.packet_show.specs.declared.tape.ModelLine.{ModelLine}
 use Rattle.model_device.specs.Device.{State, first_state, meaning_of}
 use Rattle.model_device.specs.Loopback.{loopback}
 use Rattle.model_device.specs.Meaning.{Meaning}
@@ -22,7 +22,7 @@ use Rattle.usbgate_tapes.specs.inner.model.Model.{TakesSaid}
 use Rattle.usbgate_tapes.proofs.lemmas.model.Loaded.{last-made}
 
 -- the system stands for steps, behind which the lines that are left say the others
-abbrev pub Doing : {S : Type 0} → Meaning S → S → SystemKept S → List TapeLine → List TapeLine → Type 0
+abbrev pub Doing : {S : Type 0} → Meaning S → S → SystemKept S → List ModelLine → List ModelLine → Type 0
 Doing m s k left lines = (past : List Step) × SystemStands m s k past × (steps_after left past ≡ steps_after lines [])
 
 taken : {S : Type 0} (m : Meaning S) (s : S) (new : SystemKept S) (past : List Step) (x : Option Step) (told : Option Told) → TakesSaid m s new past x told → SystemStands m s new (with_step x past)
@@ -31,13 +31,13 @@ taken m s new past None (Some told) never = absurd never
 taken m s new past (Some x) None never = absurd never
 taken m s new past (Some x) (Some told) takes = takes.stands
 
-pub one-more : {S : Type 0} (m : Meaning S) (s : S) (old new : SystemKept S) (left rest lines : List TapeLine) (said : TapeLine) (told : Option Told) → left ≡ said ∷ rest
+pub one-more : {S : Type 0} (m : Meaning S) (s : S) (old new : SystemKept S) (left rest lines : List ModelLine) (said : ModelLine) (told : Option Told) → left ≡ said ∷ rest
     → ((first : S) (past : List Step) → SystemStands m first old past → TakesSaid m first new past (step_said said) told) → Doing m s old left lines → Doing m s new rest lines
 one-more m s old new left rest lines said told next takes d =
-    (with_step (step_said said) d.0, taken m s new d.0 (step_said said) told (takes s d.0 d.1), ap (λ (ls : List TapeLine). steps_after ls d.0) (sym next) ∙ d.2)
+    (with_step (step_said said) d.0, taken m s new d.0 (step_said said) told (takes s d.0 d.1), ap (λ (ls : List ModelLine). steps_after ls d.0) (sym next) ∙ d.2)
 
-pub all-done : {S : Type 0} (m : Meaning S) (s : S) (k : SystemKept S) (left lines : List TapeLine) → left ≡ [] → Doing m s k left lines → SystemStands m s k (steps_after lines [])
-all-done m s k left lines none d = subst (SystemStands m s k) (ap (λ (ls : List TapeLine). steps_after ls d.0) (sym none) ∙ d.2) d.1
+pub all-done : {S : Type 0} (m : Meaning S) (s : S) (k : SystemKept S) (left lines : List ModelLine) → left ≡ [] → Doing m s k left lines → SystemStands m s k (steps_after lines [])
+all-done m s k left lines none d = subst (SystemStands m s k) (ap (λ (ls : List ModelLine). steps_after ls d.0) (sym none) ∙ d.2) d.1
 
 pub counts-loaded : (count : ℕ) (gadget : State (List ℕ)) (k : SystemKept (State (List ℕ))) (counts : Counts) (old text : List ℕ) → gadget ≡ first_state loopback → TapeAgain (made_lines count)
     → SystemStands (meaning_of loopback) gadget k (steps_after (made_lines count) [])

@@ -4,9 +4,8 @@ use Rattle.std.specs.List.{list_any}
 use Rattle.std.proofs.lemmas.Bool.{le-ltb, or_parts}
 use Rattle.std.proofs.lemmas.List.{length-append}
 use Rattle.std.proofs.Math.Seq.{take-append_seam, get_or-append_seam}
-use Rattle.packet_show.specs.declared.tape.TapeKind.TheVariants.{Model}
-use Rattle.packet_show.specs.declared.tape.TapeLine.{TapeLine}
-use Rattle.packet_show.specs.Tape.{tape_line}
+use Rattle.packet_show.specs.declared.tape.ModelLine.{ModelLine}
+use Rattle.packet_show.specs.Tape.{model_line}
 use Rattle.model_device.specs.Meaning.{Meaning}
 use Rattle.direct_run.specs.Steps.{Step}
 use Rattle.made_tape.specs.Lines.{words_of, line_of, tape_text}
@@ -42,32 +41,32 @@ content-line text =
     positive : (n : ℕ) → nat_lt 0 (n + 1) ≡ true
     positive n = grind arith
 
-first-line : (said : TapeLine) (later : List ℕ) → IsReadAgain said → lines_of (line_of said ++ later) ≡ line_of said ∷ lines_of later
+first-line : (said : ModelLine) (later : List ℕ) → IsReadAgain said → lines_of (line_of said ++ later) ≡ line_of said ∷ lines_of later
 first-line said later again = ap lines_of (append_assoc (words_of said) (10 ∷ []) later) ∙ lines_of-line (words_of said) later (no-lf (words_of said) again.one_line)
 
 -- ---- of a device
 
 module _ {S : Type 0} (m : Meaning S) (s : S) where
-  abbrev on_said : List Step → Option TapeLine → Option (List ℕ × List Step)
-  on_said steps said = option_map (λ (x : TapeLine). on_step m s steps (step_said x)) said
+  abbrev on_said : List Step → Option ModelLine → Option (List ℕ × List Step)
+  on_said steps said = option_map (λ (x : ModelLine). on_step m s steps (step_said x)) said
 
   -- a line that is read again adds what it says
-  said-line : (steps : List Step) (said : TapeLine) → IsReadAgain said → on_said steps (tape_line Model (content (line_of said))) ≡ Some (on_step m s steps (step_said said))
+  said-line : (steps : List Step) (said : ModelLine) → IsReadAgain said → on_said steps (model_line (content (line_of said))) ≡ Some (on_step m s steps (step_said said))
   said-line steps said again =
-      ap (λ (text : List ℕ). on_said steps (tape_line Model text)) (content-line (words_of said)) ∙ ap (on_said steps) again.says
+      ap (λ (text : List ℕ). on_said steps (model_line text)) (content-line (words_of said)) ∙ ap (on_said steps) again.says
 
   kept-step : (steps : List Step) (x : Option Step) → (on_step m s steps x).1 ≡ with_step x steps
   kept-step steps None = refl
   kept-step steps (Some x) = refl
 
   -- the progress behind such a line
-  abbrev further : Progress (List Step) → TapeLine → Progress (List Step)
+  abbrev further : Progress (List Step) → ModelLine → Progress (List Step)
   further p said = (one_further p (line_of said) (on_step m s p.kept (step_said said))).1
 
-  good-line : (p : Progress (List Step)) (said : TapeLine) → IsReadAgain said → p.bytes + length (line_of said) ≤ TAPE_LIMIT
+  good-line : (p : Progress (List Step)) (said : ModelLine) → IsReadAgain said → p.bytes + length (line_of said) ≤ TAPE_LIMIT
       → next_line (model m s) p (line_of said) ≡ Some (one_further p (line_of said) (on_step m s p.kept (step_said said)))
   good-line p said again within =
-      ap (λ (t : Bool). cond t None (option_map (one_further p (line_of said)) (on_said p.kept (tape_line Model (content (line_of said)))))) (le-ltb TAPE_LIMIT (p.bytes + length (line_of said)) within)
+      ap (λ (t : Bool). cond t None (option_map (one_further p (line_of said)) (on_said p.kept (model_line (content (line_of said)))))) (le-ltb TAPE_LIMIT (p.bytes + length (line_of said)) within)
       ∙ ap (option_map (one_further p (line_of said))) (said-line p.kept said again)
 
   -- no line is bad, and these steps are kept
@@ -75,7 +74,7 @@ module _ {S : Type 0} (m : Meaning S) (s : S) where
     good : x.bad ≡ false
     kept : x.after.kept ≡ steps
 
-  lines-read : (lines : List TapeLine) (p : Progress (List Step)) → AreReadAgain lines → p.bytes + length (tape_text lines) ≤ TAPE_LIMIT
+  lines-read : (lines : List ModelLine) (p : Progress (List Step)) → AreReadAgain lines → p.bytes + length (tape_text lines) ≤ TAPE_LIMIT
       → IsRead (read_lines (model m s) p (lines_of (tape_text lines))) (steps_after lines p.kept)
   lines-read [] p again within = record { good = refl; kept = refl }
   lines-read (said ∷ lines) p again within =
@@ -91,14 +90,14 @@ module _ {S : Type 0} (m : Meaning S) (s : S) where
       }
 
   -- so these steps are kept of such a tape
-  tape-read : (lines : List TapeLine) → TapeAgain lines → IsRead (read_tape (model m s) (tape_text lines)) (steps_after lines [])
+  tape-read : (lines : List ModelLine) → TapeAgain lines → IsRead (read_tape (model m s) (tape_text lines)) (steps_after lines [])
   tape-read lines again = lines-read lines (begin (model m s)) again.each (omega (arith, again.short))
 
-  pub kept-made : (lines : List TapeLine) → TapeAgain lines → (read_tape (model m s) (tape_text lines)).after.kept ≡ steps_after lines []
+  pub kept-made : (lines : List ModelLine) → TapeAgain lines → (read_tape (model m s) (tape_text lines)).after.kept ≡ steps_after lines []
   kept-made lines again = (tape-read lines again).kept
 
   -- and the last text is that of these steps
-  pub last-made : (lines : List TapeLine) → TapeAgain lines → last_text (model m s) (read_tape (model m s) (tape_text lines)) ≡ (model m s).closing (steps_after lines [])
+  pub last-made : (lines : List ModelLine) → TapeAgain lines → last_text (model m s) (read_tape (model m s) (tape_text lines)) ≡ (model m s).closing (steps_after lines [])
   last-made lines again =
       last-good (read_tape (model m s) (tape_text lines)) _ (tape-read lines again)
     where

@@ -11,9 +11,8 @@ use Rattle.gate_history.specs.step.Refusals.{is_refusal}
 use Rattle.gate_history.specs.write.Notes.{notes_of}
 use Rattle.gate_history.proofs.lemmas.step.Events.{event-gives}
 use Rattle.model_device.specs.Meaning.{Meaning}
-use Rattle.packet_show.specs.declared.tape.TapeKind.TheVariants.{Model}
-use Rattle.packet_show.specs.declared.tape.TapeLine.{TapeLine}
-use Rattle.packet_show.specs.Tape.{tape_line}
+use Rattle.packet_show.specs.declared.tape.ModelLine.{ModelLine}
+use Rattle.packet_show.specs.Tape.{model_line}
 use Rattle.direct_run.specs.declared.told.Told.{Told}
 use Rattle.direct_run.specs.Kept.{SystemKept}
 use Rattle.gate_history.specs.write.Refusals.{refusal_in}
@@ -65,11 +64,11 @@ step-refuses m s c Unplug = or-false (has_refusal (history first_id c.events))
 -- ---- a line
 
 -- a line whose step was done puts what that adds behind the text
-pub line-told : {S : Type 0} (m : Meaning S) (s : S) (old new : ModelRun S) (steps : List Step) (content : List ℕ) (said : TapeLine) (done : SystemKept S) (outcome : Option Told) (told : Told) (text_old text_new : List ℕ) →
-    tape_line Model content ≡ Some said → (SystemStands m s old.system steps → TakesSaid m s done steps (step_said said) outcome) → outcome ≡ Some told → new.system ≡ done → text_new ≡ text_old ++ told_text told → new.refused ≡ (old.refused || has_some told.refusals) →
+pub line-told : {S : Type 0} (m : Meaning S) (s : S) (old new : ModelRun S) (steps : List Step) (content : List ℕ) (said : ModelLine) (done : SystemKept S) (outcome : Option Told) (told : Told) (text_old text_new : List ℕ) →
+    model_line content ≡ Some said → (SystemStands m s old.system steps → TakesSaid m s done steps (step_said said) outcome) → outcome ≡ Some told → new.system ≡ done → text_new ≡ text_old ++ told_text told → new.refused ≡ (old.refused || has_some told.refusals) →
     HasDone m s old steps → TakesLine (HasDone m s) ((model m s).line steps content) new text_old text_new
 line-told {S = S} m s old new steps content said done outcome told text_old text_new is takes outcome-is system-is text-is refused h =
-    subst (λ (x : Option TapeLine). TakesLine (HasDone m s) (option_map (λ (y : TapeLine). on_step m s steps (step_said y)) x) new text_old text_new) (sym is) (go (step_said said) taken)
+    subst (λ (x : Option ModelLine). TakesLine (HasDone m s) (option_map (λ (y : ModelLine). on_step m s steps (step_said y)) x) new text_old text_new) (sym is) (go (step_said said) taken)
   where
     taken : TakesSaid m s new.system steps (step_said said) (Some told)
     taken = subst (λ (k : SystemKept S). TakesSaid m s k steps (step_said said) (Some told)) (sym system-is)

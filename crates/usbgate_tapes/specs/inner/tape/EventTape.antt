@@ -1,6 +1,6 @@
 -- What a command over events keeps of its tape.
 use Rattle.std.specs.Prelude.{◌≡◌, true, List, Option, Some, None}
-use Rattle.packet_show.specs.declared.tape.TapeLine.{TapeLine}
+use Rattle.packet_show.specs.declared.tape.ReplayLine.{ReplayLine}
 use Rattle.gate_history.specs.step.Events.{Event}
 use Rattle.usbgate_tapes.specs.declared.tape.events.EventTape.{EventTape}
 use Rattle.usbgate_tapes.specs.tape.Tape.{event_said, host_ended, may_happen}
@@ -16,6 +16,6 @@ abbrev pub MayCome : List Event → Option Event → Type 0
 MayCome events None = Unit {0}
 MayCome events (Some e) = may_happen events e ≡ true
 
-abbrev pub MayStand : List Event → Option TapeLine → Type 0
+abbrev pub MayStand : List Event → Option ReplayLine → Type 0
 MayStand events None = Unit {0}
 MayStand events (Some line) = MayCome events (event_said line)
