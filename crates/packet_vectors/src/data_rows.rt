@@ -20,9 +20,17 @@ struct Form {
     longer: Option<(Caps, u32)>,
 }
 
-const WAYS: [Way; 2] = [Way::ToGuest, Way::ToHost];
-
-const ENDPOINTS: [u8; 4] = [0x00, 0x01, 0x80, 0x81];
+/// The way of a packet, and its endpoint.
+const COMINGS: [(Way, u8); 8] = [
+    (Way::ToGuest, 0x00),
+    (Way::ToGuest, 0x01),
+    (Way::ToGuest, 0x80),
+    (Way::ToGuest, 0x81),
+    (Way::ToHost, 0x00),
+    (Way::ToHost, 0x01),
+    (Way::ToHost, 0x80),
+    (Way::ToHost, 0x81),
+];
 
 /// An id of 7, with 32 bits and with 64.
 const ID: [u8; 4] = [7, 0, 0, 0];
@@ -69,21 +77,40 @@ fn form_of(number: &str, row: &str, out: &mut Output) -> Form {
 /// The first front of a packet that is read as the row doesn't say.
 fn other_of(alloc: Global, form: Form) -> Result<Option<Other>, Memory> {
     for caps in CAPS {
-        for way in WAYS {
-            for endpoint in ENDPOINTS {
-                for (told, count) in COUNTS {
-                    let case = Case {
-                        caps,
-                        way,
-                        endpoint,
-                        told,
-                        count,
-                    };
-                    if let Some(front) = other_front(alloc, form, case)? {
-                        return Ok(Some((case, front)));
-                    }
-                }
-            }
+        if let Some(other) = other_with(alloc, form, caps)? {
+            return Ok(Some(other));
+        }
+    }
+    Ok(None)
+}
+
+/// The first with these capabilities.
+fn other_with(alloc: Global, form: Form, caps: Caps) -> Result<Option<Other>, Memory> {
+    for (way, endpoint) in COMINGS {
+        let case = Case {
+            caps,
+            way,
+            endpoint,
+            told: 0,
+            count: 0,
+        };
+        if let Some(other) = other_count(alloc, form, case)? {
+            return Ok(Some(other));
+        }
+    }
+    Ok(None)
+}
+
+/// The first of a case with each number of data.
+fn other_count(alloc: Global, form: Form, case: Case) -> Result<Option<Other>, Memory> {
+    for (told, count) in COUNTS {
+        let case = Case {
+            told,
+            count,
+            ..case
+        };
+        if let Some(front) = other_front(alloc, form, case)? {
+            return Ok(Some((case, front)));
         }
     }
     Ok(None)

@@ -42,7 +42,13 @@ pub const CAPS: [Caps; 8] = [
     Caps(u32::MAX),
 ];
 
-const WAYS: [Way; 2] = [Way::ToGuest, Way::ToHost];
+/// The way of a packet, and whether it is the first of its stream.
+const COMINGS: [(Way, bool); 4] = [
+    (Way::ToGuest, true),
+    (Way::ToGuest, false),
+    (Way::ToHost, true),
+    (Way::ToHost, false),
+];
 
 /// The lengths around the greatest that a header may tell.
 const LONG: [u32; 3] = [16_777_280, 16_777_281, u32::MAX];
@@ -125,21 +131,34 @@ fn flag_of(number: &str, out: &mut Output) -> Caps {
 /// The first front of a header of these types that is read as the row doesn't say.
 fn other_among(from: u32, to: u32, listed: Listed) -> Option<Other> {
     for number in from..=to {
-        for caps in CAPS {
-            for way in WAYS {
-                for first in [true, false] {
-                    let case = Case {
-                        first,
-                        caps,
-                        way,
-                        number,
-                        length: 0,
-                    };
-                    if let Some(other) = other_at(case, listed) {
-                        return Some(other);
-                    }
-                }
-            }
+        if let Some(other) = other_of_type(number, listed) {
+            return Some(other);
+        }
+    }
+    None
+}
+
+fn other_of_type(number: u32, listed: Listed) -> Option<Other> {
+    for caps in CAPS {
+        if let Some(other) = other_with(number, caps, listed) {
+            return Some(other);
+        }
+    }
+    None
+}
+
+/// The first with these capabilities.
+fn other_with(number: u32, caps: Caps, listed: Listed) -> Option<Other> {
+    for (way, first) in COMINGS {
+        let case = Case {
+            first,
+            caps,
+            way,
+            number,
+            length: 0,
+        };
+        if let Some(other) = other_at(case, listed) {
+            return Some(other);
         }
     }
     None
