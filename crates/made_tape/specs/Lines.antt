@@ -2,20 +2,20 @@
 use Rattle.std.specs.Prelude.{ℕ, List, [], ◌∷◌, ◌++◌, codes}
 use Rattle.std.specs.List.{flat_map}
 use Rattle.std.specs.Fmt.{decimal}
-use Rattle.hex.specs.Hex.{encode_lower}
 use Rattle.packet_show.specs.declared.tape.ModelLine.{ModelLine}
 use Rattle.packet_show.specs.declared.tape.ModelLine.TheVariants as line
-use Rattle.packet_show.specs.Line.{LF}
+use Rattle.packet_show.specs.Line.{LF, letter}
+use Rattle.session_tape.specs.Lines.{lettered}
 
 -- a line without its LF: bytes are in lower-case hexadecimal, numbers in decimal
 abbrev pub words_of : ModelLine → List ℕ
 words_of line.Skip = []
-words_of (line.Client bytes) = codes "c " ++ encode_lower bytes
+words_of (line.Client bytes) = lettered (letter (codes "c")) bytes
 words_of line.ClientEnd = codes "c."
 words_of (line.ToHost n) = codes "g " ++ decimal n
 words_of (line.ToGate n) = codes "h " ++ decimal n
-words_of (line.Perform ep) = codes "p " ++ encode_lower (ep ∷ [])
-words_of (line.Offer ep) = codes "o " ++ encode_lower (ep ∷ [])
+words_of (line.Perform ep) = lettered (letter (codes "p")) (ep ∷ [])
+words_of (line.Offer ep) = lettered (letter (codes "o")) (ep ∷ [])
 words_of line.Unplug = codes "x"
 
 abbrev pub line_of : ModelLine → List ℕ

@@ -2,13 +2,13 @@
 
 ghost use Rattle.std.specs.Prelude.{◌≡◌, ◌++◌, ◌∷◌, OnOk};
 ghost use Rattle.std.specs.Fmt.{decimal};
-ghost use Rattle.hex.specs.Hex.{encode_lower};
 ghost use Rattle.packet_show.specs.Line.{SPACE};
 ghost use Rattle.made_tape.specs.Lines.{line_of, words_of};
 
 use itoa::Buffer;
 use packet_show::ModelLine;
-use usb_base::{Bytes, Memory, push_hex};
+use session_tape::push_lettered;
+use usb_base::{Bytes, Memory};
 
 /// Appends what a line says, and LF. For want of memory a front of it may be there.
 pub fn push_line(line: &ModelLine, text: &mut Bytes) -> Result<(), Memory>
@@ -23,23 +23,14 @@ fn push_words(line: &ModelLine, text: &mut Bytes) -> Result<(), Memory>
 {
     match line {
         ModelLine::Skip => Ok(()),
-        ModelLine::Client(piece) => push_bytes(b'c', piece.as_slice(), text),
+        ModelLine::Client(piece) => push_lettered(b'c', piece.as_slice(), text),
         ModelLine::ClientEnd => text.append(b"c."),
         ModelLine::ToHost(count) => push_number(b'g', *count, text),
         ModelLine::ToGate(count) => push_number(b'h', *count, text),
-        ModelLine::Perform(ep) => push_bytes(b'p', &[ep.byte()], text),
-        ModelLine::Offer(ep) => push_bytes(b'o', &[ep.byte()], text),
+        ModelLine::Perform(ep) => push_lettered(b'p', &[ep.byte()], text),
+        ModelLine::Offer(ep) => push_lettered(b'o', &[ep.byte()], text),
         ModelLine::Unplug => text.push(b'x'),
     }
-}
-
-/// Appends a letter, a space, and bytes in lower-case hexadecimal.
-fn push_bytes(letter: u8, bytes: &[u8], text: &mut Bytes) -> Result<(), Memory>
-    ensures { OnOk result (text.new ≡ text.old ++ letter ∷ SPACE ∷ encode_lower bytes.now) }
-{
-    text.push(letter)?;
-    text.push(b' ')?;
-    push_hex(bytes, text)
 }
 
 /// Appends a letter, a space, and a number in decimal.

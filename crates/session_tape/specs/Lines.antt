@@ -12,9 +12,13 @@ abbrev pub letter_of : Side → ℕ
 letter_of Client = 99
 letter_of Host = 104
 
--- a side's letter, a space, a piece of its stream in lower-case hexadecimal, and LF
+-- a letter, a space, and bytes in lower-case hexadecimal
+abbrev pub lettered : ℕ → List ℕ → List ℕ
+lettered letter bytes = letter ∷ 32 ∷ encode_lower bytes
+
+-- a side's letter with a piece of its stream, and LF
 abbrev pub piece_line : Side → List ℕ → List ℕ
-piece_line side bytes = letter_of side ∷ 32 ∷ encode_lower bytes ++ 10 ∷ []
+piece_line side bytes = lettered (letter_of side) bytes ++ 10 ∷ []
 
 -- a side's letter, `.` and LF
 abbrev pub end_line : Side → List ℕ

@@ -9,7 +9,7 @@ mod telling;
 mod text_tape;
 
 pub use file_tape::FileTape;
-pub use lines::{first_comment, push_end, push_piece, push_refusal};
+pub use lines::{first_comment, push_end, push_lettered, push_piece, push_refusal};
 pub use no_tape::NoTape;
 pub use tape::{MakeTape, Tape, Unmade};
 pub use text_tape::TextTape;

@@ -2,7 +2,7 @@
 
 ghost use Rattle.std.specs.Prelude.{◌≡◌, ◌++◌, IfOk, OnOk, OnErr, string_bytes};
 ghost use Rattle.usb_base.specs.Writes.{Begins};
-ghost use Rattle.session_tape.specs.Lines.{letter_of, piece_line, end_line, refusal_comment, first_comment};
+ghost use Rattle.session_tape.specs.Lines.{letter_of, lettered, piece_line, end_line, refusal_comment, first_comment};
 
 use std::alloc::Global;
 use usb_base::{Bytes, Memory, Refusal, Side, push_hex};
@@ -12,10 +12,18 @@ pub fn push_piece(side: Side, bytes: &[u8], text: &mut Bytes) -> Result<(), Memo
     ensures ok { OnOk result (text.new ≡ text.old ++ piece_line side bytes.now) }
     ensures err { OnErr result (Begins text.old text.new) }
 {
-    text.push(letter_of(side))?;
-    text.push(b' ')?;
-    push_hex(bytes, text)?;
+    push_lettered(letter_of(side), bytes, text)?;
     text.push(b'\n')
+}
+
+/// Appends a letter, a space, and bytes in lower-case hexadecimal. For want of memory a front of them may be there.
+pub fn push_lettered(letter: u8, bytes: &[u8], text: &mut Bytes) -> Result<(), Memory>
+    ensures ok { OnOk result (text.new ≡ text.old ++ lettered letter bytes.now) }
+    ensures err { OnErr result (Begins text.old text.new) }
+{
+    text.push(letter)?;
+    text.push(b' ')?;
+    push_hex(bytes, text)
 }
 
 /// Appends the line of a side's end. For want of memory a front of the line may be there.

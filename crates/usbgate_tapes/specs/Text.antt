@@ -3,7 +3,6 @@
 use Rattle.std.specs.Prelude.{ℕ, List, [], ◌∷◌, ◌++◌, codes}
 use Rattle.std.specs.List.{flat_map}
 use Rattle.std.specs.Fmt.{decimal}
-use Rattle.hex.specs.Hex.{encode_lower}
 use Rattle.usb_base.specs.Refusal.{refusal_line}
 use Rattle.gate_history.specs.declared.note.Note.{Note}
 use Rattle.gate_history.specs.declared.note.Note.TheVariants as note
@@ -15,13 +14,14 @@ use Rattle.gate_history.specs.write.All.{all_of}
 use Rattle.gate_history.specs.write.Bytes.{out_client, out_host}
 use Rattle.direct_run.specs.declared.told.Told.{Told}
 use Rattle.direct_run.specs.Lines.{item_line}
-use Rattle.packet_show.specs.Line.{LF, SPACE}
+use Rattle.packet_show.specs.Line.{LF, letter}
+use Rattle.session_tape.specs.Lines.{lettered}
 use Rattle.usbgate_tapes.specs.tape.Tape.{added}
 
--- a letter, the bytes in lower-case hexadecimal and LF; nothing where there are no bytes
-abbrev pub bytes_line : List ℕ → List ℕ → List ℕ
+-- a letter with the bytes, and LF; nothing where there are no bytes
+abbrev pub bytes_line : ℕ → List ℕ → List ℕ
 bytes_line letter [] = []
-bytes_line letter (b ∷ bs) = letter ++ SPACE ∷ encode_lower (b ∷ bs) ++ LF ∷ []
+bytes_line letter (b ∷ bs) = lettered letter (b ∷ bs) ++ LF ∷ []
 
 -- a refusal is told, and no other note
 abbrev pub note_line : Note → List ℕ
@@ -30,7 +30,7 @@ note_line _ = []
 
 -- what an event sends, and tells
 abbrev pub sent_text : List ℕ → List ℕ → List Note → List ℕ
-sent_text client host notes = bytes_line (codes "C") client ++ bytes_line (codes "H") host ++ flat_map note_line notes
+sent_text client host notes = bytes_line (letter (codes "C")) client ++ bytes_line (letter (codes "H")) host ++ flat_map note_line notes
 
 abbrev pub event_text : ℕ → List Event → Event → List ℕ
 event_text first events e =
@@ -38,13 +38,13 @@ event_text first events e =
 
 -- the bytes of the making come first
 abbrev pub opening_text : ℕ → List ℕ
-opening_text first = bytes_line (codes "H") (out_host first [])
+opening_text first = bytes_line (letter (codes "H")) (out_host first [])
 
 -- what a step of a gateway and a modelled device tells; `D` are that host's bytes
 abbrev pub told_text : Told → List ℕ
 told_text told =
-    flat_map item_line told.items ++ bytes_line (codes "C") told.to_client ++ bytes_line (codes "H") told.to_host ++ bytes_line (codes "D") told.from_host
-    ++ flat_map refusal_line told.refusals
+    flat_map item_line told.items ++ bytes_line (letter (codes "C")) told.to_client ++ bytes_line (letter (codes "H")) told.to_host
+    ++ bytes_line (letter (codes "D")) told.from_host ++ flat_map refusal_line told.refusals
 
 abbrev pub counts_line : Counts → List ℕ
 counts_line c =

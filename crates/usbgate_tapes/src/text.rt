@@ -1,6 +1,6 @@
 //! The lines that commands over tapes print.
 
-ghost use Rattle.std.specs.Prelude.{◌≡◌, ◌++◌, ◌∷◌, [], IfOk, OnOk, string_bytes};
+ghost use Rattle.std.specs.Prelude.{◌≡◌, ◌++◌, IfOk, OnOk, string_bytes};
 ghost use Rattle.std.specs.List.{flat_map};
 ghost use Rattle.usb_base.specs.Refusal.{refusal_line};
 ghost use Rattle.direct_run.specs.Lines.{item_line};
@@ -12,8 +12,9 @@ use arrayvec::ArrayString;
 use direct_run::{Items, Refusals, Told};
 use gate_history::{Counts, Note, Notes};
 use itoa::Buffer;
+use session_tape::push_lettered;
 use std::alloc::Global;
-use usb_base::{Bytes, Memory, push_hex};
+use usb_base::{Bytes, Memory};
 
 /// What a call prints whose words are no command.
 pub const USAGE: &[u8] = b"usage: usbgate COMMAND [options]\n";
@@ -21,14 +22,12 @@ pub const USAGE: &[u8] = b"usage: usbgate COMMAND [options]\n";
 /// Appends a side's letter, a space, the bytes that are sent to it in lower-case hexadecimal, and LF. Where
 /// there are no bytes it appends nothing. For want of memory a front of the line may be there.
 pub fn push_bytes(letter: u8, bytes: &[u8], text: &mut Bytes) -> Result<(), Memory>
-    ensures { OnOk result (text.new ≡ text.old ++ bytes_line (letter ∷ []) bytes.now) }
+    ensures { OnOk result (text.new ≡ text.old ++ bytes_line letter bytes.now) }
 {
     if bytes.is_empty() {
         return Ok(());
     }
-    text.push(letter)?;
-    text.push(b' ')?;
-    push_hex(bytes, text)?;
+    push_lettered(letter, bytes, text)?;
     text.push(b'\n')
 }
 
