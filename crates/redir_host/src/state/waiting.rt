@@ -25,6 +25,9 @@ use std::collections::BTreeMap;
 use std::mem;
 use usb_base::{ENDPOINTS, EpAddr, EpTable, Memory};
 
+/// The place of endpoint 0's queue, which is one for both directions.
+const CONTROL_QUEUE: usize = 0;
+
 /// Requests in order of arrival, and where each queue's are.
 #[derive(Drop)]
 pub struct Waiting {
@@ -166,7 +169,7 @@ impl Waiting {
         ensures marked { numbered self.new ≡ marked_from number (numbered self.old) }
         ensures indexed { IsIndexed self.new }
     {
-        match self.queues[0].first_from(number) {
+        match self.queues[CONTROL_QUEUE].first_from(number) {
             Some((_, key)) => {
                 self.requests[key].reset = true;
                 true
@@ -198,14 +201,14 @@ fn retain_keys(queues: &mut [Keys; ENDPOINTS], requests: &Slab<Request>)
     }
 }
 
-/// The place of an endpoint's queue. Endpoint 0 has one for both directions.
+/// The place of an endpoint's queue.
 fn place_of(ep: EpAddr) -> usize
     ensures value { result ≡ place_of ep }
     ensures in_range { result < ENDPOINTS }
     ensures endpoint { IsEndpoint ep }
 {
     match ep.byte() {
-        0x00 | 0x80 => 0,
+        0x00 | 0x80 => CONTROL_QUEUE,
         _ => ep.index(),
     }
 }
