@@ -1,5 +1,6 @@
 -- What the calls, and the rounds of a session, keep of links and of what is sent.
 pub mod Sends
+pub mod Polling
 pub mod Recording
 pub mod Links
 pub mod Keeping

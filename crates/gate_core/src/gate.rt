@@ -1,6 +1,7 @@
 //! The gate: it translates between USB/IP clients, one after another, and a usbredir host.
 
-ghost use Rattle.std.specs.Prelude.{◌≡◌, ◌+◌, ◌-◌, ◌++◌, ◌≤◌, [], List, length, ℕ, OnOk, OnErr, IfOk, IsErr};
+ghost use Rattle.std.specs.Prelude.{◌≡◌, ◌+◌, ◌-◌, ◌++◌, ◌<◌, ◌≤◌, [], List, length, take, ℕ, OnOk, OnErr, IfOk, IsErr, IfSome, IsNone};
+ghost use Rattle.usb_base.specs.Incoming.{HasCome};
 ghost use Rattle.gate_history.specs.step.Events.{Event as PastEvent, event_of};
 ghost use Rattle.gate_history.specs.declared.item.Item.{Item as PastItem};
 ghost use Rattle.gate_history.specs.step.Past.{past};
@@ -9,7 +10,7 @@ ghost use Rattle.gate_history.specs.step.History.{rest_length};
 ghost use Rattle.gate_history.specs.write.All.{counts_of};
 ghost use Rattle.gate_history.specs.write.Bytes.{out_host};
 ghost use Rattle.usb_base.specs.declared.limits.TheConstants.{LONGEST_CLIENT_PACKET, LONGEST_HOST_PACKET};
-ghost use Rattle.gate_core.specs.step.Stands.{GateStands, StandsFor, TakesEvent, StopsInEvent, GateHasFailed};
+ghost use Rattle.gate_core.specs.step.Stands.{GateStands, StandsFor, TakesEvent, piece_of, StopsInEvent, GateHasFailed};
 
 use crate::step::inner::Inner;
 use gate_history::{Counts, Event, Notes};
@@ -17,7 +18,7 @@ use gate_parts::{Outputs, write_hello};
 use std::alloc::Global;
 use std::marker::Model;
 use std::mem::swap;
-use usb_base::{Bytes, Memory};
+use usb_base::{Bytes, Incoming, Memory, Side};
 
 /// The gate between the streams of clients and of a host.
 #[derive(Drop)]
@@ -89,6 +90,30 @@ impl Gate {
                 self.inner.want = Some(memory);
                 Err(memory)
             }
+        }
+    }
+
+    /// Has the next bytes of a side's stream come straight into its memory, at most `limit` of them, where a packet is
+    /// awaited that has more still to come: an event that sends nothing. It says how many came. `None` where no such
+    /// packet is awaited, or the stream has no memory for so many of its bytes yet: nothing was asked for any then.
+    pub fn receive_from<I: Incoming>(
+        &mut self,
+        side: Side,
+        limit: usize,
+        incoming: &mut I,
+    ) -> Option<usize>
+        requires { I.can_read incoming.old limit }
+        ensures came { IfSome result (λ count. (came : HasCome I.read_gives limit count incoming.old incoming.new) × (0 < count → (first : ℕ) (past : List PastEvent) → GateStands first self.old past
+            → TakesEvent first self.new past (piece_of side (take count came.room)) [] [] [] [] [])) }
+        ensures nothing { IfSome result (λ count. count ≡ 0 → self.new ≡ self.old) }
+        ensures none { IsNone result → (self.new ≡ self.old) × (incoming.new ≡ incoming.old) }
+    {
+        if self.inner.want.is_some() {
+            return None;
+        }
+        match side {
+            Side::Client => self.inner.client.receive_from(limit, incoming),
+            Side::Host => self.inner.host.receive_from(limit, incoming),
         }
     }
 

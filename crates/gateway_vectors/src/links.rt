@@ -13,7 +13,7 @@ use usbgate::run;
 use usbgate_tapes::Status;
 
 /// How many bytes can be written to each side.
-const ROOM: usize = 65_536;
+const ROOM: usize = 262_144;
 
 /// Runs the words between links that give what these lines say, over a tape that can't be read. Behind its text come
 /// the lines that it recorded.

@@ -1,16 +1,17 @@
 //! One side's stream, of which whole packets are taken as its bytes come in pieces.
 
-ghost use Rattle.std.specs.Prelude.{◌≡◌, ◌<◌, ◌^◌, [], length, true, false, OnOk, OnErr};
+ghost use Rattle.std.specs.Prelude.{◌≡◌, ◌<◌, ◌^◌, [], length, take, true, false, OnOk, OnErr, IfSome, IsNone};
+ghost use Rattle.usb_base.specs.Incoming.{HasCome};
 ghost use Rattle.packet_stream.specs.Split.{reads};
 ghost use Rattle.packet_stream.specs.Awaited.{StaysShort};
-ghost use Rattle.packet_stream.specs.Streams.{StreamView, passed, ended, after_piece, Follows, Puts, Nexts, Changes};
+ghost use Rattle.packet_stream.specs.Streams.{StreamView, passed, ended, after_piece, Follows, Puts, Nexts, Changes, KeepsWhat};
 
 use crate::format::PacketFormat;
 use crate::read::{Read, ReadError};
 use std::alloc::Global;
 use std::marker::Model;
 use std::snapshot::Snapshot;
-use usb_base::{Bytes, Memory, ReceiveBuffer};
+use usb_base::{Bytes, Incoming, Memory, ReceiveBuffer};
 
 /// The packet that was given last, with all that has come behind it.
 #[derive(Drop)]
@@ -116,6 +117,24 @@ impl<F: PacketFormat> Stream<F> {
         let put = self.bytes.receive(piece, self.awaited);
         self.given = given_from(self.place, &self.bytes);
         put
+    }
+
+    /// Has the next bytes come straight into its memory, at most `limit` of them, where it awaits more than that: no
+    /// packet is whole with them. It says how many came. `None` where it doesn't await so many, or has no memory for
+    /// them yet: nothing was asked for any then.
+    pub fn receive_from<I: Incoming>(&mut self, limit: usize, incoming: &mut I) -> Option<usize>
+        requires { I.can_read incoming.old limit }
+        ensures came { IfSome result (λ count. (came : HasCome I.read_gives limit count incoming.old incoming.new) × KeepsWhat (reads F.format F.after) F.takes_memory count (take count came.room) self.old self.new) }
+        ensures none { IsNone result → (self.new ≡ self.old) × (incoming.new ≡ incoming.old) }
+    {
+        if self.over || self.awaited.saturating_sub(self.bytes.len()) <= limit {
+            return None;
+        }
+        let count = self.bytes.receive_from(limit, incoming)?;
+        if count > 0 {
+            self.given = given_from(self.place, &self.bytes);
+        }
+        Some(count)
     }
 
     /// Takes the next packet with its place, `None` where it isn't whole yet or the stream is over. What is short is

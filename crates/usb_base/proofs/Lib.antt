@@ -1,3 +1,4 @@
+mod Blocks
 pub mod Firsts
 pub mod Numbers
 pub mod Fronts

@@ -1,6 +1,7 @@
 pub mod Number
 pub mod Firsts
 pub mod Writes
+pub mod Incoming
 pub mod Reason
 pub mod Refusal
 pub mod Speed

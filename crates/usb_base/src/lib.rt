@@ -2,9 +2,11 @@
 //! USB's own words: setups and their requests, endpoints, statuses and transfers.
 #![tactic(auto)]
 
+mod block;
 mod digits;
 mod endpoint;
 pub mod errno;
+mod incoming;
 mod limits;
 mod list;
 mod memory;
@@ -23,6 +25,7 @@ mod transfer;
 
 pub use digits::push_hex;
 pub use endpoint::{ENDPOINTS, EpAddr, EpKind, EpRow, EpTable, endpoint_count};
+pub use incoming::Incoming;
 pub use limits::{
     LONGEST_CLIENT_PACKET, LONGEST_HOST_PACKET, MAX_PACKETS, MAX_TRANSFER, transfer_limits,
 };

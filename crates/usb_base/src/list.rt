@@ -192,25 +192,4 @@ impl List<u8> {
     {
         self.front += count;
     }
-
-    /// Moves the bytes up to the room that a long list has before them, where that is worth it for so many more: a
-    /// stream's bytes begin anywhere behind it.
-    pub(crate) fn settle(&mut self, more: usize) -> Result<(), Memory>
-        ensures { self.new ≡ self.old }
-    {
-        if self.items.is_empty() {
-            self.items.extend_from_slice(&[0; ROOM])?;
-            self.front = ROOM;
-        } else if self.front > ROOM && self.is_movable(more) {
-            let dropped = self.front - ROOM;
-            self.front = ROOM;
-            self.skip(dropped);
-        }
-        Ok(())
-    }
-
-    /// Whether the bytes are no more than those that were dropped before them, or have no room for so many behind them.
-    fn is_movable(&self, more: usize) -> bool {
-        self.len() <= self.front || self.capacity().saturating_sub(self.items.len()) < more
-    }
 }

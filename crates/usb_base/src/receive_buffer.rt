@@ -1,7 +1,10 @@
 //! The bytes of a stream, as its packets are taken out of them.
 
-ghost use Rattle.std.specs.Prelude.{◌≡◌, ◌++◌, ◌<◌, [], length, IsTrue, ◌↔◌, OnOk, OnErr};
+ghost use Rattle.std.specs.Prelude.{◌≡◌, ◌+◌, ◌++◌, ◌<◌, ◌≤◌, [], length, take, drop, vec_len, IsTrue, ◌↔◌, OnOk, OnErr, IfSome, IsNone};
+ghost use Rattle.usb_base.specs.Incoming.{HasCome};
 
+use crate::block::{lengthen, move_to, put_at, read_at};
+use crate::incoming::Incoming;
 use crate::list::{Bytes, LONG, ROOM};
 use crate::memory::Memory;
 use crate::packet_bytes::PacketBytes;
@@ -12,17 +15,23 @@ use std::mem;
 /// The bytes of a stream that have come and are in no packet that was taken.
 #[derive(Drop)]
 pub struct ReceiveBuffer {
-    bytes: Bytes,
-    /// Memory for later, that another list needed no more. What stands in it counts for nothing.
-    spare: Bytes,
+    /// They stand in it from `front` to `end`. What stands before and behind them counts for nothing: it is room, which
+    /// has bytes in it so that it can be lent to what brings the next ones.
+    block: Vec<u8>,
+    front: usize,
+    end: usize,
+    /// A block for later, that another list needed no more. What stands in it counts for nothing.
+    spare: Vec<u8>,
 }
 
 impl Model for ReceiveBuffer {
-    ghost use Rattle.std.specs.Prelude.{List as Items, ℕ};
+    ghost use Rattle.std.specs.Prelude.{◌≤◌, List as Items, ℕ, take, drop, length};
 
     ghost Value = { Items ℕ };
 
-    ghost view = { λ buffer. buffer.bytes };
+    ghost view = { λ buffer. drop buffer.front (take buffer.end buffer.block.items) };
+
+    ghost invariant = { λ buffer. (buffer.front ≤ buffer.end) × (buffer.end ≤ length buffer.block.items) };
 }
 
 impl ReceiveBuffer {
@@ -31,8 +40,10 @@ impl ReceiveBuffer {
         ensures { result ≡ [] }
     {
         ReceiveBuffer {
-            bytes: Bytes::new(alloc),
-            spare: Bytes::new(alloc),
+            block: Vec::new(alloc),
+            front: 0,
+            end: 0,
+            spare: Vec::new(alloc),
         }
     }
 
@@ -40,28 +51,28 @@ impl ReceiveBuffer {
     pub fn as_slice(&self) -> &[u8]
         ensures { result.now ≡ self.now }
     {
-        self.bytes.as_slice()
+        &self.block[self.front..self.end]
     }
 
     /// How many bytes it has.
     pub fn len(&self) -> usize
         ensures { result ≡ length self.now }
     {
-        self.bytes.len()
+        self.end - self.front
     }
 
     /// Whether it has none.
     pub fn is_empty(&self) -> bool
         ensures { IsTrue result ↔ (self.now ≡ []) }
     {
-        self.bytes.is_empty()
+        self.as_slice().is_empty()
     }
 
     /// Drops every byte, and keeps the room.
     pub fn clear(&mut self)
         ensures { self.new ≡ [] }
     {
-        self.bytes.clear();
+        self.end = self.front;
     }
 
     /// Puts a piece at the end, where `awaited` bytes are to stand in all before any is taken: there is room for them
@@ -78,9 +89,27 @@ impl ReceiveBuffer {
         }
         let missing = awaited.saturating_sub(self.len()).max(piece.len());
         self.move_to_spare(missing)?;
-        self.bytes.settle(missing)?;
-        self.bytes.reserve(missing)?;
-        self.bytes.append(piece)
+        self.settle(missing)?;
+        self.reserve(missing)?;
+        put_at(&mut self.block, self.end, piece)?;
+        self.end += piece.len();
+        Ok(())
+    }
+
+    /// Has the next bytes come straight into its memory, at most `limit` of them, and says how many did. `None` where
+    /// it has no memory for so many behind its bytes: nothing was asked for any then.
+    pub fn receive_from<I: Incoming>(&mut self, limit: usize, incoming: &mut I) -> Option<usize>
+        requires { I.can_read incoming.old limit }
+        ensures came { IfSome result (λ count. (came : HasCome I.read_gives limit count incoming.old incoming.new) × (self.new ≡ self.old ++ take count came.room)) }
+        ensures none { IsNone result → (self.new ≡ self.old) × (incoming.new ≡ incoming.old) }
+    {
+        let room = self.end.saturating_add(limit);
+        if self.block.capacity() < room || lengthen(&mut self.block, room).is_err() {
+            return None;
+        }
+        let count = read_at(&mut self.block, self.end, limit, incoming);
+        self.end += count;
+        Some(count)
     }
 
     /// Keeps the memory of an empty list for later, where that is long, and more than what it keeps so far. The other
@@ -89,11 +118,23 @@ impl ReceiveBuffer {
         ensures stands { self.new ≡ self.old }
         ensures empty { empty.new ≡ empty.old }
     {
-        let least = LONG.max(self.spare.capacity());
-        if empty.is_empty() && empty.capacity() > least {
-            self.spare.clear();
-            mem::swap(&mut self.spare, empty);
+        if !empty.is_empty() {
+            return;
         }
+        if empty.capacity() > LONG.max(self.spare.capacity()) {
+            empty.front = 0;
+            mem::swap(&mut self.spare, &mut empty.items);
+        }
+        empty.clear();
+    }
+
+    /// Makes room for so many bytes behind those that are there.
+    fn reserve(&mut self, more: usize) -> Result<(), Memory>
+        ensures { self.new ≡ self.old }
+    {
+        let room = self.block.len() - self.end;
+        self.block.reserve(more.saturating_sub(room))?;
+        Ok(())
     }
 
     /// Moves the bytes to the memory that is kept for later, where they have no room for so many more and that has. So
@@ -102,13 +143,37 @@ impl ReceiveBuffer {
         ensures { self.new ≡ self.old }
     {
         let needed = ROOM.saturating_add(self.len()).saturating_add(more);
-        if self.bytes.capacity() < needed && needed <= self.spare.capacity() {
-            self.spare.clear();
-            self.spare.settle(0)?;
-            self.spare.append(self.bytes.as_slice())?;
-            mem::swap(&mut self.spare, &mut self.bytes);
+        if self.block.capacity() < needed && needed <= self.spare.capacity() {
+            lengthen(&mut self.spare, ROOM)?;
+            put_at(&mut self.spare, ROOM, &self.block[self.front..self.end])?;
+            mem::swap(&mut self.spare, &mut self.block);
+            self.end = ROOM + (self.end - self.front);
+            self.front = ROOM;
         }
         Ok(())
+    }
+
+    /// Moves the bytes up to the room that a long list has before them, where that is worth it for so many more: a
+    /// stream's bytes begin anywhere behind it.
+    fn settle(&mut self, more: usize) -> Result<(), Memory>
+        ensures { self.new ≡ self.old }
+    {
+        if self.is_empty() {
+            lengthen(&mut self.block, ROOM)?;
+            self.end = ROOM;
+            self.front = ROOM;
+        } else if self.front > ROOM && self.is_movable(more) {
+            move_to(&mut self.block, self.front, self.end, ROOM);
+            self.end = ROOM + (self.end - self.front);
+            self.front = ROOM;
+        }
+        Ok(())
+    }
+
+    /// Whether the bytes are no more than those that were dropped before them, or have no room for so many behind them.
+    fn is_movable(&self, more: usize) -> bool {
+        let room = self.block.capacity().saturating_sub(self.end);
+        self.len() <= self.front || room < more
     }
 
     /// An empty buffer, in the memory that is kept for later, if there is some.
@@ -116,11 +181,11 @@ impl ReceiveBuffer {
         ensures stands { self.new ≡ self.old }
         ensures empty { result ≡ [] }
     {
-        let mut bytes = mem::replace(&mut self.spare, Bytes::new(alloc));
-        bytes.clear();
         ReceiveBuffer {
-            bytes,
-            spare: Bytes::new(alloc),
+            block: mem::replace(&mut self.spare, Vec::new(alloc)),
+            front: 0,
+            end: 0,
+            spare: Vec::new(alloc),
         }
     }
 }
@@ -134,7 +199,7 @@ impl PacketBytes for ReceiveBuffer {
 
     /// No byte is moved: the room of those that are dropped is used again at the next `receive`.
     fn advance(&mut self, count: usize) {
-        self.bytes.advance(count);
+        self.front += count;
     }
 
     /// Where the part is long, and no shorter than what stands behind it, the memory of the bytes becomes its own, and
@@ -148,13 +213,14 @@ impl PacketBytes for ReceiveBuffer {
     ) -> Result<Bytes, Memory> {
         if len < LONG || len < self.len() - size {
             let part = Bytes::copied(alloc, &self.as_slice()[from..from + len])?;
-            self.bytes.advance(size);
+            self.advance(size);
             return Ok(part);
         }
         let mut rest = self.in_spare(alloc);
         rest.receive(&self.as_slice()[size..], 0)?;
-        let mut part = mem::replace(self, rest).bytes;
-        part.advance(from);
+        let taken = mem::replace(self, rest);
+        let mut part = Bytes::of(taken.block);
+        part.advance(taken.front + from);
         part.cut(len);
         Ok(part)
     }

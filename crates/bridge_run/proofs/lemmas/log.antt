@@ -7,3 +7,4 @@ pub mod Resting
 pub mod Rounds
 pub mod Opening
 pub mod Shared
+pub mod Stored

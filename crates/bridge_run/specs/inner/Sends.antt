@@ -1,10 +1,14 @@
 -- What an event has sent.
-use Rattle.std.specs.Prelude.{◌≡◌, ℕ, ◌++◌, ◌∷◌, ◌||◌, List}
+use Rattle.std.specs.Prelude.{◌≡◌, ℕ, ◌++◌, ◌∷◌, ◌||◌, List, [], false}
 use Rattle.usb_base.specs.Writes.{Begins}
 use Rattle.bridge_run.specs.events.Events.{LinkEvent}
 use Rattle.bridge_run.specs.declared.events.sent.Sent.{Sent}
 use Rattle.bridge_run.specs.events.Prescribed.{Prescribed, gained}
 use Rattle.bridge_run.specs.events.RanOut.{RanOutWithin}
+
+-- nothing is sent yet
+abbrev pub nothing : Sent
+nothing = record { to_client = []; to_host = []; refusals = []; lets_go = false }
 
 pub record SendsAll (p : Prescribed) (events : List LinkEvent) (e : LinkEvent) (old new : Sent) : Type 0 where
   pub client : new.to_client ≡ old.to_client ++ gained p.to_client events e

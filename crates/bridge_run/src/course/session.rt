@@ -21,6 +21,7 @@ ghost use Rattle.bridge_run.specs.inner.Idling.{NotIdle, IdledOnce, EndsWithin, 
 ghost use Rattle.usb_base.specs.declared.side.Side.TheVariants.{Client, Host};
 ghost use Rattle.gate_outside.specs.Link.{other};
 
+use crate::course::polling::poll;
 use crate::course::rounds::Rounds;
 use crate::course::serve_end::ServeEnd;
 use crate::events::event::{LinkEvent, ends_next};
@@ -297,9 +298,13 @@ impl<C: Served + Drop> Session<C> {
         if !self.rounds.is_up(side) {
             return Ok(());
         }
-        match doors.poll(side, buf) {
+        let came = poll(&mut self.core, side, buf, doors, tape.is_made());
+        match came.polled {
             Polled::Took(n) => {
                 self.rounds.take(n);
+                if came.stored {
+                    return self.rounds.settle();
+                }
                 self.happen(LinkEvent::SidePiece(side, &buf[..n]), doors, out, tape)
             }
             Polled::NotYet => self.be_quiet(side, doors, out, tape),

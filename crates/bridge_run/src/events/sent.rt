@@ -35,15 +35,15 @@ impl Sent {
         }
     }
 
-    /// Nothing again. The room is kept.
+    /// Nothing again. The memory is kept with the bytes that stand in it: so a stream that takes it can lend it.
     pub fn clear(&mut self)
         ensures client { self.new.to_client ≡ [] }
         ensures host { self.new.to_host ≡ [] }
         ensures refusals { self.new.refusals ≡ [] }
         ensures lets_go { self.new.lets_go ≡ false }
     {
-        self.to_client.clear();
-        self.to_host.clear();
+        self.to_client.advance(self.to_client.len());
+        self.to_host.advance(self.to_host.len());
         self.refusals.clear();
         self.lets_go = false;
     }

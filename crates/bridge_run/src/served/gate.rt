@@ -10,7 +10,7 @@ use crate::served::after_loss::AfterLoss;
 use crate::served::any::Served;
 use gate_core::Gate;
 use gate_history::{Event as GateEvent, Note, Notes, push_refusals};
-use usb_base::{Memory, Side};
+use usb_base::{Incoming, Memory, Side};
 
 /// A gate, and what becomes of a client whose device is lost.
 #[derive(Drop)]
@@ -52,6 +52,15 @@ impl Served for Gateway {
             .take(told, &mut sent.to_client, &mut sent.to_host)?;
         sent.lets_go |= lets_go(self.after_loss, &notes);
         push_refusals(&notes, &mut sent.refusals)
+    }
+
+    fn receive_from<I: Incoming>(
+        &mut self,
+        side: Side,
+        limit: usize,
+        incoming: &mut I,
+    ) -> Option<usize> {
+        self.gate.receive_from(side, limit, incoming)
     }
 }
 

@@ -18,7 +18,7 @@ use model_device::Gadget;
 use redir_host::{HostCore, HostNote, HostNotes};
 use std::alloc::Global;
 use std::mem;
-use usb_base::{Bytes, EpAddr, List, Memory, Refusal, Side};
+use usb_base::{Bytes, EpAddr, Incoming, List, Memory, Refusal, Side};
 
 /// What is done with an endpoint: its first request is performed, or its stream is offered a packet.
 #[derive(Clone, Copy)]
@@ -82,6 +82,7 @@ impl<G: Gadget> Lent<G> {
         ensures kept { self.new ≡ record self.old { waiting = if self.old.has_come then [] else self.old.waiting } }
     {
         if self.has_come {
+            to_client.clear();
             mem::swap(&mut self.waiting, to_client);
         }
     }
@@ -109,6 +110,16 @@ impl<G: Gadget> Served for Lent<G> {
         let acted = self.act(event, &mut sent.refusals);
         self.hand_on(&mut sent.to_client);
         acted
+    }
+
+    /// Behind each piece of a guest's the device is used: none is only kept.
+    fn receive_from<I: Incoming>(
+        &mut self,
+        _side: Side,
+        _limit: usize,
+        _incoming: &mut I,
+    ) -> Option<usize> {
+        None
     }
 }
 

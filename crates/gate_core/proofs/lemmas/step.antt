@@ -9,5 +9,6 @@ pub mod Sides
 pub mod Pieces
 pub mod Streams
 pub mod Event
+pub mod Received
 pub mod Ends
 pub mod Rests

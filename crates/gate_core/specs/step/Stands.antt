@@ -2,11 +2,13 @@
 use Rattle.std.specs.Prelude.{◌≡◌, ◌⊎◌, ◌++◌, ◌∷◌, [], ℕ, Bool, true, false, List, length, map, filter}
 use Rattle.usb_base.specs.Number.{AreBytes, capped}
 use Rattle.usb_base.specs.declared.reason.Reason.{Reason}
+use Rattle.usb_base.specs.declared.side.Side.{Side}
+use Rattle.usb_base.specs.declared.side.Side.TheVariants.{Client, Host}
 use Rattle.packet_stream.specs.Split.{Reader, Position, Splitting, split}
 use Rattle.packet_stream.specs.Streams.{StreamView, Drained, Closed, Holds as IsLeft}
 use Rattle.packet_stream.specs.Items.{onto}
 use Rattle.gate_history.specs.declared.note.Note.{Note}
-use Rattle.gate_history.specs.step.Events.{Event, client_bytes, host_bytes}
+use Rattle.gate_history.specs.step.Events.{Event, ClientPiece, HostPiece, client_bytes, host_bytes}
 use Rattle.redir_data.specs.Streams.{stream_start}
 use Rattle.gate_history.specs.step.Streams.{client_reader, client_start, host_reader}
 use Rattle.gate_history.specs.declared.item.Item.{Item}
@@ -102,6 +104,11 @@ IsReady g = g.failed ≡ false → HasPast g
 pub record TakesEvent (first : ℕ) (new : GateKept) (events : List Event) (e : Event) (client_old client_new host_old host_new : List ℕ) (notes : List Note) : Type 0 where
   pub stands : GateStands first new (e ∷ events)
   pub sends : EventSends first events e client_old client_new host_old host_new notes
+
+-- a piece of a side's stream
+abbrev pub piece_of : Side → List ℕ → Event
+piece_of Client piece = ClientPiece piece
+piece_of Host piece = HostPiece piece
 
 -- memory ran out within an event: the first of its items were taken, what they send was sent, and the gate stands for
 -- them; or not even its bytes have come
