@@ -1,5 +1,4 @@
 -- What is sent and told.
-pub mod Flushes
 pub mod Answers
 pub mod Facts
 pub mod Replies

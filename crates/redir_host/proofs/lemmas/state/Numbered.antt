@@ -1,5 +1,5 @@
 -- Requests under numbers that rise, as the list of them.
-use Rattle.std.proofs.Common.{◌≡◌, ◌<◌, ◌+◌, ℕ, Bool, true, false, cond, filter, List, [], ◌∷◌, ◌++◌, Some, None, refl, ap, subst, ◌∙◌, arith}
+use Rattle.std.proofs.Common.{◌≡◌, ◌<◌, ◌+◌, ℕ, Bool, true, false, cond, filter, List, [], ◌∷◌, ◌++◌, Some, refl, ap, subst, ◌∙◌, arith}
 use Rattle.std.specs.BTreeMap.{insert_entry}
 use Rattle.std.specs.BTreeMap.{is_at as is_key}
 use Rattle.std.specs.List.{find, AllByRecursion}
@@ -58,10 +58,6 @@ found_above {X = X} n t (x ∷ es) e above is =
       | true ↦ λ h. let same : x ≡ e = cc in subst (λ (y : ℕ × X). n < y.0) same above.0
       | false ↦ λ h. found_above n t es e above.1 h
     ] is
-
-pub none_at : {X : Type 0} → (n : ℕ) (es : List (ℕ × X)) → Below n es → lookup (at n) es ≡ None
-none_at n [] below = refl
-none_at n (x ∷ es) below = ap (λ (b : Bool). cond b (Some x.1) (lookup (at n) es)) (apart n x.0 (λ same. omega (arith, below.0, same))) ∙ none_at n es below.1
 
 -- ---- the first that passes a test
 

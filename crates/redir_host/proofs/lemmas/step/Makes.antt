@@ -1,9 +1,9 @@
 -- What the calls of a host make, put together.
-use Rattle.std.proofs.Common.{◌≡◌, Bor, ℕ, Bool, true, false, List, [], ◌∷◌, ◌++◌, Some, None, length, filter, map, if◌then◌else◌, refl, sym, ap, subst, ◌∙◌, append_assoc, arith, lit<}
+use Rattle.std.proofs.Common.{◌≡◌, ℕ, Bool, true, false, List, [], ◌∷◌, ◌++◌, Some, None, length, filter, map, if◌then◌else◌, refl, sym, ap, subst, ◌∙◌, append_assoc, arith, lit<}
 use Rattle.std.specs.Prelude.{Option, option_map, Result, Ok, Err, IfOk, IfSome, OnOk}
 use Rattle.std.specs.List.{find, flat_map, AllByRecursion as Each}
-use Rattle.std.specs.Option.{option_copied}
 use Rattle.std.proofs.lemmas.List.{append-nil}
+use Rattle.std.proofs.lemmas.Grind.{flat_map-append}
 use Rattle.usb_base.specs.Status.{is_success}
 use Rattle.usb_base.specs.declared.endpoint.EpTable.{EpTable}
 use Rattle.usb_base.specs.declared.status.UsbStatus.TheVariants.{Cancelled}
@@ -37,7 +37,6 @@ use Rattle.redir_host.specs.guest.Asking.{routed}
 use Rattle.redir_host.specs.device.Resets.{PerformsNow, ResetsTo}
 use Rattle.redir_host.specs.write.Readable.{InRange}
 use Rattle.redir_host.specs.state.Sound.{IsGuestRequest, IsRunning, IsSound}
-use Rattle.redir_host.proofs.lemmas.write.Flushes.{flat_map-append}
 use Rattle.redir_host.proofs.lemmas.state.Each.{each_appended, each_filtered, each_joined, given_if}
 
 -- and then one packet more
@@ -176,10 +175,6 @@ pub not_ready : {S : Type 0} (s new : S) (r : Option (S × Outcome)) → None �
 not_ready s new None is e = (refl, e)
 not_ready s new (Some done) is e = absurd cc
 
--- what is lent is what was found
-pub lent_is : (o : Option (Bor Request)) (x : Bor Request) (q : Request) (found : Option Request) → option_copied o ≡ found → o ≡ Some x → found ≡ Some q → x.now ≡ q
-lent_is o x q found copied lent is = let some : Some x.now ≡ Some q = sym (ap option_copied lent) ∙ copied ∙ is in cc
-
 pub on_ok_from : {T E : Type 0} (r : Result T E) (P : Type 0) → IfOk r (λ _. P) → OnOk r P
 on_ok_from (Ok v) P h = h
 on_ok_from (Err e) P h = tt
@@ -274,11 +269,6 @@ pub reset_outcome : {S : Type 0} (m : Meaning S) → IsGadget m → (h after : H
 reset_outcome {S = S} m lawful h after t o reset =
     let Says : Option (S × Outcome) → Type 0 = λ x. IfSome x (λ done. IsOutcome (routed route.Reset) done.1) in
     nothing_moved t o (subst Says reset.performed (lawful.outcomes h.gadget (routed route.Reset) reset_transfer))
-
--- and then it was performed
-pub performed_now : {S : Type 0} (o : Option (Move S)) (h new : Host S) (q : Request) (o0 o1 : List ℕ) → PerformsNow o new o0 o1 → TellsPerformed (with_id q o) h new (Done q.id) o0 o1
-performed_now None h new q o0 o1 now = absurd now
-performed_now (Some v) h new q o0 o1 now = record { told = refl; tells = now }
 
 -- a reset keeps what is known of a host, but for its device
 pub reset_sound : {S : Type 0} (m : Meaning S) (h after : Host S) (o : Outcome) → IsSound h → ResetsTo m h after o → IsSound after

@@ -1,15 +1,12 @@
--- Where a request is performed, a packet is offered or the device goes, something is sent; so an act that ends for want
--- of memory had something to send.
+-- Where a request is performed something is sent; so an act that ends for want of memory had something to send.
 use Rattle.std.proofs.Common.{◌≡◌, ℕ, ◌<◌, Bool, true, false, cond, List, [], ◌∷◌, ◌++◌, Some, None, length, if◌then◌else◌, refl, sym, ap, subst, ◌∙◌, arith, inr, length-append, append-nil}
-use Rattle.std.specs.Prelude.{Option, option_map, Result, Ok, Err, OnOk, OnErr, IsSome, IfSome, IsSomeAnd}
+use Rattle.std.specs.Prelude.{Option, option_map, Result, Ok, Err, OnOk, OnErr, IsSome, IfSome}
 use Rattle.std.specs.List.{find}
 use Rattle.std.proofs.lemmas.Result.{on_err_weaker}
 use Rattle.usb_base.specs.Status.{is_success}
 use Rattle.usb_base.specs.declared.endpoint.EpTable.{EpTable}
 use Rattle.usb_base.specs.declared.transfer.Outcome.{Outcome}
-use Rattle.usb_base.specs.declared.transfer.StreamPacket.{StreamPacket}
 use Rattle.redir_data.specs.declared.state.RedirState.{RedirState}
-use Rattle.redir_data.specs.declared.stream_kind.StreamKind.{StreamKind}
 use Rattle.control_route.specs.declared.route.Route.{Route}
 use Rattle.control_route.specs.declared.route.Route.TheVariants as route
 use Rattle.model_device.specs.Gadget.{IsGadget}
@@ -19,12 +16,9 @@ use Rattle.redir_host.specs.declared.state.host.Host.{Host}
 use Rattle.redir_host.specs.declared.state.request.Form.{Form}
 use Rattle.redir_host.specs.declared.state.request.Form.TheVariants as form
 use Rattle.redir_host.specs.declared.state.request.Request.{Request}
-use Rattle.redir_host.specs.declared.state.running.Running.{Running}
 use Rattle.redir_host.specs.device.Changes.{change_of, changed}
-use Rattle.redir_host.specs.device.Offering.{offer_move, offered_by, offered_on, unplug_move}
 use Rattle.redir_host.specs.device.Performing.{does, done_by, first_performed, perform_move, perform_move_by, performed, performs, performs_any, performs_marked, resets, with_id}
 use Rattle.redir_host.specs.guest.Asking.{routed}
-use Rattle.redir_host.specs.guest.Packets.{runs_at}
 use Rattle.usb_base.specs.Firsts.{without_first}
 use Rattle.redir_host.specs.state.Queues.{is_at}
 use Rattle.redir_host.specs.state.Sound.{IsGuestRequest}
@@ -32,7 +26,7 @@ use Rattle.redir_host.specs.step.Acts.{Act}
 use Rattle.redir_host.specs.step.History.{brought}
 use Rattle.redir_host.specs.step.Items.{Item}
 use Rattle.redir_host.specs.step.Machine.{move}
-use Rattle.redir_host.specs.step.Moves.{Move, quiet, behind}
+use Rattle.redir_host.specs.step.Moves.{Move, behind}
 use Rattle.redir_host.specs.step.Stands.{StopsInAct}
 use Rattle.redir_host.specs.step.Wants.{GivesSome}
 use Rattle.redir_host.specs.write.Answers.{answer}
@@ -166,27 +160,6 @@ pub marked-some : {S : Type 0} (m : Meaning S) → IsGadget m → (h : Host S) (
 marked-some {S = S} m lawful h ep q plugged found mark is =
     let rest : Host S = record h { queue = without_first (is_at ep) h.queue } in
     found-some m h ep q true plugged found mark (some-marked m lawful rest q h.guest is (is.marked mark) q.form)
-
-pub unmarked-some : {S : Type 0} (m : Meaning S) (h : Host S) (ep : ℕ) (q : Request) → h.unplugged ≡ false → find (is_at ep) h.queue ≡ Some q → q.reset ≡ false
-    → IsSomeAnd (find (is_at ep) h.queue) (λ x. IsSome (m.perform h.gadget x.transfer)) → IsSome (performed m h ep)
-unmarked-some {S = S} m h ep q plugged found mark ready =
-    let rest : Host S = record h { queue = without_first (is_at ep) h.queue } in
-    found-some m h ep q false plugged found mark (some-performs m rest q (subst (λ (o : Option Request). IsSomeAnd o (λ x. IsSome (m.perform h.gadget x.transfer))) found ready))
-
--- ---- offers, and the end
-
-given-gives : {S : Type 0} (h : Host S) (ep : ℕ) (k : StreamKind) (o : Option (S × StreamPacket)) → IsSome o → GivesSome h (offered_by h ep k o)
-given-gives h ep k None some = absurd cc
-given-gives h ep k (Some sent) some = omega arith
-
-pub offered-gives : {S : Type 0} (m : Meaning S) (h : Host S) (ep : ℕ) (s : Running) → h.unplugged ≡ false → find (runs_at ep) h.running ≡ Some s → IsSome (m.offer h.gadget ep) → GivesSome h (offer_move m h ep)
-offered-gives {S = S} m h ep s plugged found some =
-    let Says : Move S → Type 0 = λ v. GivesSome h v in
-    subst Says (ap (offered_on m h ep) (sym found) ∙ ap (λ (b : Bool). if b then quiet h else offered_on m h ep (find (runs_at ep) h.running)) (sym plugged))
-    (given-gives h ep s.kind (m.offer h.gadget ep) some)
-
-pub unplugged-gives : {S : Type 0} (h : Host S) → h.unplugged ≡ false → h.guest.first ≡ false → GivesSome h (unplug_move h)
-unplugged-gives h plugged greeted = rw (plugged, greeted) (omega arith)
 
 -- ---- an act of one item
 
