@@ -51,12 +51,6 @@ descriptors-whole (suc n) place (b ∷ bytes) h e =
     ap (λ ds. record { place = place; bytes = b ∷ bytes } ∷ ds)
     (ap (λ t. cond t (descriptors n (place + b) (drop b (b ∷ bytes))) []) e ∙ descriptors-most n (suc n) (place + b) (drop b (b ∷ bytes)) (omega (arith, length-drop b (b ∷ bytes))) (omega (arith, length-drop b (b ∷ bytes))))
 
--- one that isn't whole is the last
-descriptors-last : (n place : ℕ) (bytes : List ℕ) → length bytes ≤ n → 0 < length bytes → is_whole bytes ≡ false → descriptors n place bytes ≡ record { place = place; bytes = bytes } ∷ []
-descriptors-last n place [] h k e = absurd (omega arith)
-descriptors-last zero place (b ∷ bytes) h k e = absurd (omega arith)
-descriptors-last (suc n) place (b ∷ bytes) h k e = ap (λ t. record { place = place; bytes = b ∷ bytes } ∷ cond t (descriptors n (place + b) (drop b (b ∷ bytes))) []) e
-
 -- ---- one step of a walk
 
 right_by : {A : Type 0} (t : Bool) (a b : A) → Some a ≡ cond t (Some b) None → (t ≡ true) × (a ≡ b)

@@ -1,5 +1,5 @@
 -- The first element that passes a test: `position`, `find`, `without_first` and `change_first` together.
-use Rattle.std.proofs.Common.{◌≡◌, ℕ, suc, ◌+◌, ◌<◌, ◌≤◌, Bool, true, false, cond, not, ltb, List, [], ◌∷◌, length, map, filter, count_by, set, Some, None, is_some, ◌||◌, refl, ap, sym, ◌∙◌, zero-add, arith, ◌⊎◌, inl, inr}
+use Rattle.std.proofs.Common.{◌≡◌, ℕ, suc, ◌+◌, ◌<◌, ◌≤◌, Bool, true, false, cond, not, ltb, List, [], ◌∷◌, length, filter, count_by, set, Some, None, is_some, ◌||◌, refl, ap, sym, ◌∙◌, zero-add, arith, ◌⊎◌, inl, inr}
 use Rattle.std.specs.List.{find, position, position_or_len, remove, slice_get, list_any}
 use Rattle.std.proofs.lemmas.Bool.{ltb-true, ltb-false, lt-ltb, cases_Bool, false≢true}
 use Rattle.std.proofs.lemmas.Grind.{common_steps}
@@ -141,15 +141,6 @@ module _ {X : Type 0} where
         | inr other ↦ rw other (ap (λ ys. cond (q x) (x ∷ ys) ys) (filter-without_first p q apart xs))
       ]
 
-  -- and finds first what it found
-  pub find-without_first : (p q : X → Bool) → ((x : X) → q x ≡ true → p x ≡ false) → (xs : List X) → find q (without_first p xs) ≡ find q xs
-  find-without_first p q apart [] = refl
-  find-without_first p q apart (x ∷ xs) =
-      elim (taken_or_other p q apart x) [
-        | inl taken ↦ rw (taken.0, taken.1) refl
-        | inr other ↦ rw other (ap (cond (q x) (Some x)) (find-without_first p q apart xs))
-      ]
-
   -- where none passes all stay
   pub without_none : (p : X → Bool) (xs : List X) → count_by p xs ≡ 0 → filter (λ x. not (p x)) xs ≡ xs
   without_none p [] none = refl
@@ -166,38 +157,4 @@ module _ {X : Type 0} where
       elim (cases_Bool (p x)) [
         | inl here ↦ (let e = at_most _ _ (counted p x xs here) once in rw here (sym (without_none p xs (omega (arith, e)))))
         | inr other ↦ rw other (ap (λ ys. x ∷ ys) (without_first-filter p xs (at_most _ _ (uncounted p x xs other) once)))
-      ]
-
-  map_none : (p : X → Bool) (f : X → X) (xs : List X) → count_by p xs ≡ 0 → map (λ x. cond (p x) (f x) x) xs ≡ xs
-  map_none p f [] none = refl
-  map_none p f (x ∷ xs) none =
-      elim (cases_Bool (p x)) [
-        | inl here ↦ (let e = counted p x xs here ∙ none in absurd (omega (arith, e)))
-        | inr other ↦ rw other (ap (λ ys. x ∷ ys) (map_none p f xs (uncounted p x xs other ∙ none)))
-      ]
-
-  -- and the list with the first changed is the list with each changed
-  pub change_first-map : (p : X → Bool) (f : X → X) (xs : List X) → count_by p xs ≤ 1 → change_first p f xs ≡ map (λ x. cond (p x) (f x) x) xs
-  change_first-map p f [] once = refl
-  change_first-map p f (x ∷ xs) once =
-      elim (cases_Bool (p x)) [
-        | inl here ↦ (let e = at_most _ _ (counted p x xs here) once in rw here (ap (λ ys. f x ∷ ys) (sym (map_none p f xs (omega arith)))))
-        | inr other ↦ rw other (ap (λ ys. x ∷ ys) (change_first-map p f xs (at_most _ _ (uncounted p x xs other) once)))
-      ]
-
-  -- what a change doesn't touch stays of each
-  pub map-change_first : {Y : Type 0} (g : X → Y) (p : X → Bool) (f : X → X) → ((x : X) → g (f x) ≡ g x) → (xs : List X) → map g (change_first p f xs) ≡ map g xs
-  map-change_first g p f same [] = refl
-  map-change_first g p f same (x ∷ xs) =
-      elim (cases_Bool (p x)) [
-        | inl here ↦ rw here (ap (λ y. y ∷ map g xs) (same x))
-        | inr other ↦ rw other (ap (λ ys. g x ∷ ys) (map-change_first g p f same xs))
-      ]
-
-  pub length-change_first : (p : X → Bool) (f : X → X) (xs : List X) → length (change_first p f xs) ≡ length xs
-  length-change_first p f [] = refl
-  length-change_first p f (x ∷ xs) =
-      elim (cases_Bool (p x)) [
-        | inl here ↦ rw here refl
-        | inr other ↦ rw other (ap suc (length-change_first p f xs))
       ]

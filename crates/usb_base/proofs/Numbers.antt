@@ -4,7 +4,7 @@ use Rattle.std.proofs.Common.{◌≡◌, ℕ, zero, suc, ◌+◌, ◌-◌, ◌^�
 use Rattle.std.specs.Int.{Width, w16, w32, byte_len, from_be_bytes, from_le_bytes, byte_at, bytes_high_first, bytes_low_first}
 use Rattle.std.proofs.lemmas.Bool.{cases_lt}
 use Rattle.std.proofs.lemmas.List.{take_at, drop_at, take-append-le, drop-append-le, drop-drop, length-take, length-drop, get_or-drop, get_or-take, get_or_past, get_or_append_left, get_or-append-add, get_or-append_right}
-use Rattle.std.proofs.lemmas.Nat.{be_bytes_2, be_bytes_4, le_bytes_2, le_bytes_4, from_be_bytes-to_be_bytes_2, from_be_bytes-to_be_bytes_4, from_le_bytes-to_le_bytes_2, from_le_bytes-to_le_bytes_4}
+use Rattle.std.proofs.lemmas.Nat.{be_bytes_2, be_bytes_4, le_bytes_2, le_bytes_4, from_be_bytes-to_be_bytes_2, from_be_bytes-to_be_bytes_4, from_le_bytes-to_le_bytes_2}
 use Rattle.std.proofs.Math.Seq.{take-add, drop-append-add}
 use Rattle.usb_base.specs.Number.{be, le, part, be_at, le_at, AreBytes}
 
@@ -109,10 +109,6 @@ pub le_at-le_16 : (n : ℕ) (more : List ℕ) → n < 2 ^ 16 → le_at w16 0 (le
 unfolding le le_at
 le_at-le_16 n more fits = from_le_bytes-to_le_bytes_2 n fits
 
-pub le_at-le_32 : (n : ℕ) (more : List ℕ) → n < 2 ^ 32 → le_at w32 0 (le w32 n ++ more) ≡ n
-unfolding le le_at
-le_at-le_32 n more fits = from_le_bytes-to_le_bytes_4 n fits
-
 length-high : (k n : ℕ) → length (bytes_high_first k n) ≡ k
 length-high zero n = refl
 length-high (suc k) n = ap suc (length-high k n)
@@ -138,19 +134,10 @@ AreBytes-high zero n i = omega arith
 AreBytes-high (suc k) n zero = byte_below k n
 AreBytes-high (suc k) n (suc i) = AreBytes-high k n i
 
-AreBytes-low : (i k n : ℕ) → AreBytes (bytes_low_first i k n)
-AreBytes-low i zero n j = omega arith
-AreBytes-low i (suc k) n zero = byte_below i n
-AreBytes-low i (suc k) n (suc j) = AreBytes-low (suc i) k n j
-
 -- what spells a number is bytes
 pub AreBytes-be : (w : Width) (n : ℕ) → AreBytes (be w n)
 unfolding be
 AreBytes-be w n = AreBytes-high (byte_len w) n
-
-pub AreBytes-le : (w : Width) (n : ℕ) → AreBytes (le w n)
-unfolding le
-AreBytes-le w n = AreBytes-low 0 (byte_len w) n
 
 -- ---- behind a front
 
@@ -161,19 +148,12 @@ pub be_skip : (w : Width) (p : ℕ) (xs ys : List ℕ) → be_at w (length xs + 
 unfolding be_at
 be_skip w p xs ys = ap (from_be_bytes w) (part_skip p (byte_len w) xs ys)
 
-pub le_skip : (w : Width) (p : ℕ) (xs ys : List ℕ) → le_at w (length xs + p) (xs ++ ys) ≡ le_at w p ys
-unfolding le_at
-le_skip w p xs ys = ap (from_le_bytes w) (part_skip p (byte_len w) xs ys)
-
 -- behind a front of k bytes
 pub part_past : (k p n : ℕ) (xs ys : List ℕ) → length xs ≡ k → part (k + p) n (xs ++ ys) ≡ part p n ys
 part_past k p n xs ys e = ap (λ (m : ℕ). part (m + p) n (xs ++ ys)) (sym e) ∙ part_skip p n xs ys
 
 pub be_past : (w : Width) (k p : ℕ) (xs ys : List ℕ) → length xs ≡ k → be_at w (k + p) (xs ++ ys) ≡ be_at w p ys
 be_past w k p xs ys e = ap (λ (m : ℕ). be_at w (m + p) (xs ++ ys)) (sym e) ∙ be_skip w p xs ys
-
-pub le_past : (w : Width) (k p : ℕ) (xs ys : List ℕ) → length xs ≡ k → le_at w (k + p) (xs ++ ys) ≡ le_at w p ys
-le_past w k p xs ys e = ap (λ (m : ℕ). le_at w (m + p) (xs ++ ys)) (sym e) ∙ le_skip w p xs ys
 
 be_here : (w : Width) (k : ℕ) (xs ys : List ℕ) → length xs ≡ k → be_at w k (xs ++ ys) ≡ be_at w 0 ys
 unfolding be_at
@@ -195,9 +175,6 @@ be_found_32 k n xs more e fits = ap (be_at w32 k) (append_assoc xs (be w32 n) mo
 
 pub le_found_16 : (k n : ℕ) (xs more : List ℕ) → length xs ≡ k → n < 2 ^ 16 → le_at w16 k (xs ++ le w16 n ++ more) ≡ n
 le_found_16 k n xs more e fits = ap (le_at w16 k) (append_assoc xs (le w16 n) more) ∙ le_here w16 k xs (le w16 n ++ more) e ∙ le_at-le_16 n more fits
-
-pub le_found_32 : (k n : ℕ) (xs more : List ℕ) → length xs ≡ k → n < 2 ^ 32 → le_at w32 k (xs ++ le w32 n ++ more) ≡ n
-le_found_32 k n xs more e fits = ap (le_at w32 k) (append_assoc xs (le w32 n) more) ∙ le_here w32 k xs (le w32 n ++ more) e ∙ le_at-le_32 n more fits
 
 -- ---- bounds
 
