@@ -12,16 +12,8 @@ use Rattle.disk_gadget.specs.declared.stage.Answer.TheVariants.{Text, Blocks}
 use Rattle.disk_gadget.specs.declared.wrapper.Wrapper.{Wrapper}
 use Rattle.disk_gadget.specs.Accesses.{Access, ReadOf, WriteOf, blocks_after, count_of, put}
 use Rattle.disk_gadget.specs.Acts.{Act, act_of, command_act, is_crossed, is_past_end}
-use Rattle.disk_gadget.specs.Turns.{cut_answer, left_of, rest_of}
+use Rattle.disk_gadget.specs.Turns.{cut_answer, left_of}
 use Rattle.disk_gadget.specs.Within.{AnswerWithin, GivenFits, PlaceWithin}
-
--- ---- an answer of which some is given
-
-pub rest_within : (size residue n : ℕ) (answer : Answer) → n ≤ left_of answer → AnswerWithin size residue answer → AnswerWithin size (residue - n) (rest_of n answer)
-rest_within size residue n (Text rest) le h = record { moved = let m = h.moved in omega (arith, length-drop n rest); fits = tt; place = tt }
-rest_within size residue n (Blocks block given left) le h =
-    let m = h.moved in let f = h.fits in let p = h.place in
-    record { moved = omega arith; fits = omega arith; place = omega arith }
 
 -- ---- blocks that aren't past the end
 

@@ -17,8 +17,6 @@ use Rattle.redir_wire.specs.declared.kind.DataKind.{DataKind}
 use Rattle.redir_wire.specs.declared.kind.DataKind.TheVariants.{Control, Bulk, Iso, Interrupt}
 use Rattle.redir_wire.specs.Table.{data_numbered}
 use Rattle.redir_wire.specs.Bodies.{with_header, behind}
-use Rattle.redir_wire.specs.Plain.{controls}
-use Rattle.redir_wire.specs.Plain as wire
 use Rattle.redir_wire.specs.Reads.{AnswersBehind}
 use Rattle.redir_data.specs.declared.packet.RedirPacket.{RedirPacket}
 use Rattle.redir_data.specs.Places.{fixed, told_length, fields_with, fields_at}
@@ -70,12 +68,6 @@ near_checks : (cs : List (Check Reason)) (b : List ℕ) (w : ℕ × Reason) → 
 unfolding AreNear
 near_checks [] b w near e = absurd cc
 near_checks (c ∷ cs) b w near e = near_step (fails c b) c.place c.reason (wrong_at cs b) w near.0 (near_checks cs b w near.1) e
-
-pub control_near : (caps : Caps) (h : Header) (b : List ℕ) (e : ReadError) → AnswersBehind h wire.takes_memory (Err e) (reading (behind (controls caps) h) b) → IsNear e
-unfolding AreNear
-control_near caps h b (error.Refused place reason) is =
-    near_checks (with_header h (controls caps).checks) b (place, reason) (omega arith, tt) (wrong_parts (behind (controls caps) h) b place reason is)
-control_near caps h b (error.Memory memory) is = tt
 
 pub data_near : (caps : Caps) (way : Way) (h : Header) (b : List ℕ) (e : ReadError) → AnswersBehind h has_data (Err e) (reading (behind (transfers caps way) h) b) → IsNear e
 unfolding AreNear

@@ -23,7 +23,7 @@ use Rattle.redir_wire.specs.Table.{plain_row, has_length}
 use Rattle.redir_wire.specs.Words.{numbers, numbers_of}
 use Rattle.redir_wire.specs.Field.{wire_bytes}
 use Rattle.redir_wire.specs.Spelling.{kind_of, number_of, fields}
-use Rattle.redir_wire.specs.Ranges.{IsSent, IsWritable, Ranges, IsControl}
+use Rattle.redir_wire.specs.Ranges.{IsSent, Ranges, IsControl}
 use Rattle.redir_wire.specs.Places.{hello_at, connect_at, interface_info_at, ep_info_at}
 use Rattle.redir_wire.specs.Table.{fields_at}
 use Rattle.redir_wire.proofs.Lengths.{connect_fields, interface_fields, endpoint_fields, length_fields}
@@ -122,9 +122,6 @@ hello_found caps n b are h there =
 -- fields of so many bytes
 of_length : (n m : ℕ) (b xs : List ℕ) → (n == m) ≡ true → n ≤ length b → (m ≤ length b → xs ≡ take m b) → xs ≡ take n b
 of_length n m b xs e there h = let is = eqb-true n m e in h (omega arith) ∙ ap (λ (x : ℕ). take x b) (sym is)
-
-plain_fits : (caps : Caps) (c : RedirControl) → Ranges c → IsWritable caps c → IsControl caps c
-plain_fits caps c r w = record { ranges = r; writable = w }
 
 pub found_as : (caps : Caps) (n : ℕ) (k : PlainKind) (b : List ℕ) → AreBytes b → has_length caps (plain_row k) n ≡ true → n ≤ length b →
     ((plain_row k).number ≡ 4 → 4 ≤ length b → le_at w32 0 b ≤ 32) → IsFoundAs caps n k b

@@ -1,11 +1,11 @@
 -- The checks of a header, and that headers are sound.
-use Rattle.std.proofs.Common.{◌≡◌, ℕ, ◌≤◌, Bool, List, [], ◌++◌, length, take, None, refl, sym, ap, subst, arith}
+use Rattle.std.proofs.Common.{◌≡◌, ℕ, ◌≤◌, Bool, List, [], ◌++◌, length, take, None, refl, sym, ap, arith}
 use Rattle.std.specs.Int.{w32}
 use Rattle.usb_base.specs.Number.{le_at, AreBytes}
 use Rattle.usb_base.specs.declared.reason.Reason.{Reason}
 use Rattle.usb_base.proofs.Numbers.{le_at-append_32, le_at-below_32}
-use Rattle.packet_stream.specs.Format.{Check, wrong_at, IsSound, reading, Whole}
-use Rattle.packet_stream.proofs.Formats.{AreSteady, stays_wrong, whole_parts}
+use Rattle.packet_stream.specs.Format.{Check, wrong_at, IsSound}
+use Rattle.packet_stream.proofs.Formats.{AreSteady, stays_wrong}
 use Rattle.redir_wire.specs.declared.packet.Caps.{Caps}
 use Rattle.redir_wire.specs.declared.packet.Way.{Way}
 use Rattle.redir_wire.specs.declared.packet.Header.{Header}
@@ -79,16 +79,3 @@ headers_sound first caps way = record {
   some = λ b. let least = size_least (is_wide first caps) in omega arith;
   steady = stays_wrong (head_checks first caps way) 0 (heads_steady first caps way [] 0 (omega arith) tt);
 }
-
--- what a whole header that was read is
-pub record IsRead (first : Bool) (caps : Caps) (way : Way) (b : List ℕ) (h : Header) (n : ℕ) : Type 0 where
-  pub header : IsHeader first caps way h
-  pub is : header_at (is_wide first caps) b ≡ h
-  pub size : head_size (is_wide first caps) ≡ n
-  pub there : n ≤ length b
-
-pub header_read : (first : Bool) (caps : Caps) (way : Way) (b : List ℕ) (h : Header) (n : ℕ) → AreBytes b → reading (headers first caps way) b ≡ Whole h n → IsRead first caps way b h n
-header_read first caps way b h n are e =
-    let parts = whole_parts (headers first caps way) b h n e in
-    let is = found first caps way b are parts.0 parts.1 in
-    record { header = subst (IsHeader first caps way) parts.3 is.1; is = parts.3; size = parts.2; there = subst (λ (m : ℕ). m ≤ length b) parts.2 parts.1 }

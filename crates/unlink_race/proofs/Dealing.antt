@@ -34,9 +34,6 @@ Dealt arena rows n = (j : ℕ) → j < n → get_or (ranks_of arena rows) j 0 �
 pub long_ranks : (arena : ArenaView (ℕ × Live)) (rows : List ℕ) → IsKeyed key_of (entry_of arena) rows → length (ranks_of arena rows) ≡ length rows
 long_ranks arena rows kept = length-map (in_order arena rows) rank_of ∙ length-listed key_of (entry_of arena) rows kept
 
-pub none_dealt : (arena : ArenaView (ℕ × Live)) (rows : List ℕ) → IsKeyed key_of (entry_of arena) rows → HasDealt arena arena rows
-none_dealt arena rows kept = record { kept = kept; lives = refl; count = refl; capacity = refl; lanes = refl; keys_stay = refl }
-
 pub all_dealt : (arena : ArenaView (ℕ × Live)) (rows : List ℕ) (n : ℕ) → IsKeyed key_of (entry_of arena) rows → length rows ≤ n → Dealt arena rows n → Rises 0 (ranks_of arena rows) (length rows)
 all_dealt arena rows n kept all dealt =
     let long = long_ranks arena rows kept in

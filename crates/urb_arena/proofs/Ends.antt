@@ -14,10 +14,6 @@ differ : {Y : Type 0} (y : Y) → Some y ≡ None → ⊥
 differ {Y} y e = let one = ap {B = ℕ} (λ (c : Option Y). elim c as (λ _. ℕ) [ None ↦ 0 | Some i ↦ 1 ]) e in omega (arith, one)
 
 module _ {X : Type 0} where
-  pub no_first : (ps : List (ℕ × X)) → first_key ps ≡ None → ps ≡ []
-  no_first [] e = refl
-  no_first (p ∷ ps) e = absurd (differ p.0 e)
-
   -- a first key is found
   pub first_found : (k : ℕ) (pss : List (List (ℕ × X))) (r : ℕ) → first_key (get_or pss r []) ≡ Some k → (x : X) × (find_in k pss ≡ Some x)
   first_found k [] r e = absurd (differ k (sym e))

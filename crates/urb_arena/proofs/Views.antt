@@ -341,9 +341,6 @@ module _ {X : Type 0} (t : Table X) (is : IsTable t) where
   unfolding lanes_of
   table_found k live = found_live t.block.links t.block.values t.lanes t.capacity is.tied is.filled k live
 
-  pub table_value : (k : ℕ) → LiveIn k → There t.block.values k
-  table_value k live = is.filled.live k live.0 live.1 live.2
-
   pub table_some : (k : ℕ) → LiveIn k → 1 ≤ t.len
   table_some k live =
       let f = ring_of t.block.links k in let r = row t.block.links in let cut = In-split k (r f) (is.tied.found k live.0 live.1).1 in

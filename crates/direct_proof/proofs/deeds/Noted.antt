@@ -19,10 +19,6 @@ use Rattle.direct_device.specs.Acting.{Deed, Answer, Gone, ClientGone}
 use Rattle.direct_device.specs.Legal.{item_of as deed_item}
 use Rattle.direct_proof.specs.Deeds.{import_deeds, submit_deeds, unlink_deeds, arrive_deeds, answer_deeds, deeds_of, when as when_deed}
 
-flat-ones : {X : Type 0} (f : X → Note) (g : X → Item) → ((x : X) → item_of (f x) ≡ g x ∷ []) → (xs : List X) → flat_map item_of (map f xs) ≡ map g xs
-flat-ones f g h [] = refl
-flat-ones f g h (x ∷ xs) = λ i. h x i ++ flat-ones f g h xs i
-
 -- what one effect tells: an import, an unlink, what came, a submit
 tells : (e : Effect) → map deed_item (import_deeds e ++ submit_deeds e ++ unlink_deeds e ++ arrive_deeds e) ≡ flat_map item_of (came_notes e ++ submit_notes e)
 tells (Imports reply) = refl

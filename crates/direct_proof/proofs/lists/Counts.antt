@@ -6,13 +6,6 @@ use Rattle.gate_history.proofs.lemmas.Lists.{both, Each-weaker}
 pub use Rattle.direct_device.proofs.Counts.{count-append, count-map, count-parts, any-some, any-none, count-zero, zero-count, itself, Each-and, Each-map}
 use Rattle.direct_proof.specs.Ids.{count}
 
-pub count-some : {X : Type 0} (p : X → Bool) (xs : List X) → list_any p xs ≡ true → 1 ≤ count p xs
-count-some p [] e = absurd (cc)
-count-some p (x ∷ xs) e0 =
-    let rest : list_any p xs ≡ true → 1 ≤ count p xs = count-some p xs in
-    (elim (p x) as (λ b. (b || list_any p xs) ≡ true → 1 ≤ cond b 1 0 + count p xs)
-    [ true ↦ (λ e. omega arith) | false ↦ (λ e. let r : 1 ≤ count p xs = rest e in omega arith) ]) e0
-
 pub count-both : {X : Type 0} (p q : X → Bool) (xs : List X) → count (λ x. both (p x) (q x)) xs ≤ count p xs
 count-both p q [] = omega arith
 count-both p q (x ∷ xs) =

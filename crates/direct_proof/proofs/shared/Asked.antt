@@ -55,10 +55,6 @@ module _ (f : Entry → Entry) (same_id : (e : Entry) → (f e).id ≡ e.id) (sa
   line-ask [] = refl
   line-ask (e ∷ es) = λ i. at_host (record { id = same_id e i; load = same_load e i; asked = e.asked }) ++ line-ask es i
 
-  pub each-ask : (P : Entry → Type 0) → ((e : Entry) → P e → P (f e)) → (es : List Entry) → Each P es → Each P (map f es)
-  each-ask P h [] k = tt
-  each-ask P h (e ∷ es) k = (h e k.0, each-ask P h es k.1)
-
 -- ---- cancels
 
 pub cancels-line : (ps : List Pending) → lines (map cancel ps) ≡ []

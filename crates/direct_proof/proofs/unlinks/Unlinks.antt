@@ -33,12 +33,6 @@ module _ (st : State) (by target : ℕ) where
   abbrev pub what : Effect
   what = Unlinks by target
 
-  taken : Pending → Bool
-  taken p = gate_taken target p
-
-  ends-as : (p : Pending) → ends what p.submit ≡ cond (gate_taken target p) (Some (ByUnlink by)) None
-  ends-as p = refl
-
   stays-as : (p : Pending) → is_none (ends what p.submit) ≡ not (gate_taken target p)
   stays-as p = elim (gate_taken target p) as (λ b. is_none (cond b (Some (ByUnlink by)) None) ≡ not b) [ true ↦ refl | false ↦ refl ]
 

@@ -94,13 +94,6 @@ some-joined {X = X} f (y ∷ ys) zero x few e h =
     omega (arith, h, here, length-append (f y) (flat_map f ys))
 some-joined f (y ∷ ys) (suc n) x few e h = omega (arith, some-joined f ys n x (omega (arith, few)) e h, length-append (f y) (flat_map f ys))
 
-pub list_any-filter : {X : Type 0} (p q : X → Bool) (xs : List X) → list_any p (filter q xs) ≡ list_any (λ x. both (q x) (p x)) xs
-list_any-filter p q [] = refl
-list_any-filter p q (x ∷ xs) =
-    let rest = list_any-filter p q xs in
-    elim (q x) as (λ b. list_any p (cond b (x ∷ filter q xs) (filter q xs)) ≡ (both b (p x) || list_any (λ y. both (q y) (p y)) xs))
-    [ true ↦ ap (λ (b : Bool). p x || b) rest | false ↦ rest ]
-
 keep-pass : {X : Type 0} (p : X → Bool) (x : X) (l : List X) (b : Bool) → p x ≡ b → Each (λ y. p y ≡ true) l → Each (λ y. p y ≡ true) (cond b (x ∷ l) l)
 keep-pass p x l true e h = (e, h)
 keep-pass p x l false e h = h

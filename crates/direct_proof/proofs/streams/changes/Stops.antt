@@ -147,10 +147,6 @@ pub stops-lines : (test : Up → Bool) (zs : List (ℕ × RedirPacket)) → Each
 stops-lines test [] h = refl
 stops-lines test (z ∷ zs) h = (λ i. h.0.switch.line i ++ stops-lines test zs h.1 i)
 
-pub stops-unchanged : (test : Up → Bool) (zs : List (ℕ × RedirPacket)) → Each (StopsOne test) zs → list_any (asks None) zs ≡ false
-stops-unchanged test [] h = refl
-stops-unchanged test (z ∷ zs) h = (λ i. h.0.switch.no_change i || stops-unchanged test zs h.1 i)
-
 pub stops-in : (test : Up → Bool) (zs : List (ℕ × RedirPacket)) → Each (StopsOne test) zs → Each (λ (p : ℕ × RedirPacket). StreamIsIn (stream_endpoint p.1)) zs
 stops-in test [] h = tt
 stops-in test (z ∷ zs) h = (subst StreamIsIn (sym h.0.is.stream) h.0.is_in, stops-in test zs h.1)

@@ -89,9 +89,6 @@ pub asked-by : (fence : Option ℕ) (ps : List (ℕ × RedirPacket)) → list_an
 asked-by fence [] h = absurd (true≢false (sym h))
 asked-by fence (q ∷ ps) h = go (asked-by fence ps) (or_cases (asks fence q) (list_any (asks fence) ps) h)
   where
-    lined : Bool
-    lined = list_any line_changes (lines ps)
-
     in-front : (list_any line_changes (in_line q) ≡ true) ⊎ ((is_fence fence q.0 ≡ true) × (stream_id q ≡ q.0 ∷ [])) → (list_any line_changes (lines (q ∷ ps)) ≡ true) ⊎ Stops fence (q ∷ ps)
     in-front (inl k) = inl (list_any-append line_changes (in_line q) (lines ps) ∙ or_left (list_any line_changes (in_line q)) (list_any line_changes (lines ps)) k)
     in-front (inr k) = inr (stops-here fence q ps k.0 k.1)

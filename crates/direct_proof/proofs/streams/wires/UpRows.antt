@@ -93,13 +93,6 @@ pub starts-rows : (a b : List (Option Up)) → SameRows a b → (ps : List (ℕ 
 starts-rows a b h [] t = tt
 starts-rows a b h (p ∷ ps) t = (start-row a b h (started_kind p.1) t.0, starts-rows a b h ps t.1)
 
-pub down-rows : (a b : List (Option Up)) → SameRows a b → (e : ℕ) → stream_of a e ≡ None → stream_of b e ≡ None
-down-rows a b h e f = go (stream_of b e) (h e ∙ ap (option_map up_row) f)
-  where
-    go : (o : Option Up) → option_map up_row o ≡ None → o ≡ None
-    go None z = refl
-    go (Some x) z = absurd (cc)
-
 -- ---- what is held
 
 abbrev pub holding : List StreamPacket → Up → Up

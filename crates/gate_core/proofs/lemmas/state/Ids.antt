@@ -1,5 +1,5 @@
 -- The ids in flight of what is kept are those of the state.
-use Rattle.std.proofs.Common.{◌≡◌, ℕ, ◌≤◌, length, ◌==◌, ◌||◌, Bool, true, false, cond, List, [], ◌∷◌, ◌++◌, map, Option, Some, None, zero, suc, refl, sym, ap, ◌∙◌, append_assoc, arith}
+use Rattle.std.proofs.Common.{◌≡◌, ℕ, length, ◌==◌, ◌||◌, Bool, true, false, cond, List, [], ◌∷◌, ◌++◌, map, Option, Some, None, refl, sym, ap, ◌∙◌, append_assoc}
 use Rattle.std.specs.Prelude.{filter, zip, if◌then◌else◌, unwrap_or, is_some}
 use Rattle.unlink_race.specs.declared.live.Live.{Live}
 use Rattle.std.specs.List.{list_any, flat_map, last_or}
@@ -120,16 +120,6 @@ pub started-last : (t : Kept) (ep : ℕ) (row : EpRow) → unwrap_or (start_id t
 started-last t ep row = last-by t (is_some (stream_at t.streams ep)) ep row
 
 -- ---- of a route's packets: of a reset's two, and of any other's one
-
-pub first-id : (m : ℕ) (f : List ℕ) (last : ℕ) (ps : List RedirPacket) → length ps ≤ 1 → zip (draw m f last ∷ []) ps ≡ zip (draws m f last (length ps)) ps
-first-id m f last [] few = refl
-first-id m f last (p ∷ []) few = refl
-first-id m f last (p ∷ q ∷ ps) few = absurd (omega (arith, few))
-
-pub one-id : (m : ℕ) (f : List ℕ) (last : ℕ) (n : ℕ) → 1 ≤ n → n ≤ 1 → draw m f last ≡ last_of last (draws m f last n)
-one-id m f last zero some few = absurd (omega (arith, some))
-one-id m f last (suc zero) some few = refl
-one-id m f last (suc (suc n)) some few = absurd (omega (arith, few))
 
 -- ---- what the searches of the rows find
 

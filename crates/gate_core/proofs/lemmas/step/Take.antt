@@ -7,7 +7,7 @@ use Rattle.usb_base.specs.declared.reason.Reason.{Reason}
 use Rattle.packet_stream.specs.declared.read.ReadError.{ReadError}
 use Rattle.packet_stream.specs.declared.read.ReadError.TheVariants.{Refused, Memory}
 use Rattle.packet_stream.specs.Split.{Reader, Position, split}
-use Rattle.packet_stream.specs.Streams.{StreamView, passed, ended, after_piece, after_piece_by, Follows, Drained, Closed, Answered, Nexts, Puts, Changes, capped}
+use Rattle.packet_stream.specs.Streams.{StreamView, passed, ended, after_piece, after_piece_by, Follows, Drained, Closed, Nexts, Puts, Changes, capped}
 use Rattle.packet_stream.specs.Items.{added}
 use Rattle.packet_stream.specs.Takers.{ended_if}
 use Rattle.packet_stream.proofs.Laws.{IsSteady}
@@ -91,11 +91,6 @@ all-passed {S = S} {P = P} r steady start old new bytes given over all is = subs
 })
 
 -- ---- the next item
-
-answered-to : {S P : Type 0} (r : Reader S P Reason) (takes : P → Bool) (start : Position S) (kept new : StreamView S) (bytes : List ℕ) (given : List (ℕ × P)) (result answer : Result (Option (ℕ × P)) ReadError) →
-    Nexts r takes result kept new → result ≡ answer → Follows r start kept bytes given → Answered r takes start answer new bytes given
-answered-to {P = P} r takes start kept new bytes given result answer next is f =
-    subst (λ (x : Result (Option (ℕ × P)) ReadError). Answered r takes start x new bytes given) is (next start bytes given f)
 
 -- an item was taken that came at this place
 pub record TakenAt {S P I : Type 0} (s : SideStream S P Reason I) (new : StreamView S) (bytes piece : List ℕ) (given : List (ℕ × P)) (taken : List I) (place : ℕ) (item : ℕ → I) : Type 0 where

@@ -1,7 +1,7 @@
 -- The search for a free id: the relation, and why the loop ends.
 use Rattle.std.proofs.Common.{◌≡◌, ℕ, zero, suc, ◌<◌, true, false, cond, List, [], ◌∷◌, length, refl, sym, ap, ◌∙◌, arith, inl, inr}
 use Rattle.std.proofs.lemmas.Bool.{cases_Bool, false≢true}
-use Rattle.gate_history.specs.state.Ids.{id_after, holds, free_from, draw, draws, ReachesId, IsNext, Fits}
+use Rattle.gate_history.specs.state.Ids.{id_after, holds, free_from, draw, ReachesId, IsNext, Fits}
 use Rattle.gate_history.proofs.lemmas.state.Cycle.{after-fits}
 use Rattle.gate_history.proofs.lemmas.state.Draws.{free_from-free}
 
@@ -34,23 +34,6 @@ one_end m flying (suc j) (suc k) id a b r s = one_end m flying j k (id_after m i
 
 pub next-one : (m : ℕ) (flying : List ℕ) (last a b : ℕ) → IsNext m flying last a → IsNext m flying last b → a ≡ b
 next-one m flying last a b r s = one_end m flying r.0 s.0 (id_after m last) a b r.1 s.1
-
--- ---- a list that holds the same ids, in another order, gives the same draw
-
-moved : (m : ℕ) (xs ys : List ℕ) → ((q : ℕ) → holds xs q ≡ holds ys q) → (k id found : ℕ) → ReachesId m xs k id found → ReachesId m ys k id found
-moved m xs ys same zero id found r = (r.0, sym (same found) ∙ r.1)
-moved m xs ys same (suc k) id found r = (sym (same id) ∙ r.0, moved m xs ys same k (id_after m id) found r.1)
-
-pub draw-same : (m : ℕ) (xs ys : List ℕ) (last : ℕ) → ((q : ℕ) → holds xs q ≡ holds ys q) → length xs < m → length ys < m → draw m xs last ≡ draw m ys last
-draw-same m xs ys last same short short' =
-    let r = draw-next m xs last short in
-    next-one m ys last (draw m xs last) (draw m ys last) (r.0, moved m xs ys same r.0 (id_after m last) (draw m xs last) r.1) (draw-next m ys last short')
-
-pub draws-same : (m : ℕ) (xs ys : List ℕ) (last n : ℕ) → ((q : ℕ) → holds xs q ≡ holds ys q) → length xs < m → length ys < m → draws m xs last n ≡ draws m ys last n
-draws-same m xs ys last zero same short short' = refl
-draws-same m xs ys last (suc n) same short short' =
-    let one = draw-same m xs ys last same short short' in
-    (λ i. one i ∷ draws m xs (one i) n) ∙ ap (λ (l : List ℕ). draw m ys last ∷ l) (draws-same m xs ys (draw m ys last) n same short short')
 
 -- ---- a loop that goes on while the candidate is in flight
 

@@ -1,21 +1,19 @@
 -- What an effect does to the live requests, apart from how the code keeps them: who is left, what is sent to the
 -- client, who is noted, and who is dropped.
-use Rattle.std.proofs.Common.{◌≡◌, ℕ, ◌&&◌, Bool, true, false, cond, not, List, [], ◌∷◌, ◌++◌, map, Option, Some, None, refl, sym, ap, ◌∙◌}
-use Rattle.std.specs.Prelude.{◌==◌, is_none, filter}
+use Rattle.std.proofs.Common.{◌≡◌, ℕ, Bool, true, false, cond, not, List, [], ◌∷◌, ◌++◌, map, Option, Some, None, refl, sym, ap, ◌∙◌}
+use Rattle.std.specs.Prelude.{is_none, filter}
 use Rattle.std.specs.List.{flat_map}
 use Rattle.std.proofs.lemmas.List.{append-nil}
 use Rattle.std.proofs.lemmas.List.Elements.{filter-append}
 use Rattle.std.proofs.lemmas.Grind.{flat_map-append}
-use Rattle.usb_base.specs.declared.status.UsbStatus.{UsbStatus}
 use Rattle.usb_base.specs.declared.transfer.Outcome.{Outcome}
-use Rattle.usb_base.specs.Status.{is_success, errno_of}
 use Rattle.usbip_urb.specs.declared.client.ClientPacket.TheVariants.{Urb}
 use Rattle.usbip_urb.specs.declared.packet.UrbPacket.{UrbPacket}
 use Rattle.gate_history.specs.declared.note.Note.TheVariants as note
-use Rattle.gate_history.specs.client.Ends.{answers, answers_at, answers_by, End, at_once, ByAnswer, ByClient, ByLoss, ByStatus, ByUnlink, ends, has_id, is_waiting, own_end, packets_end, waits_at}
-use Rattle.gate_history.specs.host.Fillings.{Filling, Fill}
+use Rattle.gate_history.specs.client.Ends.{answers_at, answers_by, End, at_once, ByAnswer, ByClient, ByLoss, ends, has_id, own_end, packets_end}
+use Rattle.gate_history.specs.host.Fillings.{Filling}
 use Rattle.gate_history.specs.step.Machine.{ask, live_after}
-use Rattle.gate_history.specs.step.Marks.{Submission, Effect, Answers, Arrives, Opens, StreamTold, Unlinks, Waits}
+use Rattle.gate_history.specs.step.Marks.{Submission, Effect, Answers, Opens}
 use Rattle.gate_history.specs.step.Meaning.{mark_as}
 use Rattle.gate_history.specs.write.Notes.{answer_notes, is_by_answer, is_by_client, dropped}
 use Rattle.gate_history.specs.write.Output.{fresh, present, answered, to_client}
@@ -86,38 +84,6 @@ module _ (st : State) (id : ℕ) (o : Outcome) where
   pub answer-dropped : dropped st (mark_as st (Answers id o) None) ≡ []
   answer-dropped = none-dropped st (Answers id o) (λ p. elim (has p) as (λ b. is_by_client (cond b (Some (ByAnswer o)) None) ≡ false) [ true ↦ refl | false ↦ refl ])
 
--- ---- a stream ends with a status
-
-module _ (st : State) (id ep : ℕ) (status : UsbStatus) where
-  abbrev waits : Pending → Bool
-  waits p = waits_at ep p.submit && not (is_success status)
-
-  pub status-left : live_after st (StreamTold id ep status) ≡ filter (λ p. not (waits_at ep p.submit && not (is_success status))) st.live
-  status-left = live-left st (StreamTold id ep status) refl waits (λ s. refl) (λ p. elim (waits p) as (λ b. is_none (cond b (Some (ByStatus (errno_of status))) None) ≡ not b) [ true ↦ refl | false ↦ refl ])
-
-  pub status-sent : to_client st (mark_as st (StreamTold id ep status) None) ≡ map Urb (flat_map (λ p. answers p.submit p.unlinker (ByStatus (errno_of status))) (filter (λ p. waits_at ep p.submit && not (is_success status)) st.live))
-  status-sent =
-      answered-for st (StreamTold id ep status) refl waits (λ p. answers p.submit p.unlinker (ByStatus (errno_of status)))
-      (λ p. elim (waits p) as (λ b. answers_at p.submit p.unlinker (cond b (Some (ByStatus (errno_of status))) None) ≡ cond b (answers p.submit p.unlinker (ByStatus (errno_of status))) []) [ true ↦ refl | false ↦ refl ])
-
--- ---- an unlink takes a stream's request back, and marks others
-
-module _ (st : State) (by target : ℕ) where
-  abbrev taken : Pending → Bool
-  taken p = is_waiting p.submit.verdict && (p.submit.request.number == target)
-
-  pub unlink-left : live_after st (Unlinks by target) ≡ map (ask (Unlinks by target)) (filter (λ p. not (is_waiting p.submit.verdict && (p.submit.request.number == target))) st.live)
-  unlink-left =
-      live-of st (Unlinks by target) refl
-      ∙ ap (map (ask (Unlinks by target)))
-      (filter-same (λ p. is_none (ends (Unlinks by target) p.submit)) (λ p. not (taken p)) st.live
-      (every (λ p. is_none (ends (Unlinks by target) p.submit) ≡ not (taken p)) (λ p. elim (taken p) as (λ b. is_none (cond b (Some (ByUnlink by)) None) ≡ not b) [ true ↦ refl | false ↦ refl ]) st.live))
-
-  pub unlink-answered : answered st (Unlinks by target) ≡ map Urb (flat_map (λ p. answers p.submit p.unlinker (ByUnlink by)) (filter (λ p. is_waiting p.submit.verdict && (p.submit.request.number == target)) st.live))
-  unlink-answered =
-      answered-for st (Unlinks by target) refl taken (λ p. answers p.submit p.unlinker (ByUnlink by))
-      (λ p. elim (taken p) as (λ b. answers_at p.submit p.unlinker (cond b (Some (ByUnlink by)) None) ≡ cond b (answers p.submit p.unlinker (ByUnlink by)) []) [ true ↦ refl | false ↦ refl ])
-
 -- ---- packets of a stream fill requests that wait: it ends those that they fill, and none but them
 
 module _ (st : State) (e : Effect) (ep : ℕ) (fs : List Filling) (fills : (s : Submission) → ends e s ≡ packets_end ep fs s) where
@@ -143,28 +109,6 @@ module _ (st : State) (e : Effect) (ep : ℕ) (fs : List Filling) (fills : (s : 
 
   pub filled-dropped : dropped st (mark_as st e None) ≡ map (λ p. p.submit) (filter (λ p. is_by_client (packets_end ep fs p.submit)) (present st e))
   filled-dropped = ap (map (λ (p : Pending). p.submit)) (by-packets is_by_client)
-
--- a packet of a stream
-module _ (st : State) (ep : ℕ) (fill : Fill) where
-  pub arrival-left : live_after st (Arrives ep fill) ≡ filter (λ p. is_none (packets_end ep fill.fillings p.submit)) st.live
-  arrival-left = live-of st (Arrives ep fill) refl ∙ asks-none (Arrives ep fill) (λ s. refl) (filter (λ p. is_none (packets_end ep fill.fillings p.submit)) st.live)
-
-  pub arrival-sent : to_client st (mark_as st (Arrives ep fill) None) ≡ map Urb (flat_map (λ p. answers_at p.submit p.unlinker (packets_end ep fill.fillings p.submit)) st.live)
-  arrival-sent = answered-of st (Arrives ep fill) refl
-
--- a submit is accepted that waits for a stream's packets, those that are held already
-module _ (st : State) (s : Submission) (fill : Fill) where
-  abbrev ep : ℕ
-  ep = s.request.transfer.ep
-
-  pub waits-left : live_after st (Waits s fill) ≡ filter (λ p. is_none (packets_end s.request.transfer.ep fill.fillings p.submit)) (st.live ++ fresh s ∷ [])
-  waits-left = filled-left st (Waits s fill) ep fill.fillings (λ t. refl) (λ t. refl)
-
-  pub waits-answered : answered st (Waits s fill) ≡ map Urb (flat_map (λ p. answers_at p.submit p.unlinker (packets_end s.request.transfer.ep fill.fillings p.submit)) (st.live ++ fresh s ∷ []))
-  waits-answered = filled-answered st (Waits s fill) ep fill.fillings (λ t. refl)
-
-  pub waits-noted : answer_notes st (Waits s fill) ≡ map (λ p. note.Answered p.submit.request.number) (filter (λ p. is_by_answer (packets_end s.request.transfer.ep fill.fillings p.submit)) (st.live ++ fresh s ∷ []))
-  waits-noted = filled-noted st (Waits s fill) ep fill.fillings (λ t. refl)
 
 -- ---- a submit is accepted that ends none of the others
 
@@ -221,23 +165,13 @@ module _ (st : State) (s : Submission) (gone : Pending → Bool) (x : End) (othe
       ∙ filter-append (λ p. is_none (ends (Opens s) p.submit)) st.live (fresh s ∷ [])
       ∙ (λ i. ended-by is_none not refl refl i ++ cond (is_none (own i)) (fresh s ∷ []) [])
 
-  pub change-answered : answered st (Opens s) ≡ map Urb (flat_map (λ p. answers p.submit p.unlinker x) (filter gone st.live))
-  change-answered =
-      ap (map Urb)
-      (flat_map-append (λ p. answers_at p.submit p.unlinker (ends (Opens s) p.submit)) st.live (fresh s ∷ [])
-      ∙ (λ i. (flat_map-same (λ p. answers_at p.submit p.unlinker (ends (Opens s) p.submit)) (λ p. cond (gone p) (answers p.submit p.unlinker x) []) st.live
-      (Each-weaker (λ p. ends (Opens s) p.submit ≡ cond (gone p) (Some x) None) (λ p. answers_at p.submit p.unlinker (ends (Opens s) p.submit) ≡ cond (gone p) (answers p.submit p.unlinker x) [])
-      (λ p e. ap (answers_at p.submit p.unlinker) e ∙ elim (gone p) as (λ b. answers_at p.submit p.unlinker (cond b (Some x) None) ≡ cond b (answers p.submit p.unlinker x) []) [ true ↦ refl | false ↦ refl ]) st.live others)
-      ∙ sym (flat_map-filter (λ p. answers p.submit p.unlinker x) gone st.live)) i ++ (answers_at s None (own i) ++ []))
-      ∙ append-nil (flat_map (λ p. answers p.submit p.unlinker x) (filter gone st.live)))
-
   pub change-noted : is_by_answer (Some x) ≡ false → answer_notes st (Opens s) ≡ []
   change-noted by_answer = ap (map (λ (p : Pending). note.Answered p.submit.request.number)) (none-ended is_by_answer by_answer refl)
 
   pub change-dropped : is_by_client (Some x) ≡ false → dropped st (mark_as st (Opens s) None) ≡ []
   change-dropped by_client = ap (map (λ (p : Pending). p.submit)) (none-ended is_by_client by_client refl)
 
--- ---- the client leaves, or the device is lost: nobody is left
+-- ---- the client leaves: nobody is left
 
 no-pass : (test : Pending → Bool) → ((p : Pending) → test p ≡ false) → (ps : List Pending) → filter test ps ≡ []
 no-pass test none ps = filter-same test (λ p. false) ps (every (λ p. test p ≡ false) none ps) ∙ filter-none ps
@@ -264,18 +198,3 @@ module _ (st : State) (e : Effect) (gone : leaves e ≡ true) where
       ap (map (λ (p : Pending). p.submit))
       (filter-same (λ p. is_by_client (ends e p.submit)) (λ p. true) (present st e) (every (λ p. is_by_client (ends e p.submit) ≡ true) (λ p. ap is_by_client (by-client p)) (present st e))
       ∙ filter-all (present st e))
-
-module _ (st : State) (e : Effect) (stays : leaves e ≡ false) (lost : is_loss e ≡ true) where
-  by-loss : (p : Pending) → ends e p.submit ≡ Some ByLoss
-  by-loss p =
-      ap (λ (b : Bool). cond b (Some ByClient) (cond (is_loss e) (Some ByLoss) (own_end e p.submit))) stays
-      ∙ ap (λ (b : Bool). cond b (Some ByLoss) (own_end e p.submit)) lost
-
-  pub loss-left : live_after st e ≡ []
-  loss-left = ap (map (ask e)) (no-pass (λ p. is_none (ends e p.submit)) (λ p. ap is_none (by-loss p)) (present st e))
-
-  pub loss-noted : answer_notes st e ≡ []
-  loss-noted = ap (map (λ (p : Pending). note.Answered p.submit.request.number)) (no-pass (λ p. is_by_answer (ends e p.submit)) (λ p. ap is_by_answer (by-loss p)) (present st e))
-
-  pub loss-dropped : dropped st (mark_as st e None) ≡ []
-  loss-dropped = none-dropped st e (λ p. ap is_by_client (by-loss p))

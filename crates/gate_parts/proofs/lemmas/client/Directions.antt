@@ -1,11 +1,11 @@
 -- Which way the data of a transfer that goes by an id may move.
 use Rattle.std.specs.Bool.{beq}
-use Rattle.std.proofs.Common.{rules, w32, ◌≡◌, ◌⊎◌, ◌&&◌, ◌==◌, ℕ, ◌<◌, Bool, true, false, cond, not, Option, Some, None, refl, sym, ap, ◌∙◌, inl, inr, List, [], ◌∷◌, arith}
+use Rattle.std.proofs.Common.{rules, w32, ◌≡◌, ◌⊎◌, ◌&&◌, ◌==◌, ℕ, Bool, true, false, cond, not, Option, Some, None, refl, sym, ap, ◌∙◌, inl, inr, List, [], ◌∷◌, arith}
 use Rattle.std.specs.Prelude.{nat_lt, nat_le, FitsSigned}
 use Rattle.unlink_race.specs.Searches.{is_stream}
 use Rattle.std.specs.List.{find}
 use Rattle.std.specs.Option.{option_map_or}
-use Rattle.std.proofs.lemmas.Bool.{false≢true, eqb-true, leb-false, not-false}
+use Rattle.std.proofs.lemmas.Bool.{false≢true, eqb-true, not-false}
 use Rattle.usb_base.specs.declared.setup.Setup.{Setup}
 use Rattle.usb_base.specs.declared.endpoint.EpKind.{EpKind}
 use Rattle.usb_base.specs.declared.endpoint.EpKind.TheVariants as kind
@@ -27,7 +27,6 @@ use Rattle.gate_history.specs.declared.verdict.Verdict.{Verdict}
 use Rattle.gate_history.specs.declared.verdict.Verdict.TheVariants.{Now, Wire, Routed, IsoOut, Stream}
 use Rattle.gate_history.specs.client.Verdict.{none_of, is_invalid, is_control, is_narrow, by_route, by_setup, by_kind, by_endpoint, by_transfer, verdict, goes_by_id}
 use Rattle.gate_history.specs.host.Responses.{route_gets}
-use Rattle.gate_history.specs.client.Carried.{IsDirected, IsRequest}
 use Rattle.gate_parts.specs.state.Rows.{kind_of, IsRead}
 use Rattle.gate_history.proofs.lemmas.Lists.{Each}
 use Rattle.gate_history.proofs.lemmas.client.Carried.{address-way, no-length}
@@ -113,46 +112,6 @@ by_setup-reads r s at =
     unless r.is_in (not (s.length == r.transfer.wanted)) r.transfer.ep r.transfer.wanted EINVAL _ (λ same.
     by_route-reads (route_of s) (is_in_setup s) r.is_in r.transfer.ep r.transfer.wanted (route-reads s) at
     (elim (one-way (is_in_setup s) r.is_in s.length one) [ inl zero ↦ inl (sym (eqb-true s.length r.transfer.wanted (not-false _ same)) ∙ zero) | inr way ↦ inr way ]))))
-
--- ---- the other endpoints
-
-by_kind-reads : (r : Request) (row : EpRow) (k : EpKind) → is_in_endpoint r.transfer.ep ≡ r.is_in → Reads r.is_in r.transfer.ep r.transfer.wanted (by_kind r row k)
-by_kind-reads r row kind.Control way = λ k. absurd (false≢true k)
-by_kind-reads r row kind.Iso way = elim r.is_in as (λ b. goes_by_id (cond b (Stream row) (IsoOut row)) ≡ true → (r.transfer.wanted ≡ 0) ⊎ IsRead r.is_in (kind_of (cond b (Stream row) (IsoOut row)) r.transfer.ep)) [ true ↦ (λ k. absurd (false≢true k)) | false ↦ (λ k. absurd (false≢true k)) ]
-by_kind-reads r row kind.Bulk way = λ k. inr way
-by_kind-reads r row kind.Interrupt way = elim r.is_in as (λ b. goes_by_id (cond b (Stream row) (Wire InterruptOut)) ≡ true → (r.transfer.wanted ≡ 0) ⊎ IsRead r.is_in (kind_of (cond b (Stream row) (Wire InterruptOut)) r.transfer.ep)) [ true ↦ (λ k. absurd (false≢true k)) | false ↦ (λ k. inr way) ]
-by_kind-reads r row kind.Invalid way = λ k. absurd (false≢true k)
-
-by_endpoint-reads : (here : Situation) (r : Request) → is_in_endpoint r.transfer.ep ≡ r.is_in → Reads r.is_in r.transfer.ep r.transfer.wanted (by_endpoint here r)
-by_endpoint-reads here r way =
-    unless r.is_in (is_invalid here.row.kind) r.transfer.ep r.transfer.wanted ENOENT _ (λ valid.
-    unless r.is_in (is_control here.row.kind) r.transfer.ep r.transfer.wanted EINVAL _ (λ other.
-    unless r.is_in (beq (is_iso here.row.kind) (none_of r.descs)) r.transfer.ep r.transfer.wanted EINVAL _ (λ iso.
-    unless r.is_in (not (laid r.descs r.transfer.wanted)) r.transfer.ep r.transfer.wanted EINVAL _ (λ lies.
-    unless r.is_in (is_narrow here r here.row.kind && nat_lt MAX_NARROW r.transfer.wanted) r.transfer.ep r.transfer.wanted EMSGSIZE _ (λ fits.
-    by_kind-reads r here.row here.row.kind way)))))
-
--- ---- both
-
-by_transfer-reads : (here : Situation) (r : Request) (o : Option Setup) → IsDirected r.is_in o r.transfer.ep → Reads r.is_in r.transfer.ep r.transfer.wanted (by_transfer here r o)
-by_transfer-reads here r None way = unless r.is_in here.changing r.transfer.ep r.transfer.wanted ENOENT _ (λ still. by_endpoint-reads here r way)
-by_transfer-reads here r (Some s) way = by_setup-reads r s way
-
-pub verdict-reads : (here : Situation) (r : Request) → IsRequest r → Reads r.is_in r.transfer.ep r.transfer.wanted (verdict here r)
-verdict-reads here r is =
-    unless r.is_in here.lost r.transfer.ep r.transfer.wanted ESHUTDOWN _ (λ there.
-    unless r.is_in (nat_le MAX_LIVE here.live) r.transfer.ep r.transfer.wanted EBUSY _ (λ room.
-    by_transfer-reads here r r.transfer.setup is.directed))
-
--- ---- one that goes by an id finds room
-
-pub by_id-room : (here : Situation) (r : Request) → goes_by_id (verdict here r) ≡ true → here.live < MAX_LIVE
-by_id-room here r h = go here.lost (nat_le MAX_LIVE here.live) refl h
-  where
-    go : (l b : Bool) → nat_le MAX_LIVE here.live ≡ b → goes_by_id (cond l (Now ESHUTDOWN) (cond b (Now EBUSY) (by_transfer here r r.transfer.setup))) ≡ true → here.live < MAX_LIVE
-    go true b e k = absurd (false≢true k)
-    go false true e k = absurd (false≢true k)
-    go false false e k = leb-false MAX_LIVE here.live e
 
 -- ---- its status is one of 32 bits
 

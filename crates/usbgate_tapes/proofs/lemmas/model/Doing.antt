@@ -1,5 +1,5 @@
 -- The steps of a made tape, done one after another, and then counted.
-use Rattle.std.proofs.Common.{◌≡◌, ℕ, List, [], ◌∷◌, ◌++◌, Option, Some, None, sym, ap, subst, ◌∙◌}
+use Rattle.std.proofs.Common.{◌≡◌, ℕ, List, [], ◌∷◌, ◌++◌, Option, Some, None, sym, ap, ◌∙◌}
 use Rattle.gate_history.specs.write.All.{counts_of}
 use Rattle.gate_history.specs.step.History.{history}
 use Rattle.gate_history.specs.declared.note.Counts.{Counts}
@@ -35,9 +35,6 @@ pub one-more : {S : Type 0} (m : Meaning S) (s : S) (old new : SystemKept S) (le
     → ((first : S) (past : List Step) → SystemStands m first old past → TakesSaid m first new past (step_said said) told) → Doing m s old left lines → Doing m s new rest lines
 one-more m s old new left rest lines said told next takes d =
     (with_step (step_said said) d.0, taken m s new d.0 (step_said said) told (takes s d.0 d.1), ap (λ (ls : List ModelLine). steps_after ls d.0) (sym next) ∙ d.2)
-
-pub all-done : {S : Type 0} (m : Meaning S) (s : S) (k : SystemKept S) (left lines : List ModelLine) → left ≡ [] → Doing m s k left lines → SystemStands m s k (steps_after lines [])
-all-done m s k left lines none d = subst (SystemStands m s k) (ap (λ (ls : List ModelLine). steps_after ls d.0) (sym none) ∙ d.2) d.1
 
 pub counts-loaded : (count : ℕ) (gadget : State (List ℕ)) (k : SystemKept (State (List ℕ))) (counts : Counts) (old text : List ℕ) → gadget ≡ first_state loopback → TapeAgain (made_lines count)
     → SystemStands (meaning_of loopback) gadget k (steps_after (made_lines count) [])

@@ -364,12 +364,6 @@ read-write e = cc
 write-read : {A : Type 0} → WriteFault ≡ ReadFault → A
 write-read e = cc
 
-usage-read : {A : Type 0} → Usage ≡ ReadFault → A
-usage-read e = cc
-
-usage-write : {A : Type 0} → Usage ≡ WriteFault → A
-usage-write e = cc
-
 quiet-no_links : (status : Status) → is_quiet status ≡ true → OpensNoLink status
 quiet-no_links Done quiet = tt
 quiet-no_links Usage quiet = tt
@@ -410,14 +404,5 @@ causes-write a b x y tape rose = record {
   write_fault = λ e. rose;
   reads_stand = λ ne. tape;
   writes_stand = λ ne. absurd (ne refl);
-  no_links = tt;
-}
-
-pub causes-usage : (a x y : ℕ) → y ≡ x → HasCauses Usage a a x y
-causes-usage a x y out = record {
-  read_fault = λ e. usage-read e;
-  write_fault = λ e. usage-write e;
-  reads_stand = λ ne. refl;
-  writes_stand = λ ne. out;
   no_links = tt;
 }

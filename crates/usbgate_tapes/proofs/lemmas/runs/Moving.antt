@@ -14,9 +14,6 @@ use Rattle.gate_outside.proofs.Moving.{moves-append}
 pub appends-less : (old new : Option (List ℕ)) (bytes more : List ℕ) → AppendsFront old new bytes → AppendsFront old new (bytes ++ more)
 appends-less old new bytes more f = record { front = f.front; back = f.back ++ more; parts = ap (λ (l : List ℕ). l ++ more) f.parts ∙ append_assoc f.front f.back more; appends = f.appends }
 
-pub moves-less : {S : Type 0} (gives : S → List ℕ → Result ℕ Failed → S → Type 0) (bytes more : List ℕ) (old new : S) → MovesFront gives bytes old new → MovesFront gives (bytes ++ more) old new
-moves-less gives bytes more old new f = record { front = f.front; back = f.back ++ more; parts = ap (λ (l : List ℕ). l ++ more) f.parts ∙ append_assoc f.front f.back more; moves = f.moves }
-
 -- the bytes were written, and a front of what comes behind them
 pub appends-further : (old mid new : Option (List ℕ)) (bytes more : List ℕ) → Appends old mid bytes → AppendsFront mid new more → AppendsFront old new (bytes ++ more)
 appends-further old mid new bytes more a f = record {
