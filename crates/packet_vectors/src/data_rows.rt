@@ -87,27 +87,28 @@ fn other_of(alloc: Global, form: Form) -> Result<Option<Other>, Memory> {
 /// The first with these capabilities.
 fn other_with(alloc: Global, form: Form, caps: Caps) -> Result<Option<Other>, Memory> {
     for (way, endpoint) in COMINGS {
-        let case = Case {
-            caps,
-            way,
-            endpoint,
-            told: 0,
-            count: 0,
-        };
-        if let Some(other) = other_count(alloc, form, case)? {
+        if let Some(other) = other_count(alloc, form, caps, way, endpoint)? {
             return Ok(Some(other));
         }
     }
     Ok(None)
 }
 
-/// The first of a case with each number of data.
-fn other_count(alloc: Global, form: Form, case: Case) -> Result<Option<Other>, Memory> {
+/// The first of such a packet, with each number of data.
+fn other_count(
+    alloc: Global,
+    form: Form,
+    caps: Caps,
+    way: Way,
+    endpoint: u8,
+) -> Result<Option<Other>, Memory> {
     for (told, count) in COUNTS {
         let case = Case {
+            caps,
+            way,
+            endpoint,
             told,
             count,
-            ..case
         };
         if let Some(front) = other_front(alloc, form, case)? {
             return Ok(Some((case, front)));
