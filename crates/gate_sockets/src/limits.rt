@@ -5,7 +5,7 @@ ghost use Rattle.gate_sockets.specs.Pace.{most_made_up};
 ghost use Rattle.gate_sockets.specs.Polling.{most_rests};
 ghost use Rattle.gate_sockets.specs.Writing.{most_tries};
 
-/// How often a write that is blocked is tried before its last try.
+/// How often a write that is blocked is tried before its last try. Behind each it is waited for a millisecond at most.
 pub const TRIES: u32 = 1_000_000;
 
 /// At which poll a link is read again of which a read has taken all that was there, or had to wait, where the system

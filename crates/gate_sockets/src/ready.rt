@@ -113,7 +113,7 @@ impl Ready {
         self.pace = Some(Pace::new(interval));
     }
 
-    /// Bytes came or went.
+    /// Bytes came or went, or a link has ended.
     pub(crate) fn moved(&mut self) {
         self.quiet = 0;
         self.moves = self.moves.saturating_add(1);

@@ -160,8 +160,12 @@ impl<S: Connection> Socket<S> {
         };
         let step = step_of(stream.read_once(buf), limit);
         match step {
+            Step::Moved(_) | Step::Broken(_) => ready.moved(),
             Step::Blocked => ready.drained(),
-            _ => ready.moved(),
+            // It is tried again, but not over and over without a pause.
+            Step::Cut => {
+                ready.found_nothing(network);
+            }
         }
         self.hear(step, limit)
     }
