@@ -20,8 +20,5 @@ pub use laws::{
 };
 pub use note::{Counts, Note, Notes, push_refusals};
 pub use request::{AnsweredSubmit, Request, short_flag};
-pub use sent::{
-    GATEWAY_NAME, PACKETS_PER_URB, ST_NA, ST_OK, STREAM_URBS, gateway_name, iso_start_numbers,
-    reply_statuses,
-};
+pub use sent::{GATEWAY_NAME, PACKETS_PER_URB, STREAM_URBS, gateway_name, iso_start_numbers};
 pub use verdict::{MAX_NARROW, Pipe, Situation, Verdict, narrow_limit};

@@ -21,15 +21,3 @@ pub fn iso_start_numbers()
     ensures packets { PACKETS_PER_URB ≡ 8 }
     ensures urbs { STREAM_URBS ≡ 4 }
 {}
-
-/// The status of a list, and of an import that succeeds: Linux's `ST_OK`.
-pub const ST_OK: u32 = 0;
-
-/// The status of an import that fails, where the device is not available: Linux's `ST_NA`.
-pub const ST_NA: u32 = 1;
-
-/// A law: the statuses that definitions name are Linux's.
-pub fn reply_statuses()
-    ensures ok { ST_OK ≡ 0 }
-    ensures not_available { ST_NA ≡ 1 }
-{}

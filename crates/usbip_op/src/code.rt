@@ -1,5 +1,5 @@
-//! What the first four bytes of a packet say: the version, and then what the packet is; and what a list is kept
-//! to.
+//! What the first eight bytes of a packet say: the version, what the packet is, and the status of a reply; and what a
+//! list is kept to.
 
 ghost use Rattle.std.specs.Prelude.{◌≡◌, codes};
 
@@ -16,6 +16,11 @@ pub const OP_REP_DEVLIST: u16 = 0x0005;
 pub const OP_REQ_IMPORT: u16 = 0x8003;
 /// Answers whether the device may be used.
 pub const OP_REP_IMPORT: u16 = 0x0003;
+
+/// The status of a list, and of an import that succeeds: Linux's `ST_OK`.
+pub const ST_OK: u32 = 0;
+/// The status of an import that fails, where the device is not available: Linux's `ST_NA`.
+pub const ST_NA: u32 = 1;
 
 /// How many bytes a packet has at least: the version, its code and its status.
 pub const HEADER_SIZE: usize = 8;
@@ -36,6 +41,7 @@ pub fn protocol_numbers()
     ensures version { USBIP_VERSION ≡ 0x0111 }
     ensures list { (OP_REQ_DEVLIST ≡ 0x8005) × (OP_REP_DEVLIST ≡ 0x0005) }
     ensures import { (OP_REQ_IMPORT ≡ 0x8003) × (OP_REP_IMPORT ≡ 0x0003) }
+    ensures statuses { (ST_OK ≡ 0) × (ST_NA ≡ 1) }
     ensures headers { (HEADER_SIZE ≡ 8) × (LIST_HEADER_SIZE ≡ 12) }
     ensures rows { (BUS_ID_SIZE ≡ 32) × (DEVICE_SIZE ≡ 312) × (INTERFACE_SIZE ≡ 4) }
     ensures devices { MAX_DEVICES ≡ 1024 }

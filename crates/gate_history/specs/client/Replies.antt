@@ -3,6 +3,7 @@ use Rattle.std.specs.Prelude.{ℕ, ◌==◌, not, Bool, List, [], ◌∷◌, ◌
 use Rattle.std.specs.Option.{option_map_or, option_to_list}
 use Rattle.usb_base.specs.Speed.{speed_of, usbip_speed}
 use Rattle.usb_base.specs.Text.{padded}
+use Rattle.usbip_op.specs.declared.code.TheConstants.{ST_NA, ST_OK}
 use Rattle.usbip_op.specs.declared.exported.TheConstants.{BUS_ID, BUS_NUMBER, DEVICE_NUMBER}
 use Rattle.usbip_op.specs.declared.packet.OpPacket.{OpPacket}
 use Rattle.usbip_op.specs.declared.packet.OpPacket.TheVariants.{RepDevlist, RepImport}
@@ -11,7 +12,6 @@ use Rattle.usbip_op.specs.declared.packet.IfaceRow.{IfaceRow}
 use Rattle.redir_wire.specs.declared.packet.Connect.{Connect}
 use Rattle.redir_wire.specs.declared.packet.InterfaceInfo.{InterfaceInfo}
 use Rattle.gate_history.specs.declared.facts.Facts.{Facts}
-use Rattle.gate_history.specs.declared.sent.TheConstants.{ST_OK, ST_NA}
 
 -- rows of class, subclass and protocol
 abbrev pub rows : List ℕ → List ℕ → List ℕ → List IfaceRow

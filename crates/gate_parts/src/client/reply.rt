@@ -5,12 +5,13 @@ ghost use Rattle.redir_wire.specs.declared.packet.TheConstants.{MAX_INTERFACES};
 ghost use Rattle.usbip_op.specs.Ranges.{IsWritable};
 ghost use Rattle.gate_history.specs.client.Replies.{rows as rows_of, interface_rows, device_row, list_reply, import_reply, failed_import, is_exported};
 
-use gate_history::{Facts, ST_NA, ST_OK};
+use gate_history::Facts;
 use redir_wire::{Connect, InterfaceInfo, MAX_INTERFACES};
 use std::alloc::Global;
 use usb_base::{Memory, Speed, padded};
 use usbip_op::{
-    BUS_ID, BUS_NUMBER, DEVICE_NUMBER, DeviceRow, IfaceRow, IfaceRows, Listed, ListedRows, OpPacket,
+    BUS_ID, BUS_NUMBER, DEVICE_NUMBER, DeviceRow, IfaceRow, IfaceRows, Listed, ListedRows,
+    OpPacket, ST_NA, ST_OK,
 };
 
 /// The list of the one device, or of none before its device_connect.
