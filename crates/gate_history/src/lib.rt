@@ -19,6 +19,6 @@ pub use laws::{
     rests_are_short, sent_can_be_read, states_are_sound, streams_hold_few, submits_end_once,
 };
 pub use note::{Counts, Note, Notes, push_refusals};
-pub use request::{AnsweredSubmit, Request, short_flag};
+pub use request::{AnsweredSubmit, Request};
 pub use sent::{GATEWAY_NAME, PACKETS_PER_URB, STREAM_URBS, gateway_name, iso_start_numbers};
 pub use verdict::{MAX_NARROW, Pipe, Situation, Verdict, narrow_limit};

@@ -8,7 +8,7 @@ ghost use Rattle.gate_history.specs.write.Answers.{fails_if_short};
 ghost use Rattle.gate_history.specs.write.Asked.{answered_transfer, asked_view};
 
 use usb_base::{EpAddr, Setup, Transfer};
-use usbip_urb::{Descs, IsoDesc, Submit, USBIP_DIR_OUT};
+use usbip_urb::{Descs, IsoDesc, Submit, URB_SHORT_NOT_OK, USBIP_DIR_OUT};
 
 /// A transfer, and what its answer has of the submit.
 #[derive(Drop)]
@@ -82,14 +82,6 @@ fn address(is_in: bool, number: u32) -> EpAddr
     let byte = if is_in { number + 0x80 } else { number };
     EpAddr::new(byte).unwrap()
 }
-
-/// In transfer_flags: a read that gives fewer bytes than were asked for has failed.
-pub const URB_SHORT_NOT_OK: u32 = 0x0001;
-
-/// A law: the flag that definitions name is Linux's.
-pub fn short_flag()
-    ensures { URB_SHORT_NOT_OK ≡ 1 }
-{}
 
 /// What the answer of a submit has of the submit.
 #[derive(Clone, Copy)]

@@ -20,6 +20,9 @@ pub const USBIP_DIR_OUT: u32 = 0;
 /// The direction of a transfer from the device.
 pub const USBIP_DIR_IN: u32 = 1;
 
+/// In transfer_flags: a read that gives fewer bytes than were asked for has failed.
+pub const URB_SHORT_NOT_OK: u32 = 0x0001;
+
 /// A number_of_packets that means none, as 0 does.
 pub const NO_PACKETS: u32 = 0xFFFF_FFFF;
 
@@ -42,6 +45,7 @@ pub fn protocol_numbers()
     ensures submit { (USBIP_CMD_SUBMIT ≡ 1) × (USBIP_RET_SUBMIT ≡ 3) }
     ensures unlink { (USBIP_CMD_UNLINK ≡ 2) × (USBIP_RET_UNLINK ≡ 4) }
     ensures directions { (USBIP_DIR_OUT ≡ 0) × (USBIP_DIR_IN ≡ 1) }
+    ensures short { URB_SHORT_NOT_OK ≡ 1 }
     ensures device { (EXPORTED_DEVID ≡ 0x0001_0002) × (MAX_ENDPOINT ≡ 15) }
     ensures sizes { (HEAD_SIZE ≡ 48) × (DESC_SIZE ≡ 16) }
     ensures none { NO_PACKETS ≡ 0xFFFF_FFFF }

@@ -21,8 +21,8 @@ pub use client::{
 };
 pub use code::{
     DESC_SIZE, EXPORTED_DEVID, HEAD_SIZE, MAX_ENDPOINT, MAX_LIVE, MAX_PACKET_LENGTH, NO_PACKETS,
-    USBIP_CMD_SUBMIT, USBIP_CMD_UNLINK, USBIP_DIR_IN, USBIP_DIR_OUT, USBIP_RET_SUBMIT,
-    USBIP_RET_UNLINK, protocol_numbers,
+    URB_SHORT_NOT_OK, USBIP_CMD_SUBMIT, USBIP_CMD_UNLINK, USBIP_DIR_IN, USBIP_DIR_OUT,
+    USBIP_RET_SUBMIT, USBIP_RET_UNLINK, protocol_numbers,
 };
 pub use next::{next_client, next_urb};
 pub use packet::{

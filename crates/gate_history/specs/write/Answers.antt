@@ -3,6 +3,7 @@ use Rattle.stream_buffers.specs.Fillings.{is_failed}
 use Rattle.std.specs.Prelude.{ℕ, ◌==◌, ◌&&◌, nat_lt, not, Bool, if◌then◌else◌, List, [], length, map, filter, replicate, ℤ, pos, bit_and}
 use Rattle.usb_base.specs.declared.transfer.Outcome.{Outcome}
 use Rattle.usb_base.specs.Status.{errno_of}
+use Rattle.usbip_urb.specs.declared.code.TheConstants.{URB_SHORT_NOT_OK}
 use Rattle.usbip_urb.specs.declared.packet.Head.{Head}
 use Rattle.usbip_urb.specs.declared.packet.IsoDesc.{IsoDesc}
 use Rattle.usbip_urb.specs.declared.packet.UrbPacket.{UrbPacket}
@@ -10,7 +11,6 @@ use Rattle.usbip_urb.specs.declared.packet.UrbPacket.TheVariants as urb
 use Rattle.usbip_urb.specs.Buffers.{total}
 use Rattle.usb_base.specs.declared.errno.TheConstants.{EREMOTEIO}
 use Rattle.gate_history.specs.declared.request.Request.{Request}
-use Rattle.gate_history.specs.declared.request.TheConstants.{URB_SHORT_NOT_OK}
 use Rattle.gate_history.specs.client.Verdict.{none_of}
 use Rattle.gate_history.specs.host.Fillings.{Given, Transferred, Isochronous}
 
