@@ -1,5 +1,5 @@
 -- What the answers of a legal trace say of its performs.
-use Rattle.stream_buffers.specs.Fillings.{is_failed}
+use Rattle.usbip_urb.specs.Errors.{is_failed}
 use Rattle.std.proofs.Common.{◌≡◌, ℕ, ◌&&◌, ◌||◌, Bool, true, false, cond, List, [], ◌∷◌, Option, Some, None, refl, sym, ap, subst, ◌∙◌, true≢false}
 use Rattle.std.specs.Prelude.{pos, not, nat_lt, slice_get}
 use Rattle.std.specs.List.{find, list_any}

@@ -1,6 +1,6 @@
 -- Performed at most once: how often a submit has been performed where an item of a legal trace stands, by what the item
 -- answers. A number names the submit of its last item, up to its end.
-use Rattle.stream_buffers.specs.Fillings.{is_failed}
+use Rattle.usbip_urb.specs.Errors.{is_failed}
 use Rattle.std.specs.Prelude.{◌≡◌, ℕ, ◌+◌, ◌==◌, Bool, true, false, if◌then◌else◌, List, [], ◌∷◌, ◌++◌, Option, Some, IfSome, not}
 use Rattle.std.specs.List.{find, list_any, AllByRecursion}
 use Rattle.std.specs.Ordering.{int_eq}

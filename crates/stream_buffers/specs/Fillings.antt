@@ -1,8 +1,9 @@
 -- What a request is given, told beside the packets that keep its bytes.
-use Rattle.std.specs.Prelude.{◌≡◌, ℕ, ◌≤◌, ◌==◌, not, Bool, true, List, length, take, drop, filter, ℤ, pos, negsuc}
+use Rattle.std.specs.Prelude.{◌≡◌, ℕ, ◌≤◌, List, length, take, drop}
 use Rattle.usb_base.specs.declared.transfer.Outcome.{Outcome}
 use Rattle.usb_base.specs.declared.transfer.StreamPacket.{StreamPacket}
 use Rattle.usbip_urb.specs.declared.packet.IsoDesc.{IsoDesc}
+use Rattle.usbip_urb.specs.Errors.{errors_of}
 use Rattle.stream_buffers.specs.declared.interrupt.Filling.{Filling}
 use Rattle.stream_buffers.specs.declared.iso.IsoFilling.{IsoFilling}
 use Rattle.stream_buffers.specs.Cuts.{Cut}
@@ -22,14 +23,6 @@ cut_by packets f = record {
 }
 
 -- ---- of an isochronous one
-
-abbrev pub is_failed : ℤ → Bool
-is_failed (pos n) = not (n == 0)
-is_failed (negsuc n) = true
-
--- how many descriptors have a status other than 0
-abbrev pub errors_of : List IsoDesc → ℕ
-errors_of descs = length (filter (λ d. is_failed d.status) descs)
 
 -- there is a packet for each descriptor, and they give so many bytes, and so many errors
 pub record FillsIso (descs : List IsoDesc) (packets : List StreamPacket) (f : IsoFilling) : Type 0 where

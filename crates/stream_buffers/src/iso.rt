@@ -6,7 +6,7 @@ ghost use Rattle.usb_base.specs.declared.limits.TheConstants.{MAX_PACKETS};
 ghost use Rattle.usbip_urb.specs.Buffers.{laid};
 ghost use Rattle.usbip_urb.specs.Spelling.{descs_bytes};
 ghost use Rattle.stream_buffers.specs.Iso.{piece, piece_status, pieces, filled, all_filled, iso_outcome, iso_cut};
-ghost use Rattle.stream_buffers.specs.Fillings.{errors_of, FillsIso};
+ghost use Rattle.stream_buffers.specs.Fillings.{FillsIso};
 
 use crate::behind::Behind;
 use std::alloc::Global;
@@ -45,7 +45,7 @@ impl<'a> Behind<'a> {
         Some(self.filling_each(descs))
     }
 
-    // The same, where there are as many packets.
+    /// The same, where there are as many packets.
     fn filling_each(&self, descs: &Descs) -> IsoFilling
         requires few { length descs.now ≤ MAX_PACKETS }
         requires enough { length descs.now ≤ length self.now }
@@ -56,7 +56,7 @@ impl<'a> Behind<'a> {
         for (desc, packet) in descs.as_slice().iter().zip(self.iter()) {
             let filled = filled_by(desc, packet);
             done += u64::from(filled.actual);
-            errors += errors_of(&filled);
+            errors += u32::from(filled.is_failed());
         }
         IsoFilling { done, errors }
     }
@@ -105,14 +105,6 @@ impl<'a> Behind<'a> {
             descs: filled,
         })
     }
-}
-
-/// Whether a descriptor has a status other than 0, as a count.
-fn errors_of(desc: &IsoDesc) -> u32
-    ensures count { result ≡ errors_of (desc.now ∷ []) }
-    ensures one { result ≤ 1 }
-{
-    if desc.status == 0 { 0 } else { 1 }
 }
 
 /// What fits of a packet.

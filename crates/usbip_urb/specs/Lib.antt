@@ -7,5 +7,6 @@ pub mod Requests
 pub mod Answers
 pub mod Heap
 pub mod Buffers
+pub mod Errors
 pub mod ClientPackets
 pub mod Sound

@@ -1,5 +1,8 @@
 //! The URB packets of USB/IP, as plain data.
 
+ghost use Rattle.std.specs.Prelude.{◌≡◌};
+ghost use Rattle.usbip_urb.specs.Errors.{is_failed};
+
 use packet_stream::{Read, ReadError};
 use usb_base::{Bytes, List};
 
@@ -26,6 +29,15 @@ pub struct IsoDesc {
     pub actual: u32,
     /// 0, or the negative of a Linux error number.
     pub status: i32,
+}
+
+impl IsoDesc {
+    /// Whether it has a status other than 0.
+    pub fn is_failed(&self) -> bool
+        ensures { result ≡ is_failed self.now.status }
+    {
+        self.status != 0
+    }
 }
 
 /// The isochronous packets of a request, in wire order.

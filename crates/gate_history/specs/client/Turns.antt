@@ -1,5 +1,5 @@
 -- How the submits of a number and their ends follow each other, and which packets to a client answer which submit.
-use Rattle.stream_buffers.specs.Fillings.{is_failed}
+use Rattle.usbip_urb.specs.Errors.{is_failed}
 use Rattle.std.specs.Prelude.{ℕ, ◌&&◌, not, Bool, true, false, if◌then◌else◌, List, [], ◌∷◌, ◌++◌, map, filter, Option, Some, None}
 use Rattle.usbip_urb.specs.declared.packet.UrbPacket.TheVariants as urb
 use Rattle.usbip_urb.specs.declared.client.ClientPacket.{ClientPacket}

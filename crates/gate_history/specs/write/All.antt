@@ -1,5 +1,5 @@
 -- All that a past has sent, told and counted: what each item gave after those before it, the earliest first.
-use Rattle.stream_buffers.specs.Fillings.{is_failed}
+use Rattle.usbip_urb.specs.Errors.{is_failed}
 use Rattle.std.specs.Prelude.{ℕ, Bool, true, false, List, [], ◌∷◌, ◌++◌, length, filter}
 use Rattle.usbip_urb.specs.declared.packet.UrbPacket.TheVariants as urb
 use Rattle.usbip_urb.specs.declared.client.ClientPacket.{ClientPacket}

@@ -1,6 +1,5 @@
 -- The answers of submits ("usbip_protocol", USBIP_RET_SUBMIT and USBIP_RET_UNLINK).
-use Rattle.stream_buffers.specs.Fillings.{is_failed}
-use Rattle.std.specs.Prelude.{ℕ, ◌==◌, ◌&&◌, nat_lt, not, Bool, if◌then◌else◌, List, [], length, map, filter, replicate, ℤ, pos, bit_and}
+use Rattle.std.specs.Prelude.{ℕ, ◌==◌, ◌&&◌, nat_lt, not, Bool, if◌then◌else◌, List, [], length, map, replicate, ℤ, pos, bit_and}
 use Rattle.usb_base.specs.declared.transfer.Outcome.{Outcome}
 use Rattle.usb_base.specs.Status.{errno_of}
 use Rattle.usbip_urb.specs.declared.code.TheConstants.{URB_SHORT_NOT_OK}
@@ -9,6 +8,7 @@ use Rattle.usbip_urb.specs.declared.packet.IsoDesc.{IsoDesc}
 use Rattle.usbip_urb.specs.declared.packet.UrbPacket.{UrbPacket}
 use Rattle.usbip_urb.specs.declared.packet.UrbPacket.TheVariants as urb
 use Rattle.usbip_urb.specs.Buffers.{total}
+use Rattle.usbip_urb.specs.Errors.{is_failed, errors_of}
 use Rattle.usb_base.specs.declared.errno.TheConstants.{EREMOTEIO}
 use Rattle.gate_history.specs.declared.request.Request.{Request}
 use Rattle.gate_history.specs.client.Verdict.{none_of}
@@ -33,7 +33,7 @@ ret_submit r status actual body descs = urb.RetSubmit (record {
   actual = actual;
   start_frame = 0;
   packets = r.packets;
-  errors = length (filter (λ d. is_failed d.status) descs);
+  errors = errors_of descs;
   tail = replicate 8 0;
   body = body;
   descs = descs;

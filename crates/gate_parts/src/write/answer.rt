@@ -1,9 +1,9 @@
 //! The answers of submits and unlinks ("usbip_protocol", USBIP_RET_SUBMIT and USBIP_RET_UNLINK).
 
-ghost use Rattle.stream_buffers.specs.Fillings.{is_failed};
 ghost use Rattle.usb_base.specs.declared.limits.TheConstants.{MAX_TRANSFER, MAX_PACKETS};
 ghost use Rattle.usbip_urb.specs.Buffers.{laid};
-ghost use Rattle.std.specs.Prelude.{◌≡◌, false, IsTrue, ◌++◌, ◌≤◌, ◌<◌, filter, length, OnOk, OnErr, IfOk};
+ghost use Rattle.usbip_urb.specs.Errors.{errors_of};
+ghost use Rattle.std.specs.Prelude.{◌≡◌, false, IsTrue, ◌++◌, ◌≤◌, ◌<◌, length, OnOk, OnErr, IfOk};
 ghost use Rattle.usbip_urb.specs.Spelling.{spelling};
 ghost use Rattle.usbip_urb.specs.declared.packet.UrbPacket.TheVariants.{RetSubmit as RetSubmitPacket};
 ghost use Rattle.gate_history.specs.write.Answers.{answer_head, told_status, ret_submit, ret_unlink, echoed, without_packets, sent_whole, all_sent, with_outcome};
@@ -132,9 +132,9 @@ fn told_status(asked: &AnsweredSubmit, status: i32, actual: u32) -> i32
 /// How many isochronous packets have a status other than 0.
 fn errors(descs: &[IsoDesc]) -> u32
     requires { length descs.now ≤ MAX_PACKETS }
-    ensures { result ≡ length (filter (λ d. is_failed d.status) descs.now) }
+    ensures { result ≡ errors_of descs.now }
 {
-    descs.iter().filter(|desc| desc.status != 0).count() as u32
+    descs.iter().filter(|desc| desc.is_failed()).count() as u32
 }
 
 /// Isochronous packets of which nothing came have the request's status.

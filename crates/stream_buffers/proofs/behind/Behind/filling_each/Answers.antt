@@ -2,8 +2,8 @@ use Rattle.std.proofs.Common.{List, length, map, ap, arith}
 use Rattle.std.specs.List.{flat_map}
 use Rattle.usb_base.specs.declared.transfer.StreamPacket.{StreamPacket}
 use Rattle.usbip_urb.specs.declared.packet.IsoDesc.{IsoDesc}
+use Rattle.usbip_urb.specs.Errors.{errors_of}
 use Rattle.stream_buffers.specs.Iso.{piece, filled}
-use Rattle.stream_buffers.specs.Fillings.{errors_of}
 use Rattle.stream_buffers.proofs.Left.{none_left}
 use Rattle.stream_buffers.proofs.behind.Behind.filling_each.Goals as goal
 

@@ -2,8 +2,8 @@ use Rattle.std.proofs.Common.{◌≡◌, ◌≤◌, ◌+◌, ◌*◌, ◌^◌, l
 use Rattle.std.specs.List.{flat_map}
 use Rattle.std.specs.Iterator.Adapters.{zip_first}
 use Rattle.std.specs.Slice.Iter.{iter_rest}
+use Rattle.usbip_urb.specs.Errors.{errors_of}
 use Rattle.stream_buffers.specs.Iso.{piece, pieces, filled, all_filled}
-use Rattle.stream_buffers.specs.Fillings.{errors_of}
 use Rattle.stream_buffers.proofs.Left.{left}
 use Rattle.stream_buffers.proofs.behind.Behind.filling_each.Given as goal
 
