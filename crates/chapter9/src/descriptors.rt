@@ -71,7 +71,7 @@ pub fn descriptors_join()
     ensures { AreJoined }
 {}
 
-// What stands from a place on.
+/// What stands from a place on.
 fn behind(bytes: &[u8], place: usize) -> &[u8]
     requires { place ≤ length bytes.now }
     ensures { result.now ≡ drop place bytes.now }
@@ -79,7 +79,7 @@ fn behind(bytes: &[u8], place: usize) -> &[u8]
     &bytes[place..]
 }
 
-// The configuration's own descriptor, if it is right.
+/// The configuration's own descriptor, if it is right.
 fn configuration(blob: &[u8]) -> Option<Part>
     ensures { result ≡ (if is_configuration blob.now then Some (Config (byte_at 5 blob.now) (byte_at 4 blob.now)) else None) }
 {
@@ -95,7 +95,7 @@ fn configuration(blob: &[u8]) -> Option<Part>
     })
 }
 
-// The later descriptor at the front of the bytes, if it is right.
+/// The later descriptor at the front of the bytes, if it is right.
 fn part(bytes: &[u8]) -> Option<Part>
     ensures { result ≡ (if is_right bytes.now then Some (part_at bytes.now) else None) }
 {
@@ -123,7 +123,7 @@ fn interface(bytes: &[u8]) -> Part
     }
 }
 
-// The endpoint, if it has an address.
+/// The endpoint, if it has an address.
 fn endpoint(bytes: &[u8]) -> Option<Part>
     requires { 7 ≤ length bytes.now }
     ensures { result ≡ (if nat_lt (byte_at 2 bytes.now % 128) 16 then Some (endpoint_at bytes.now) else None) }

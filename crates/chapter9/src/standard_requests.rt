@@ -1,6 +1,6 @@
 //! What a device answers to a request on endpoint 0, and what the request changes.
 
-ghost use Rattle.std.specs.Prelude.{◌≡◌, ◌<◌, ◌==◌, ◌&&◌, IsSome, OnOk, OnErr, IfOk, Some, None, is_some, unwrap_or, option_copied, length, take, if◌then◌else◌};
+ghost use Rattle.std.specs.Prelude.{◌≡◌, ◌<◌, ◌==◌, ◌&&◌, IsSome, OnOk, OnErr, IfOk, Some, None, option_copied, length, take, if◌then◌else◌};
 ghost use Rattle.chapter9.specs.State.{is_configured};
 ghost use Rattle.chapter9.specs.Standard.{changed_by, descriptor_of, given_by, halted, is_endpoint, is_setting, outcome_of, read_outcome, state_after, success};
 
@@ -56,17 +56,17 @@ pub fn standard(
             answer(alloc, set, parts, state, &setup, read, transfer.wanted)
         }
         Some(Request::Write(write)) => {
-            if change(parts, state, &setup, write) {
-                Ok(ended(alloc, UsbStatus::Success))
-            } else {
-                Ok(stall(alloc))
-            }
+            let Some(changed) = changed_by(parts, state, &setup, write) else {
+                return Ok(stall(alloc));
+            };
+            *state = changed;
+            Ok(ended(alloc, UsbStatus::Success))
         }
         None => Ok(stall(alloc)),
     }
 }
 
-// Gives what a request reads.
+/// Gives what a request reads.
 fn answer(
     alloc: Global,
     set: &DescriptorSet,
@@ -102,51 +102,41 @@ fn answer(
     }
 }
 
-// Carries out a request without data, and says whether it was one that can be.
-fn change(parts: &Parts, state: &mut DevState, setup: &Setup, write: ControlWrite) -> bool
-    ensures result { result ≡ is_some (changed_by parts.now state.old setup.now write) }
-    ensures state { state.new ≡ unwrap_or (changed_by parts.now state.old setup.now write) state.old }
+/// The state after a request without data, if that can be carried out.
+fn changed_by(
+    parts: &Parts,
+    state: &DevState,
+    setup: &Setup,
+    write: ControlWrite,
+) -> Option<DevState>
+    ensures { result ≡ changed_by parts.now state.now setup.now write }
 {
+    let mut changed = *state;
     match write {
-        ControlWrite::ClearHalt => match endpoint_of(parts, state, setup.index) {
-            Some(ep) => {
-                state.clear_halt(ep);
-                true
-            }
-            None => false,
-        },
-        ControlWrite::SetHalt => match endpoint_of(parts, state, setup.index) {
-            Some(ep) => {
-                halt(state, ep);
-                true
-            }
-            None => false,
-        },
-        ControlWrite::SetAddress => setup.length == 0,
+        ControlWrite::ClearHalt => changed.clear_halt(endpoint_of(parts, state, setup.index)?),
+        ControlWrite::SetHalt => halt(&mut changed, endpoint_of(parts, state, setup.index)?),
+        ControlWrite::SetAddress if setup.length == 0 => {}
         ControlWrite::SetConfiguration if setup.length == 0 && setup.value < 2 => {
-            *state = DevState {
+            changed = DevState {
                 configuration: setup.value as u8,
                 alt: 0,
                 halted: 0,
             };
-            true
         }
         ControlWrite::SetInterface if setup.length == 0 && is_setting(parts, state, setup) => {
-            state.alt = setup.value as u8;
-            state.halted = 0;
-            true
+            changed.alt = setup.value as u8;
+            changed.halted = 0;
         }
-        ControlWrite::ResetPort if setup.length == 0 => {
-            *state = DevState::unconfigured();
-            true
-        }
-        ControlWrite::SetConfiguration | ControlWrite::SetInterface | ControlWrite::ResetPort => {
-            false
-        }
+        ControlWrite::ResetPort if setup.length == 0 => changed = DevState::unconfigured(),
+        ControlWrite::SetAddress
+        | ControlWrite::SetConfiguration
+        | ControlWrite::SetInterface
+        | ControlWrite::ResetPort => return None,
     }
+    Some(changed)
 }
 
-// The endpoint with this address, if the device has one.
+/// The endpoint with this address, if the device has one.
 fn endpoint_of(parts: &Parts, state: &DevState, address: u16) -> Option<EpAddr>
     ensures { result ≡ (if is_endpoint parts.now state.now address then Some address else None) }
 {
@@ -158,7 +148,7 @@ fn endpoint_of(parts: &Parts, state: &DevState, address: u16) -> Option<EpAddr>
     Some(ep)
 }
 
-// Whether the setup names interface 0 and a setting that it has.
+/// Whether the setup names interface 0 and a setting that it has.
 fn is_setting(parts: &Parts, state: &DevState, setup: &Setup) -> bool
     ensures { result ≡ (is_configured state.now && setup.now.index == 0 && is_setting parts.now setup.now.value) }
 {
@@ -176,7 +166,7 @@ fn halt(state: &mut DevState, ep: EpAddr)
     }
 }
 
-// The bytes of a descriptor, by its type and index.
+/// The bytes of a descriptor, by its type and index.
 fn descriptor_of(set: &DescriptorSet, value: u16) -> Option<&[u8]>
     ensures { option_copied result ≡ descriptor_of set.now value }
 {
@@ -189,7 +179,7 @@ fn descriptor_of(set: &DescriptorSet, value: u16) -> Option<&[u8]>
     }
 }
 
-// At most so many of the bytes.
+/// At most so many of the bytes.
 fn given(alloc: Global, bytes: &[u8], most: u32) -> Result<Outcome, Memory>
     ensures outcome { IfOk result (λ outcome. outcome ≡ success (take most bytes.now)) }
     ensures thrifty { OnErr result (0 < length (take most bytes.now)) }

@@ -43,7 +43,7 @@ pub fn table_of(parts: &Parts, state: &DevState) -> EpTable
     table
 }
 
-// Adds the endpoints of an alternate setting: those after an interface descriptor with it, up to the next one.
+/// Adds the endpoints of an alternate setting: those after an interface descriptor with it, up to the next one.
 fn add_setting(table: &mut EpTable, parts: &Parts, alt: u8)
     ensures { table.new.rows ≡ with_rows table.old.rows (endpoints_after alt None parts.now) }
 {
@@ -54,7 +54,7 @@ fn add_setting(table: &mut EpTable, parts: &Parts, alt: u8)
     }
 }
 
-// Adds the endpoint of a descriptor that stands behind one of this interface, if it is one.
+/// Adds the endpoint of a descriptor that stands behind one of this interface, if it is one.
 fn add_endpoint(table: &mut EpTable, interface: Option<u8>, part: &Part)
     ensures { table.new.rows ≡ with_rows table.old.rows (endpoint_rows part.now interface) }
 {
@@ -78,7 +78,7 @@ fn add_endpoint(table: &mut EpTable, interface: Option<u8>, part: &Part)
     }
 }
 
-// The interface whose alternate setting the endpoints behind a descriptor belong to, where it is the wanted one.
+/// The interface whose alternate setting the endpoints behind a descriptor belong to, where it is the wanted one.
 fn interface_after(alt: u8, before: Option<u8>, part: &Part) -> Option<u8>
     ensures { result ≡ interface_after alt before part.now }
 {
@@ -114,7 +114,7 @@ pub fn class_of(parts: &Parts, alt: u8) -> Option<InterfaceClass>
     None
 }
 
-// The class of a descriptor, if it is an interface's with this alternate setting.
+/// The class of a descriptor, if it is an interface's with this alternate setting.
 fn class_at(alt: u8, part: &Part) -> Option<InterfaceClass>
     ensures { result ≡ class_at alt part.now }
 {

@@ -51,7 +51,7 @@ impl<'a> Behind<'a> {
         }
     }
 
-    // The same, where those that were seen don't fill it.
+    /// The same, where those that were seen don't fill it.
     fn filling_behind(&self, max_packet: u16, wanted: u32, mut seen: Seen) -> (Option<Fewest>, Seen)
         requires seen { IsSeen max_packet self.now seen }
         requires too_few { least_below (fills max_packet wanted self.now) seen.count ≡ None }

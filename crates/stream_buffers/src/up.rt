@@ -144,7 +144,7 @@ impl Up {
         filling
     }
 
-    // What is remembered of the packets behind the first `from`.
+    /// What is remembered of the packets behind the first `from`.
     fn seen_behind(&self, from: usize) -> Seen
         ensures { IsSeen self.now.row.max_packet (drop from self.now.held) result }
     {
@@ -154,7 +154,7 @@ impl Up {
         }
     }
 
-    // It is remembered of those at the front alone.
+    /// It is remembered of those at the front alone.
     fn remember(&mut self, from: usize, seen: Seen)
         requires { IsSeen self.old.row.max_packet (drop from self.old.held) seen }
         ensures { self.new ≡ self.old }

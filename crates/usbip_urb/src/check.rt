@@ -68,7 +68,7 @@ pub(crate) fn wrong_answer(bytes: &[u8]) -> Option<(u64, Reason)>
     wrong_size(bytes)
 }
 
-// The first of the two fields of a submit, or of its answer, that is too large.
+/// The first of the two fields of a submit, or of its answer, that is too large.
 fn wrong_size(bytes: &[u8]) -> Option<(u64, Reason)>
     ensures { result ≡ wrong_at size_checks bytes.now }
 {

@@ -133,7 +133,8 @@ fn push_ret_unlink(answer: &RetUnlink, out: &mut Bytes) -> Result<(), Memory>
     )
 }
 
-// The 48 bytes that a packet begins with, in one append: its code, its head, these fields, and what stands behind them.
+/// The 48 bytes that a packet begins with, in one append: its code, its head, these fields, and what stands behind
+/// them.
 #[tactic(auto, unfolding(usb_base::specs::Number::be))]
 fn push_head(
     code: u32,
@@ -155,7 +156,7 @@ fn push_head(
     out.append(&start)
 }
 
-// There is room for all of them before the first comes.
+/// There is room for all of them before the first comes.
 fn push_descs(descs: &[IsoDesc], out: &mut Bytes) -> Result<(), Memory>
     ensures { AppendsSome result out.old out.new (descs_bytes descs.now) }
 {

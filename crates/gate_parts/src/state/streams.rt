@@ -105,7 +105,7 @@ impl Streams {
     }
 }
 
-// That of one endpoint goes down, where it is up and ends so.
+/// That of one endpoint goes down, where it is up and ends so.
 fn lower_ended(stream: &mut Option<Up>, by: Option<Route>)
     ensures { stream.new ≡ unless (is_ended by) stream.old }
 {
