@@ -1,14 +1,14 @@
 -- The searches of a sound table in its lanes.
-use Rattle.std.proofs.Common.{◌≡◌, ◌==◌, ◌&&◌, ℕ, ◌+◌, ◌<◌, Bool, true, false, ltb, List, [], length, map, filter, get_or, slice_get, Option, option_map, Some, None, refl, ap, sym, subst, ◌∙◌, zero-add, arith, inl, inr}
+use Rattle.std.proofs.Common.{◌≡◌, ◌==◌, ◌&&◌, ℕ, ◌+◌, ◌<◌, ◌≤◌, Bool, true, false, ltb, List, [], length, map, filter, get_or, Option, Some, None, refl, ap, sym, subst, ◌∙◌, zero-add, arith, inl, inr}
 use Rattle.std.specs.List.{find, position, position_or_len, zip}
 use Rattle.std.proofs.lemmas.Bool.{lt-ltb, le-ltb, eq-eqb, ne_eqb, cases_eq}
 use Rattle.std.proofs.lemmas.List.{length-map}
-use Rattle.std.proofs.lemmas.Option.{slice_get-map}
 use Rattle.std.proofs.Math.Bool.{and-false}
 use Rattle.usb_base.specs.Endpoint.{endpoint_index}
 use Rattle.urb_arena.specs.ArenaView.{ArenaView}
 use Rattle.urb_arena.specs.Lanes.{ByKey}
 use Rattle.usb_base.specs.declared.endpoint.TheConstants.{ENDPOINTS}
+use Rattle.usbip_urb.specs.declared.code.TheConstants.{MAX_LIVE}
 use Rattle.urb_arena.specs.Distinct.{itself}
 use Rattle.unlink_race.specs.declared.live.Live.{Live}
 use Rattle.unlink_race.specs.declared.live.LiveKind.{LiveKind}
@@ -77,13 +77,15 @@ module _ {arena : ArenaView (ℕ × Live)} {keys : List ℕ} (s : IsSound arena 
   waiting_is ep byte lane same at low =
       earliest_passing (ended_by (Told byte)) (values (get_or arena.lanes lane [])) ∙ ap first_rank (waiting_are ep byte lane same at low) ∙ sym (earliest_passing (waits_for ep) (in_order arena keys))
 
-  -- the nth of them
-  pub nth_waiting : {xs : List Live} → lives_of arena keys ≡ xs → (ep byte lane nth : ℕ) → byte ≡ ep → lane ≡ endpoint_index ep → lane < ENDPOINTS → option_map (λ (e : ℕ × Live). e.1) (slice_get (passing (ended_by (Told byte)) (values (get_or arena.lanes lane []))) nth) ≡ slice_get (filter (waits_for ep) xs) nth
-  nth_waiting v ep byte lane nth same at low =
-      ap (λ (es : List (ℕ × Live)). option_map (λ (e : ℕ × Live). e.1) (slice_get es nth)) (waiting_are ep byte lane same at low)
-      ∙ sym (slice_get-map (λ (e : ℕ × Live). e.1) (passing (waits_for ep) (in_order arena keys)) nth)
-      ∙ ap (λ (ls : List Live). slice_get ls nth) (lives_passing (waits_for ep) (in_order arena keys))
-      ∙ ap (λ (ls : List Live). slice_get (filter (waits_for ep) ls) nth) v
+  -- as requests
+  pub lives_waiting : {xs : List Live} → lives_of arena keys ≡ xs → (ep byte lane : ℕ) → byte ≡ ep → lane ≡ endpoint_index ep → lane < ENDPOINTS → map (λ (e : ℕ × Live). e.1) (passing (ended_by (Told byte)) (values (get_or arena.lanes lane []))) ≡ filter (waits_for ep) xs
+  lives_waiting v ep byte lane same at low =
+      ap (map (λ (e : ℕ × Live). e.1)) (waiting_are ep byte lane same at low)
+      ∙ lives_passing (waits_for ep) (in_order arena keys)
+      ∙ ap (filter (waits_for ep)) v
+
+  pub few_lives : {xs : List Live} → lives_of arena keys ≡ xs → length xs ≤ MAX_LIVE
+  few_lives v = let long = ap length (sym v) ∙ length-map (in_order arena keys) (λ (e : ℕ × Live). e.1) in omega (arith, long, long_entries, s.bound)
 
   -- the least of the lanes' first that pass is the earliest of all that pass
   pub least_passing : (test : Live → Bool) (high : ℕ) → Rises 0 (ranks_of arena keys) high → least test None arena.lanes ≡ earliest test (in_order arena keys)

@@ -1,62 +1,114 @@
 -- A walk along a lane, from each key to the next.
-use Rattle.std.proofs.Common.{◌≡◌, ◌==◌, ℕ, zero, suc, ◌<◌, Bool, true, false, cond, List, [], ◌∷◌, ◌++◌, length, map, get_or, slice_get, ◌-◌, Option, Some, None, MatchOption, refl, ap, sym, subst, ◌∙◌, arith, inl, inr}
-use Rattle.std.proofs.lemmas.Bool.{ne_eqb, eq-eqb, cases_eq}
-use Rattle.std.proofs.lemmas.List.{append_assoc, length-append}
+use Rattle.std.proofs.Common.{◌≡◌, ◌⊎◌, ℕ, zero, suc, ◌<◌, Bool, true, false, cond, List, [], ◌∷◌, ◌++◌, length, map, get_or, Option, Some, None, MatchOption, refl, ap, sym, subst, ◌∙◌, arith, inl, inr}
+use Rattle.std.proofs.lemmas.Bool.{ne_eqb, eq-eqb, cases_eq, cases_Bool}
+use Rattle.std.proofs.lemmas.List.{append_assoc, append-nil}
+use Rattle.std.proofs.lemmas.Option.{none-some, same_Some}
 use Rattle.urb_arena.specs.Lanes.{find_in, key_after_in, first_key, ByKey}
 use Rattle.unlink_race.specs.declared.live.Live.{Live}
 use Rattle.unlink_race.specs.Inner.Earliest.{passing}
+use Rattle.unlink_race.specs.Inner.Rest.{rest, or_those, rest_in, rest_at, Stands, key_of_first, lives_from}
 
 module _ {X : Type 0} where
-  -- the pairs from that of k on
-  abbrev pub rest : ℕ → List (ℕ × X) → List (ℕ × X)
-  rest k [] = []
-  rest k (p ∷ ps) = cond (p.0 == k) (p ∷ ps) (rest k ps)
-
-  abbrev pub rest_at : Option ℕ → List (ℕ × X) → List (ℕ × X)
-  rest_at None ps = []
-  rest_at (Some k) ps = rest k ps
-
-  abbrev Leads : (ℕ → Option ℕ) → List (ℕ × X) → Type 0
-  Leads next ps = (xs : List (ℕ × X)) (p : ℕ × X) (ys : List (ℕ × X)) → ps ≡ xs ++ p ∷ ys → next p.0 ≡ first_key ys
-
   pub onward : (xs : List (ℕ × X)) (p : ℕ × X) (ys : List (ℕ × X)) → xs ++ p ∷ ys ≡ (xs ++ p ∷ []) ++ ys
   onward xs p ys = sym (append_assoc xs (p ∷ []) ys)
 
-  module _ (next : ℕ → Option ℕ) (ps : List (ℕ × X)) (leads : Leads next ps) where
-    -- what follows a key is as long wherever the key stands
-    as_long : (xs : List (ℕ × X)) (p : ℕ × X) (ys xs' : List (ℕ × X)) (q : ℕ × X) (ys' : List (ℕ × X)) → ps ≡ xs ++ p ∷ ys → ps ≡ xs' ++ q ∷ ys' → p.0 ≡ q.0 → length ys ≡ length ys'
-    as_long xs p [] xs' q [] here there same = refl
-    as_long xs p [] xs' q (q2 ∷ ys') here there same =
-        let e : None ≡ Some q2.0 = sym (leads xs p [] here) ∙ ap next same ∙ leads xs' q (q2 ∷ ys') there in
-        absurd (cc)
-    as_long xs p (p2 ∷ ys) xs' q [] here there same =
-        let e : Some p2.0 ≡ None = sym (leads xs p (p2 ∷ ys) here) ∙ ap next same ∙ leads xs' q [] there in
-        absurd (cc)
-    as_long xs p (p2 ∷ ys) xs' q (q2 ∷ ys') here there same =
-        let e : Some p2.0 ≡ Some q2.0 = sym (leads xs p (p2 ∷ ys) here) ∙ ap next same ∙ leads xs' q (q2 ∷ ys') there in
-        let both : p2.0 ≡ q2.0 = cc in
-        ap suc (as_long (xs ++ p ∷ []) p2 ys (xs' ++ q ∷ []) q2 ys' (here ∙ onward xs p (p2 ∷ ys)) (there ∙ onward xs' q (q2 ∷ ys')) both)
+  -- these pairs are the last of a lane
+  pub record IsTail (pss : List (List (ℕ × X))) (ps : List (ℕ × X)) : Type 0 where
+    pub lane : ℕ
+    pub before : List (ℕ × X)
+    pub split : get_or pss lane [] ≡ before ++ ps
 
-    -- so a key stands once
-    rest_behind : (front xs : List (ℕ × X)) (q : ℕ × X) (zs : List (ℕ × X)) → ps ≡ front ++ (xs ++ q ∷ zs) → rest q.0 (xs ++ q ∷ zs) ≡ q ∷ zs
-    rest_behind front [] q zs here = rw (eq-eqb q.0 q.0 refl) refl
-    rest_behind front (p ∷ xs) q zs here =
-        elim (cases_eq p.0 q.0) [
-          | inl same ↦ (
-              let long = as_long front p (xs ++ q ∷ zs) (front ++ p ∷ xs) q zs here (here ∙ sym (append_assoc front (p ∷ xs) (q ∷ zs))) same in
-              let longer = length-append xs (q ∷ zs) in
-              absurd (omega (arith, long, longer)))
-          | inr other ↦ rw (ne_eqb p.0 q.0 other) (rest_behind (front ++ p ∷ []) xs q zs (here ∙ onward front p (xs ++ q ∷ zs)))
-        ]
+  behind : {pss : List (List (ℕ × X))} {p : ℕ × X} {ps : List (ℕ × X)} → IsTail pss (p ∷ ps) → IsTail pss ps
+  behind {p = p} {ps = ps} t = record { lane = t.lane; before = t.before ++ p ∷ []; split = t.split ∙ onward t.before p ps }
 
-    rest_is : (xs : List (ℕ × X)) (p : ℕ × X) (ys : List (ℕ × X)) → ps ≡ xs ++ p ∷ ys → rest_at (first_key ys) ps ≡ ys
-    rest_is xs p [] here = refl
-    rest_is xs p (q ∷ zs) here =
-        let whole : ps ≡ (xs ++ p ∷ []) ++ q ∷ zs = here ∙ onward xs p (q ∷ zs) in
-        ap (rest q.0) whole ∙ rest_behind [] (xs ++ p ∷ []) q zs whole
+  -- ---- where a key stands
+
+  -- what a lane has from a key on is the last of it
+  record Cut (k : ℕ) (ps : List (ℕ × X)) : Type 0 where
+    before : List (ℕ × X)
+    split : ps ≡ before ++ rest k ps
+
+  cut : (k : ℕ) (ps : List (ℕ × X)) → Cut k ps
+  cut k [] = record { before = []; split = refl }
+  cut k (p ∷ ps) =
+      elim (cases_eq p.0 k) [
+        | inl same ↦ record { before = []; split = rw (eq-eqb p.0 k same) refl }
+        | inr other ↦ (let later = cut k ps in record { before = p ∷ later.before; split = rw (ne_eqb p.0 k other) (ap (λ qs. p ∷ qs) later.split) })
+      ]
+
+  -- and so is what all lanes have
+  tail_in : (k : ℕ) (pss : List (List (ℕ × X))) → IsTail pss (rest_in k pss)
+  tail_in k [] = record { lane = zero; before = []; split = refl }
+  tail_in k (ps ∷ pss) = by_rest (tail_in k pss) (rest k ps) (cut k ps).split
+    where
+      by_rest : IsTail pss (rest_in k pss) → (qs : List (ℕ × X)) → ps ≡ (cut k ps).before ++ qs → IsTail (ps ∷ pss) (or_those qs (rest_in k pss))
+      by_rest later [] is = record { lane = suc later.lane; before = later.before; split = later.split }
+      by_rest later (q ∷ qs) is = record { lane = zero; before = (cut k ps).before; split = is }
+
+  tail_at : (key : Option ℕ) (pss : List (List (ℕ × X))) → IsTail pss (rest_at key pss)
+  tail_at None pss = record { lane = zero; before = get_or pss zero []; split = sym (append-nil (get_or pss zero [])) }
+  tail_at (Some k) pss = tail_in k pss
+
+  -- it begins with the key, or the key stands nowhere
+  heads : (k : ℕ) (ps : List (ℕ × X)) → (rest k ps ≡ []) ⊎ (first_key (rest k ps) ≡ Some k)
+  heads k [] = inl refl
+  heads k (p ∷ ps) =
+      elim (cases_eq p.0 k) [
+        | inl same ↦ inr (rw (eq-eqb p.0 k same) (ap Some same))
+        | inr other ↦ rw (ne_eqb p.0 k other) (heads k ps)
+      ]
+
+  starts : (xs : List (ℕ × X)) (p : ℕ × X) (ys : List (ℕ × X)) → first_key (rest p.0 (xs ++ p ∷ ys)) ≡ Some p.0
+  starts [] p ys = rw (eq-eqb p.0 p.0 refl) refl
+  starts (x ∷ xs) p ys =
+      elim (cases_eq x.0 p.0) [
+        | inl here ↦ rw (eq-eqb x.0 p.0 here) (ap Some here)
+        | inr other ↦ rw (ne_eqb x.0 p.0 other) (starts xs p ys)
+      ]
+
+  or_first : (k : ℕ) (qs rs : List (ℕ × X)) → (qs ≡ []) ⊎ (first_key qs ≡ Some k) → (qs ≡ [] → first_key rs ≡ Some k) → first_key (or_those qs rs) ≡ Some k
+  or_first k [] rs head later = later refl
+  or_first k (q ∷ qs) rs (inl none) later = absurd (cc)
+  or_first k (q ∷ qs) rs (inr is) later = is
+
+  no_pair : (xs : List (ℕ × X)) (p : ℕ × X) (ys : List (ℕ × X)) → [] ≡ xs ++ p ∷ ys → ⊥
+  no_pair [] p ys is = cc
+  no_pair (x ∷ xs) p ys is = cc
+
+  starts_in : (pss : List (List (ℕ × X))) (l : ℕ) (xs : List (ℕ × X)) (p : ℕ × X) (ys : List (ℕ × X)) → get_or pss l [] ≡ xs ++ p ∷ ys → first_key (rest_in p.0 pss) ≡ Some p.0
+  starts_in [] zero xs p ys is = absurd (no_pair xs p ys is)
+  starts_in [] (suc l) xs p ys is = absurd (no_pair xs p ys is)
+  starts_in (ps ∷ pss) zero xs p ys is =
+      let here : first_key (rest p.0 ps) ≡ Some p.0 = ap (λ qs. first_key (rest p.0 qs)) is ∙ starts xs p ys in
+      or_first p.0 (rest p.0 ps) (rest_in p.0 pss) (inr here) (λ none. absurd (none-some p.0 (sym (ap first_key none) ∙ here)))
+  starts_in (ps ∷ pss) (suc l) xs p ys is = or_first p.0 (rest p.0 ps) (rest_in p.0 pss) (heads p.0 ps) (λ none. starts_in pss l xs p ys is)
+
+  -- ---- where each key leads to its pair
+
+  module _ (pss : List (List (ℕ × X))) (by_key : ByKey pss) where
+    -- what stands from a key on is the same wherever the key stands
+    same_rest : (ps qs : List (ℕ × X)) → IsTail pss ps → IsTail pss qs → first_key ps ≡ first_key qs → ps ≡ qs
+    same_rest [] [] s t same = refl
+    same_rest [] (q ∷ qs) s t same = absurd (none-some q.0 same)
+    same_rest (p ∷ ps) [] s t same = absurd (none-some p.0 (sym same))
+    same_rest (p ∷ ps) (q ∷ qs) s t same =
+        let key : p.0 ≡ q.0 = same_Some p.0 q.0 same in
+        let to_p = by_key s.lane s.before p ps s.split in
+        let to_q = by_key t.lane t.before q qs t.split in
+        let value : p.1 ≡ q.1 = same_Some p.1 q.1 (sym to_p.0 ∙ ap (λ k. find_in k pss) key ∙ to_q.0) in
+        let later = same_rest ps qs (behind s) (behind t) (sym to_p.1 ∙ ap (λ k. key_after_in k pss) key ∙ to_q.1) in
+        λ i. (key i, value i) ∷ later i
+
+    -- so the last of a lane are those from their first key on
+    from_first : (ps : List (ℕ × X)) → IsTail pss ps → rest_at (first_key ps) pss ≡ ps
+    from_first [] t = refl
+    from_first (p ∷ ps) t = same_rest (rest_in p.0 pss) (p ∷ ps) (tail_in p.0 pss) t (starts_in pss t.lane t.before p ps t.split)
+
+    stands_first : (ps : List (ℕ × X)) → IsTail pss ps → Stands (first_key ps) pss
+    stands_first ps t = ap first_key (from_first ps t)
 
 -- an answer that says what an option is
-pub told_option : (o r : Option ℕ) → MatchOption r (o ≡ None) (λ k. o ≡ Some k) → r ≡ o
+told_option : (o r : Option ℕ) → MatchOption r (o ≡ None) (λ k. o ≡ Some k) → r ≡ o
 told_option o None told = sym told
 told_option o (Some k) told = sym told
 
@@ -66,103 +118,125 @@ Entries = List (ℕ × (ℕ × Live))
 abbrev pub values : Entries → List (ℕ × Live)
 values ps = map (λ p. p.1) ps
 
--- the walk has come to this key: of those that pass, so many that it has yet to come to are ahead of the one looked for
-pub record IsAt (test : Live → Bool) (ps : Entries) (nth : ℕ) (next : Option ℕ) (ahead : ℕ) : Type 0 where
-  pub before : Entries
-  pub split : ps ≡ before ++ rest_at next ps
-  pub first : first_key (rest_at next ps) ≡ next
-  pub there : slice_get (passing test (values ps)) nth ≡ slice_get (passing test (values (rest_at next ps))) ahead
+module _ (pss : List Entries) (by_key : ByKey pss) where
+  -- ---- the walk begins at the front of a lane
 
-pub at_front : (test : Live → Bool) (ps : Entries) (nth : ℕ) (next : Option ℕ) → MatchOption next (ps ≡ []) (λ k. first_key ps ≡ Some k) → IsAt test ps nth next nth
-at_front test ps nth None told = record { before = []; split = told; first = refl; there = ap (λ qs. slice_get (passing test (values qs)) nth) told }
-at_front test [] nth (Some k) told = let e : None ≡ Some k = told in absurd (cc)
-at_front test (p ∷ ps) nth (Some k) told =
-    let e : Some p.0 ≡ Some k = told in
-    let same : p.0 ≡ k = cc in
-    let whole : rest k (p ∷ ps) ≡ p ∷ ps = rw (eq-eqb p.0 k same) refl in
-    record { before = []; split = sym whole; first = ap first_key whole ∙ told; there = ap (λ qs. slice_get (passing test (values qs)) nth) (sym whole) }
+  module _ (lane : ℕ) (front : Option ℕ) (told : MatchOption front (get_or pss lane [] ≡ []) (λ k. first_key (get_or pss lane []) ≡ Some k)) where
+    whole : IsTail pss (get_or pss lane [])
+    whole = record { lane = lane; before = []; split = refl }
 
--- it has come to the end
-pub at_end : {test : Live → Bool} {ps : Entries} {nth ahead : ℕ} {next : Option ℕ} → IsAt test ps nth next ahead → next ≡ None → slice_get (passing test (values ps)) nth ≡ None
-at_end {test = test} {ps = ps} {ahead = ahead} at is = at.there ∙ ap (λ o. slice_get (passing test (values (rest_at o ps))) ahead) is
+    front_is : front ≡ first_key (get_or pss lane [])
+    front_is = by_front front told
+      where
+        by_front : (o : Option ℕ) → MatchOption o (get_or pss lane [] ≡ []) (λ k. first_key (get_or pss lane []) ≡ Some k) → o ≡ first_key (get_or pss lane [])
+        by_front None none = sym (ap first_key none)
+        by_front (Some k) is = sym is
 
--- the pair there
-record Pair (ps : Entries) (k : ℕ) : Type 0 where
-  p : ℕ × (ℕ × Live)
-  behind : Entries
-  is : rest k ps ≡ p ∷ behind
-  key : p.0 ≡ k
+    pub from_front : rest_at front pss ≡ get_or pss lane []
+    from_front = ap (λ o. rest_at o pss) front_is ∙ from_first pss by_key (get_or pss lane []) whole
 
-pair_at : (ps : Entries) (k : ℕ) (qs : Entries) → rest k ps ≡ qs → first_key qs ≡ Some k → Pair ps k
-pair_at ps k [] is first = let e : None ≡ Some k = first in absurd (cc)
-pair_at ps k (p ∷ qs) is first = let e : Some p.0 ≡ Some k = first in record { p = p; behind = qs; is = is; key = cc }
+    pub front_stands : Stands front pss
+    front_stands = subst (λ o. Stands o pss) (sym front_is) (stands_first pss by_key (get_or pss lane []) whole)
 
-pub at_key : {test : Live → Bool} {ps : Entries} {nth ahead : ℕ} {next : Option ℕ} {k : ℕ} → IsAt test ps nth next ahead → next ≡ Some k → IsAt test ps nth (Some k) ahead
-at_key {test = test} {ps = ps} {nth = nth} {ahead = ahead} at is = let P : Option ℕ → Type 0 = λ o. IsAt test ps nth o ahead in subst P is at
+  -- ---- and goes on from a key that stands
 
--- behind the first of a list there is one fewer ahead
-one_passed : {Y : Type 0} (y : Y) (ys : List Y) (n m : ℕ) → 0 < n → m ≡ n - 1 → slice_get (y ∷ ys) n ≡ slice_get ys m
-one_passed y ys zero m some is = absurd (omega (arith, some))
-one_passed y ys (suc n) m some is = let e : n ≡ m = omega (arith, is) in ap (slice_get ys) e
+  -- the pair there
+  record Pair (k : ℕ) : Type 0 where
+    p : ℕ × (ℕ × Live)
+    later : Entries
+    is : rest_in k pss ≡ p ∷ later
+    key : p.0 ≡ k
 
-module _ (test : Live → Bool) (pss : List Entries) (lane : ℕ) (by_key : ByKey pss) (nth k ahead : ℕ) (at : IsAt test (get_or pss lane []) nth (Some k) ahead) where
-  abbrev ps : Entries
-  ps = get_or pss lane []
+  pair_at : (k : ℕ) (qs : Entries) → rest_in k pss ≡ qs → first_key qs ≡ Some k → Pair k
+  pair_at k [] is first = absurd (none-some k first)
+  pair_at k (p ∷ qs) is first = record { p = p; later = qs; is = is; key = same_Some p.0 k first }
 
-  pair : Pair ps k
-  pair = pair_at ps k (rest k ps) refl at.first
+  module _ (test : Live → Bool) (k : ℕ) (stands : Stands (Some k) pss) where
+    pair : Pair k
+    pair = pair_at k (rest_in k pss) refl stands
 
-  whole : ps ≡ at.before ++ pair.p ∷ pair.behind
-  whole = at.split ∙ ap (λ qs. at.before ++ qs) pair.is
+    tail : IsTail pss (pair.p ∷ pair.later)
+    tail = subst (IsTail pss) pair.is (tail_in k pss)
 
-  leads : Leads (λ j. key_after_in j pss) ps
-  leads xs p ys is = (by_key lane xs p ys is).1
+    leads : (find_in k pss ≡ Some pair.p.1) × (key_after_in k pss ≡ first_key pair.later)
+    leads = subst (λ j. (find_in j pss ≡ Some pair.p.1) × (key_after_in j pss ≡ first_key pair.later)) pair.key (by_key tail.lane tail.before pair.p pair.later tail.split)
 
-  pub found : (entry : ℕ × Live) × (find_in k pss ≡ Some entry)
-  found = (pair.p.1, ap (λ j. find_in j pss) (sym pair.key) ∙ (by_key lane at.before pair.p pair.behind whole).0)
+    pub found : (entry : ℕ × Live) × (find_in k pss ≡ Some entry)
+    found = (pair.p.1, leads.0)
 
-  module _ (entry : ℕ × Live) (is : find_in k pss ≡ Some entry) where
-    this : pair.p.1 ≡ entry
-    this = let e : Some pair.p.1 ≡ Some entry = sym (by_key lane at.before pair.p pair.behind whole).0 ∙ ap (λ j. find_in j pss) pair.key ∙ is in cc
+    first_is : (b : Bool) → (entry : ℕ × Live) → find_in k pss ≡ Some entry → test entry.1 ≡ b → key_of_first test (rest_in k pss) ≡ cond b (Some k) (key_of_first test pair.later)
+    first_is b entry is tried =
+        let this : pair.p.1 ≡ entry = same_Some pair.p.1 entry (sym leads.0 ∙ is) in
+        ap (key_of_first test) pair.is ∙ (λ i. cond (test (this i).1) (Some (pair.key i)) (key_of_first test pair.later)) ∙ ap (λ t. cond t (Some k) (key_of_first test pair.later)) tried
 
-    abbrev others : List (ℕ × Live)
-    others = passing test (values pair.behind)
+    -- it passes
+    pub passes : (entry : ℕ × Live) → find_in k pss ≡ Some entry → test entry.1 ≡ true → key_of_first test (rest_in k pss) ≡ Some k
+    passes entry is here = first_is true entry is here
 
-    all_here : (b : Bool) → test entry.1 ≡ b → slice_get (passing test (values ps)) nth ≡ slice_get (cond b (entry ∷ others) others) ahead
-    all_here b tried =
-        at.there
-        ∙ ap (λ qs. slice_get (passing test (values qs)) ahead) pair.is
-        ∙ ap (λ (e : ℕ × Live). slice_get (cond (test e.1) (e ∷ others) others) ahead) this
-        ∙ ap (λ t. slice_get (cond t (entry ∷ others) others) ahead) tried
+    module _ (next : Option ℕ) (told : MatchOption next (key_after_in k pss ≡ None) (λ j. key_after_in k pss ≡ Some j)) where
+      next_is : next ≡ first_key pair.later
+      next_is = told_option (key_after_in k pss) next told ∙ leads.1
 
-    -- it passes, and is the one
-    pub passes : test entry.1 ≡ true → ahead ≡ 0 → slice_get (passing test (values ps)) nth ≡ Some entry
-    passes here none = all_here true here ∙ ap (slice_get (entry ∷ others)) none
+      rest_next : rest_at next pss ≡ pair.later
+      rest_next = ap (λ o. rest_at o pss) next_is ∙ from_first pss by_key pair.later (behind tail)
 
-  -- the walk goes on
-  module _ (next : Option ℕ) (told : MatchOption next (key_after_in k pss ≡ None) (λ j. key_after_in k pss ≡ Some j)) where
-    next_is : next ≡ first_key pair.behind
-    next_is = told_option (key_after_in k pss) next told ∙ ap (λ j. key_after_in j pss) (sym pair.key) ∙ (by_key lane at.before pair.p pair.behind whole).1
+      pub next_stands : Stands next pss
+      next_stands = ap first_key rest_next ∙ sym next_is
 
-    rest_next : rest_at next ps ≡ pair.behind
-    rest_next = ap (λ o. rest_at o ps) next_is ∙ rest_is (λ j. key_after_in j pss) ps leads at.before pair.p pair.behind whole
+      -- it fails
+      pub walked : (entry : ℕ × Live) → find_in k pss ≡ Some entry → test entry.1 ≡ false → key_of_first test (rest_in k pss) ≡ key_of_first test (rest_at next pss)
+      walked entry is away = first_is false entry is away ∙ ap (key_of_first test) (sym rest_next)
 
-    onto : (left : ℕ) → slice_get (passing test (values ps)) nth ≡ slice_get (passing test (values pair.behind)) left → IsAt test ps nth next left
-    onto left there =
-        record {
-          before = at.before ++ pair.p ∷ [];
-          split = whole ∙ onward at.before pair.p pair.behind ∙ ap (λ qs. (at.before ++ pair.p ∷ []) ++ qs) (sym rest_next);
-          first = ap first_key rest_next ∙ sym next_is;
-          there = there ∙ ap (λ qs. slice_get (passing test (values qs)) left) (sym rest_next);
-        }
+      pub nearer : length (rest_at next pss) < length (rest_in k pss)
+      nearer = let here = ap length rest_next in let there = ap length pair.is in omega (arith, here, there)
 
-    -- past one that fails
-    pub walked : (entry : ℕ × Live) → find_in k pss ≡ Some entry → (left : ℕ) → test entry.1 ≡ false → left ≡ ahead → IsAt test ps nth next left
-    walked entry is left away same = onto left (all_here entry is false away ∙ ap (slice_get (passing test (values pair.behind))) (sym same))
+  -- ---- what it has come to
 
-    -- past one that passes
-    pub counted : (entry : ℕ × Live) → find_in k pss ≡ Some entry → (left : ℕ) → test entry.1 ≡ true → 0 < ahead → left ≡ ahead - 1 → IsAt test ps nth next left
-    counted entry is left here some less = onto left (all_here entry is true here ∙ one_passed entry (passing test (values pair.behind)) ahead left some less)
+  -- the first that passes, and those behind it
+  pub record Came (test : Live → Bool) (ps : Entries) (k : ℕ) : Type 0 where
+    pub entry : ℕ × Live
+    pub is : find_in k pss ≡ Some entry
+    pub stands : Stands (key_after_in k pss) pss
+    pub left : passing test (values ps) ≡ entry ∷ passing test (values (rest_at (key_after_in k pss) pss))
 
-    pub nearer : length (rest_at next ps) < length (rest_at (Some k) ps)
-    nearer = let here = ap length rest_next in let there = ap length pair.is in omega (arith, here, there)
+  pub came : (test : Live → Bool) (ps : Entries) (k : ℕ) → IsTail pss ps → key_of_first test ps ≡ Some k → Came test ps k
+  came test [] k t first = absurd (none-some k first)
+  came test (p ∷ ps) k t first =
+      elim (cases_Bool (test p.1.1)) [
+        | inl here ↦ (
+            let key : p.0 ≡ k = same_Some p.0 k (rw here at first) in
+            let there = subst (λ j. (find_in j pss ≡ Some p.1) × (key_after_in j pss ≡ first_key ps)) key (by_key t.lane t.before p ps t.split) in
+            let onto : rest_at (key_after_in k pss) pss ≡ ps = ap (λ o. rest_at o pss) there.1 ∙ from_first pss by_key ps (behind t) in
+            record {
+              entry = p.1;
+              is = there.0;
+              stands = ap first_key onto ∙ sym there.1;
+              left = rw here (ap (λ qs. p.1 ∷ passing test (values qs)) (sym onto));
+            })
+        | inr away ↦ (
+            let later = came test ps k (behind t) (rw away at first) in
+            record { entry = later.entry; is = later.is; stands = later.stands; left = rw away later.left })
+      ]
+
+  -- as requests, where the walk goes on behind it
+  module _ (test : Live → Bool) (start : Option ℕ) (k : ℕ) (first : key_of_first test (rest_at start pss) ≡ Some k) where
+    pub came_at : Came test (rest_at start pss) k
+    came_at = came test (rest_at start pss) k (tail_at start pss) first
+
+    module _ (next : Option ℕ) (told : MatchOption next (key_after_in k pss ≡ None) (λ j. key_after_in k pss ≡ Some j)) where
+      pub came_stands : Stands next pss
+      came_stands = subst (λ o. Stands o pss) (sym (told_option (key_after_in k pss) next told)) came_at.stands
+
+      pub came_lives : (entry : ℕ × Live) → find_in k pss ≡ Some entry → lives_from test start pss ≡ entry.1 ∷ lives_from test next pss
+      came_lives entry is =
+          let this = same_Some came_at.entry entry (sym came_at.is ∙ is) in
+          ap (map (λ (e : ℕ × Live). e.1)) came_at.left ∙ (λ i. (this i).1 ∷ lives_from test (sym (told_option (key_after_in k pss) next told) i) pss)
+
+-- none passes
+pub none_came : (test : Live → Bool) (ps : Entries) → key_of_first test ps ≡ None → passing test (values ps) ≡ []
+none_came test [] first = refl
+none_came test (p ∷ ps) first =
+    elim (cases_Bool (test p.1.1)) [
+      | inl here ↦ absurd (none-some p.0 (sym (rw here at first)))
+      | inr away ↦ rw away (none_came test ps (rw away at first))
+    ]

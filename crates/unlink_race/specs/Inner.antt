@@ -4,4 +4,5 @@ pub mod Indexed
 pub mod Lane
 pub mod Listed
 pub mod Placed
+pub mod Rest
 pub mod Sound

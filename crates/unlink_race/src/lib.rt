@@ -13,9 +13,11 @@ mod ranked;
 mod search;
 mod table;
 mod unlink;
+mod waiting;
 
 pub use ending::{Ending, ending_of};
 pub use iter::Iter;
 pub use live::{Live, LiveKind, StreamEnd};
 pub use lives::{Lives, NotAccepted};
 pub use unlink::{AskedBack, UnlinkTold};
+pub use waiting::Waiting;

@@ -16,6 +16,7 @@ use crate::iter::Iter;
 use crate::live::{Live, StreamEnd};
 use crate::table::Table;
 use crate::unlink::{UnlinkTold, unlink};
+use crate::waiting::Waiting;
 use control_route::Route;
 use std::alloc::Global;
 use std::marker::Model;
@@ -250,21 +251,23 @@ impl Lives {
         self.table.take(place)
     }
 
-    /// The nth, from the earliest on, of the requests that wait for the stream of an endpoint.
-    pub fn waiting(&self, ep: EpAddr, nth: usize) -> Option<&Live>
-        ensures { option_copied result ≡ slice_get (filter (waits_for ep) self.now.live) nth }
+    /// The requests that wait for the stream of an endpoint, from the earliest on.
+    pub fn waiting(&self, ep: EpAddr) -> Waiting<'_>
+        ensures waits { result ≡ filter (waits_for ep) self.now.live }
+        ensures bound { length result ≤ MAX_LIVE }
     {
         if self.client_gone {
-            return None;
+            self.table.none_waiting()
+        } else {
+            self.table.waiting(ep)
         }
-        self.table.waiting(ep, nth)
     }
 
     /// The earliest request that waits for the stream of an endpoint.
     pub fn front(&self, ep: EpAddr) -> Option<&Live>
         ensures { option_copied result ≡ find (waits_for ep) self.now.live }
     {
-        self.waiting(ep, 0)
+        self.waiting(ep).next()
     }
 
     /// Takes it out.

@@ -21,7 +21,8 @@ use crate::iter::Iter;
 use crate::keys::Keys;
 use crate::live::{Live, StreamEnd};
 use crate::ranked::{mark, set_rank};
-use crate::search::{earliest_in_lane, earliest_of_all, first_of_all, nth_in_lane, rank_of};
+use crate::search::{earliest_in_lane, earliest_of_all, first_of_all, rank_of};
+use crate::waiting::Waiting;
 use control_route::Route;
 use std::marker::Model;
 use urb_arena::{Arena, Key};
@@ -191,13 +192,19 @@ impl Table {
         place_ranked(&self.arena, &self.keys, rank)
     }
 
-    /// The nth, from the earliest on, of the requests that wait for packets of this endpoint's stream.
-    pub fn waiting(&self, ep: EpAddr, nth: usize) -> Option<&Live>
-        ensures { option_copied result ≡ slice_get (filter (waits_for ep) self.now) nth }
+    /// The requests that wait for packets of this endpoint's stream, from the earliest on.
+    pub fn waiting(&self, ep: EpAddr) -> Waiting<'_>
+        ensures waits { result ≡ filter (waits_for ep) self.now }
+        ensures bound { length result ≤ MAX_LIVE }
     {
-        let end = StreamEnd::Told(ep.byte());
-        let entry = nth_in_lane(&self.arena, ep.index(), &end, nth)?;
-        Some(&entry.1)
+        Waiting::new(&self.arena, ep.index(), StreamEnd::Told(ep.byte()))
+    }
+
+    /// None of them.
+    pub fn none_waiting(&self) -> Waiting<'_>
+        ensures { result ≡ [] }
+    {
+        Waiting::none(&self.arena)
     }
 
     /// Where the first request stands that waits for packets of an interface that the route touches.

@@ -60,13 +60,10 @@ pub fn write_fillings(
         packets: 0,
     };
     let held = up.len();
-    for nth in 0..lives.len() {
+    for live in lives.waiting(ep) {
         if filled.packets == held {
             return Ok(filled);
         }
-        let Some(live) = lives.waiting(ep, nth) else {
-            return Ok(filled);
-        };
         let Some(taken) = write_filling(alloc, live, up, filled.packets, &mut out.to_client)? else {
             return Ok(filled);
         };

@@ -1,11 +1,12 @@
 -- The loop that answers the requests which a stream's packets fill: what is so far, and one row more.
-use Rattle.std.proofs.Common.{◌≡◌, ◌≤◌, ◌+◌, ℕ, zero, suc, Bool, true, cond, List, [], ◌∷◌, ◌++◌, length, map, drop, Option, Some, None, refl, sym, ap, ◌∙◌, subst, arith, inl, inr}
-use Rattle.std.specs.Prelude.{◌<◌, IsSome, slice_get}
+use Rattle.std.proofs.Common.{◌≡◌, ◌≤◌, ◌+◌, ℕ, suc, Bool, true, cond, List, [], ◌∷◌, ◌++◌, length, map, drop, Option, Some, None, refl, sym, ap, ◌∙◌, subst, arith, inl, inr}
+use Rattle.std.specs.Prelude.{◌<◌, IsSome, IsTrue}
 use Rattle.std.specs.Option.{option_map}
 use Rattle.std.proofs.lemmas.List.{drop-drop, length-drop}
-use Rattle.std.proofs.lemmas.List.Sums.{length-filter, count_by-le-length}
-use Rattle.std.proofs.lemmas.Option.{none-some, same_Some, slice_get_past}
+use Rattle.std.proofs.lemmas.Option.{none-some, same_Some}
+use Rattle.usb_base.specs.declared.limits.TheConstants.{MAX_TRANSFER}
 use Rattle.usb_base.specs.declared.transfer.StreamPacket.{StreamPacket}
+use Rattle.usbip_urb.specs.Buffers.{laid}
 use Rattle.usbip_urb.specs.Spelling.{spelling}
 use Rattle.usbip_urb.specs.declared.packet.IsoDesc.{IsoDesc}
 use Rattle.stream_buffers.specs.Cuts.{Cut}
@@ -20,42 +21,25 @@ use Rattle.unlink_race.specs.declared.live.LiveKind.TheVariants as live_kind
 use Rattle.unlink_race.specs.Searches.{waits_for, waits_at, is_stream}
 use Rattle.gate_history.specs.declared.note.Note.TheVariants as note
 use Rattle.gate_parts.specs.declared.host.fill.Filled.{Filled}
+use Rattle.redir_wire.specs.declared.packet.Caps.{Caps}
 use Rattle.gate_history.specs.write.Answers.{with_given}
+use Rattle.gate_history.specs.write.Asked.{HasItsPackets}
 use Rattle.gate_history.specs.declared.request.Request.{Request}
 use Rattle.gate_history.specs.client.Verdict.{none_of}
 use Rattle.gate_history.specs.host.Fillings.{Given, Transferred, Isochronous, Fill, cut_as, cut_of, none_filled, filled_by, fill}
-use Rattle.gate_parts.specs.state.Rows.{row_request}
+use Rattle.gate_parts.specs.state.Rows.{row_request, IsFine}
 use Rattle.gate_parts.specs.host.Fill.{row_cut, cut_bytes, HasTaken, rows_fill, bytes_by, filled_bytes, filled_notes, waiting_rows}
 use Rattle.gate_parts.specs.declared.write.outputs.Outputs.{Outputs}
 use Rattle.gate_parts.specs.write.Outputs.{with_answers}
 use Rattle.gate_parts.proofs.lemmas.write.Outputs.{with-none, with-both}
 
--- ---- the rows that are left behind the first so many
+-- ---- the rows that wait
 
--- the next is the first of them
-pub left-next : {X : Type 0} (xs : List X) (n : ℕ) (x : X) → slice_get xs n ≡ Some x → drop n xs ≡ x ∷ drop (n + 1) xs
-left-next {X = X} xs n x e = drop-next xs n x e ∙ ap (λ (k : ℕ). x ∷ drop k xs) (plus-one n)
-  where
-    drop-next : (xs : List X) (n : ℕ) (x : X) → slice_get xs n ≡ Some x → drop n xs ≡ x ∷ drop (suc n) xs
-    drop-next [] n x e = absurd (none-some x e)
-    drop-next (y ∷ ys) zero x e = ap (λ (z : X). z ∷ ys) (same_Some y x e)
-    drop-next (y ∷ ys) (suc n) x e = drop-next ys n x e
-
-    plus-one : (n : ℕ) → suc n ≡ n + 1
-    plus-one n = omega arith
-
--- where there is no next, none is left
-pub left-none : {X : Type 0} (xs : List X) (n : ℕ) → slice_get xs n ≡ None → drop n xs ≡ []
-left-none [] zero e = refl
-left-none [] (suc n) e = refl
-left-none (y ∷ ys) zero e = absurd (none-some y (sym e))
-left-none (y ∷ ys) (suc n) e = left-none ys n e
-
--- no more wait than there are
-pub left-all : (ep : ℕ) (ls : List Live) (n : ℕ) → length ls ≤ n → drop n (waiting_rows ep ls) ≡ []
-left-all ep ls n past = left-none (waiting_rows ep ls) n (slice_get_past (waiting_rows ep ls) n (omega (arith, length-filter (waits_for ep) ls, count_by-le-length (waits_for ep) ls, past)))
-
--- ---- one row
+-- what packets of a stream may fill
+pub record CanFill (l : Live) : Type 0 where
+  pub packets : HasItsPackets l.packets l.descs
+  pub few_bytes : l.wanted ≤ MAX_TRANSFER
+  pub lies : IsTrue (laid l.descs l.wanted)
 
 -- a row that waits is one of a stream's
 waits-stream : (ep : ℕ) (kind : LiveKind) → waits_at ep kind ≡ true → is_stream kind ≡ true
@@ -63,18 +47,13 @@ waits-stream ep (live_kind.Wire at kind) h = absurd (false≢true h)
 waits-stream ep (live_kind.Routed route) h = absurd (false≢true h)
 waits-stream ep (live_kind.Stream at interface) h = refl
 
--- one that waits is one of all, and one of a stream's
-pub waiting-at : (P : Live → Type 0) (ep : ℕ) (ls : List Live) (n : ℕ) (l : Live) → AllByRecursion P ls → slice_get (waiting_rows ep ls) n ≡ Some l → P l × (is_stream l.kind ≡ true)
-waiting-at P ep [] n l h e = absurd (none-some l e)
-waiting-at P ep (x ∷ ls) n l h e =
-    elim (cases_Bool (waits_for ep x)) [
-      | inl waits ↦ by-place (λ m later. waiting-at P ep ls m l h.1 later) waits n (rw waits at e)
-      | inr other ↦ waiting-at P ep ls n l h.1 (rw other at e)
+pub all-waiting : (caps : Caps) (ep : ℕ) (ls : List Live) → AllByRecursion (IsFine caps) ls → AllByRecursion CanFill (waiting_rows ep ls)
+all-waiting caps ep [] h = tt
+all-waiting caps ep (l ∷ ls) h =
+    elim (cases_Bool (waits_for ep l)) [
+      | inl waits ↦ rw waits (record { packets = h.0.packets; few_bytes = h.0.few_bytes; lies = h.0.lies (waits-stream ep l.kind waits) }, all-waiting caps ep ls h.1)
+      | inr other ↦ rw other (all-waiting caps ep ls h.1)
     ]
-  where
-    by-place : ((m : ℕ) → slice_get (waiting_rows ep ls) m ≡ Some l → P l × (is_stream l.kind ≡ true)) → waits_for ep x ≡ true → (m : ℕ) → slice_get (x ∷ waiting_rows ep ls) m ≡ Some l → P l × (is_stream l.kind ≡ true)
-    by-place later waits zero e = (subst P (same_Some x l e) h.0, subst (λ (y : Live). is_stream y.kind ≡ true) (same_Some x l e) (waits-stream ep x.kind waits))
-    by-place later waits (suc m) e = later m e
 
 -- ---- what is so far
 
@@ -85,6 +64,13 @@ pub record SoFar (max_packet : ℕ) (held : List StreamPacket) (all : Fill) (out
   pub requests : f.requests + length (rows_fill max_packet rows (drop f.packets held)).fillings ≡ length all.fillings
   pub left : (rows_fill max_packet rows (drop f.packets held)).left ≡ all.left
   pub gives : with_answers out (filled_bytes max_packet rows (drop f.packets held)) (filled_notes (rows_fill max_packet rows (drop f.packets held))) ≡ out_all
+
+-- before the first row
+pub at-first : {max_packet : ℕ} {held : List StreamPacket} {out : Outputs} (all rows : List Live) → rows ≡ all →
+    SoFar max_packet held (rows_fill max_packet all held) (with_answers out (filled_bytes max_packet all held) (filled_notes (rows_fill max_packet all held))) rows (record { requests = 0; packets = 0 }) out
+at-first {max_packet = max_packet} {held = held} {out = out} all rows is =
+    subst (λ (ls : List Live). SoFar max_packet held (rows_fill max_packet all held) (with_answers out (filled_bytes max_packet all held) (filled_notes (rows_fill max_packet all held))) ls (record { requests = 0; packets = 0 }) out) (sym is)
+    (record { few = omega arith; requests = omega arith; left = refl; gives = refl })
 
 -- all was filled
 pub record AllFilled (held : List StreamPacket) (all : Fill) (out_all : Outputs) (f : Filled) (out : Outputs) : Type 0 where
