@@ -10,6 +10,6 @@ mod written;
 
 pub use course::lending::serve_host;
 pub use course::serve_end::ServeEnd;
-pub use course::serving::serve;
+pub use course::serving::{ServeTerms, serve};
 pub use laws::{clients_get_their_own, few_lines_wait, round_limits};
 pub use served::after_loss::AfterLoss;

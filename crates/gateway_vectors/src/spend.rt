@@ -3,7 +3,7 @@
 ghost use Rattle.std.specs.Prelude.{◌≡◌, ◌≤◌, false};
 ghost use Rattle.usb_base.specs.declared.side.Side.TheVariants.{Client, Host};
 
-use bridge_run::{AfterLoss, serve, serve_host};
+use bridge_run::{AfterLoss, ServeTerms, serve, serve_host};
 use gate_outside::{Doors, Sink};
 use model_device::Loopback;
 use session_tape::NoTape;
@@ -11,7 +11,10 @@ use std::alloc::Global;
 use usbgate_commands::ended_as;
 use usbgate_tapes::Status;
 
-/// Serves as `serve` does, or lends a loop as `host` does, until so many bytes and links have come, or five rounds in a
+/// How many rounds in a row may bring nothing.
+const IDLE: u64 = 5;
+
+/// Serves as `serve` does, or lends a loop as `host` does, until so many bytes and links have come, or some rounds in a
 /// row bring nothing.
 pub fn spend<D: Doors, K: Sink>(
     alloc: Global,
@@ -25,12 +28,18 @@ pub fn spend<D: Doors, K: Sink>(
 {
     match words {
         ["serve"] => {
-            let keep = AfterLoss::Keep;
-            let tape = &mut NoTape;
-            ended_as(serve(alloc, "a:1", "b:2", 5, budget, 1, keep, doors, out, tape))
+            let terms = ServeTerms {
+                host: "a:1",
+                listen: "b:2",
+                idle: IDLE,
+                budget,
+                first_id: 1,
+                after_loss: AfterLoss::Keep,
+            };
+            ended_as(serve(alloc, terms, doors, out, &mut NoTape))
         }
         ["host"] => match Loopback::make(alloc) {
-            Ok(device) => ended_as(serve_host(alloc, device, "b:1", 5, budget, doors, out)),
+            Ok(device) => ended_as(serve_host(alloc, device, "b:1", IDLE, budget, doors, out)),
             Err(_) => Status::OutOfMemory,
         },
         _ => Status::Usage,

@@ -7,7 +7,7 @@ use crate::act::Act;
 use crate::peer::Peer;
 use crate::peers::Peers;
 use crate::played::Played;
-use bridge_run::{AfterLoss, ServeEnd, serve};
+use bridge_run::{AfterLoss, ServeEnd, ServeTerms, serve};
 use gate_outside::{Doors, TextSink};
 use gate_sockets::TcpDoors;
 use session_tape::NoTape;
@@ -81,21 +81,17 @@ fn between<D: Doors + Drop, R: Net<Stream = TcpStream, Listener = TcpListener>>(
     requires client_down { (D.link doors Client).up ≡ false }
     requires host_down { (D.link doors Host).up ≡ false }
 {
-    let door = peers.door;
+    let terms = ServeTerms {
+        host,
+        listen: peers.door,
+        idle: IDLE,
+        budget: BUDGET,
+        first_id: 1,
+        after_loss,
+    };
     let mut out = TextSink::make(alloc, ROOM, ROOM, &[])?;
     let mut played = Played { doors, peers };
-    let end = serve(
-        alloc,
-        host,
-        door,
-        IDLE,
-        BUDGET,
-        1,
-        after_loss,
-        &mut played,
-        &mut out,
-        &mut NoTape,
-    );
+    let end = serve(alloc, terms, &mut played, &mut out, &mut NoTape);
     for _ in 0..LAST_LOOKS {
         played.peers.play();
     }

@@ -29,6 +29,23 @@ use usb_base::Bytes;
 /// How many bytes a poll takes at most.
 pub const POLL_LIMIT: usize = 65_536;
 
+/// What the gateway is asked: between whom, and how long.
+#[derive(Clone, Copy)]
+pub struct ServeTerms<'a> {
+    /// The address at which the host is dialled.
+    pub host: &'a str,
+    /// The address of the clients' door.
+    pub listen: &'a str,
+    /// After how many rounds in a row that bring nothing it ends.
+    pub idle: u64,
+    /// How many bytes may come, where each client counts as one.
+    pub budget: u64,
+    /// The first id that is drawn for a packet to the host.
+    pub first_id: u64,
+    /// What becomes of the link of a client whose imported device is lost.
+    pub after_loss: AfterLoss,
+}
+
 /// Dials the host, makes the clients' door, and goes in rounds. A round asks for a client where none is there, and
 /// polls the client and then the host, whose link is up. What comes is an event of a gate that draws its ids from
 /// `first_id` on. Its line is written to the tape, where that is made, and a comment for each refusal. What an event
@@ -39,31 +56,26 @@ pub const POLL_LIMIT: usize = 65_536;
 /// fails is the last.
 pub fn serve<D: Doors, K: Sink, T: Tape>(
     alloc: Global,
-    host: &str,
-    listen: &str,
-    idle: u64,
-    budget: u64,
-    first_id: u64,
-    after_loss: AfterLoss,
+    terms: ServeTerms<'_>,
     doors: &mut D,
     out: &mut K,
     tape: &mut T,
 ) -> ServeEnd
     requires client_down { (D.link doors.old Client).up ≡ false }
     requires host_down { (D.link doors.old Host).up ≡ false }
-    requires idle { 1 ≤ idle }
-    requires budget { 1 ≤ budget }
-    requires first_id { (1 ≤ first_id) × (first_id ≤ u32.MAX) }
+    requires idle { 1 ≤ terms.idle }
+    requires budget { 1 ≤ terms.budget }
+    requires first_id { (1 ≤ terms.first_id) × (terms.first_id ≤ u32.MAX) }
     // Over doors that tell, and a sink and a tape that may.
-    ensures leaves { (c : Course) → NothingYet idle budget c → Tells (outside (D.link doors.old) (D.door doors.old)) (written (K.contents out.old) (K.contents out.old) (T.contents tape.old)) c
-        → Leaves result (gate_runs_out first_id) (record { served = gate_sends after_loss first_id; idle = idle }) (Goes Making c) (outside (D.link doors.new) (D.door doors.new)) (written (K.contents out.old) (K.contents out.new) (T.contents tape.new)) }
+    ensures leaves { (c : Course) → NothingYet terms.entry.idle terms.entry.budget c → Tells (outside (D.link doors.old) (D.door doors.old)) (written (K.contents out.old) (K.contents out.old) (T.contents tape.old)) c
+        → Leaves result (gate_runs_out terms.entry.first_id) (record { served = gate_sends terms.entry.after_loss terms.entry.first_id; idle = terms.entry.idle }) (Goes Making c) (outside (D.link doors.new) (D.door doors.new)) (written (K.contents out.old) (K.contents out.new) (T.contents tape.new)) }
     // Over any doors, any sink and any tape.
-    ensures log { Logged result D.call_gives (gate_runs_out first_id) (Told K.write_gives out.old out.new) (record { host = Some host.now; door = listen.now; taped = T.made tape.old; idle = idle; budget = budget }) (gate_sends after_loss first_id) doors.old doors.new }
+    ensures log { Logged result D.call_gives (gate_runs_out terms.entry.first_id) (Told K.write_gives out.old out.new) (record { host = Some terms.entry.host.now; door = terms.entry.listen.now; taped = T.made tape.old; idle = terms.entry.idle; budget = terms.entry.budget }) (gate_sends terms.entry.after_loss terms.entry.first_id) doors.old doors.new }
     ensures cause { HasCause result (outside (D.link doors.old) (D.door doors.old)) (outside (D.link doors.new) (D.door doors.new)) (faults (K.faults out.old) (T.counts tape.old)) (faults (K.faults out.new) (T.counts tape.new)) }
-    ensures reason { HasReason result idle (outside (D.link doors.old) (D.door doors.old)) (outside (D.link doors.new) (D.door doors.new)) }
+    ensures reason { HasReason result terms.entry.idle (outside (D.link doors.old) (D.door doors.old)) (outside (D.link doors.new) (D.door doors.new)) }
 {
     let mut hello = Bytes::new(alloc);
-    let core = match Gate::make(alloc, first_id, &mut hello) {
+    let core = match Gate::make(alloc, terms.first_id, &mut hello) {
         Ok(core) => core,
         Err(_) => return ServeEnd::Memory,
     };
@@ -71,16 +83,16 @@ pub fn serve<D: Doors, K: Sink, T: Tape>(
         Ok(buf) => buf,
         Err(_) => return ServeEnd::Memory,
     };
-    if let Err(end) = open(host, listen, hello.as_slice(), doors) {
+    if let Err(end) = open(terms.host, terms.listen, hello.as_slice(), doors) {
         return end;
     }
     let gateway = Gateway {
         gate: core,
-        after_loss,
+        after_loss: terms.after_loss,
     };
     let rounds = Rounds {
         host_up: true,
-        ..Rounds::new(idle, budget)
+        ..Rounds::new(terms.idle, terms.budget)
     };
     let mut session = Session::new(alloc, gateway, rounds);
     session.run(&mut buf, doors, out, tape)

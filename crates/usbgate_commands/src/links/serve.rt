@@ -15,6 +15,7 @@ ghost use Rattle.usbgate_commands.specs.links.Serves.{Known, known_of, EndsOf, s
 
 use crate::links::ended::ended_as;
 use crate::words::serving::Serving;
+use bridge_run::ServeTerms;
 use gate_outside::{Doors, Sink};
 use session_tape::{MakeTape, NoTape, Tape, Unmade, first_comment};
 use std::alloc::Global;
@@ -95,17 +96,13 @@ fn between<D: Doors, K: Sink, T: Tape>(
     ensures ends { let known : D → K → T → Known = known_of D.link D.door K.faults K.contents T.counts T.contents out.old in
         EndsOf (gate_runs_out serving.now.first_id) (setting_of serving.now) Making result (known doors.old out.old tape.old) (known doors.new out.new tape.new) }
 {
-    let end = bridge_run::serve(
-        alloc,
-        serving.host,
-        serving.listen,
-        u64::from(serving.idle),
-        BUDGET,
-        u64::from(serving.first_id),
-        serving.after_loss,
-        doors,
-        out,
-        tape,
-    );
-    ended_as(end)
+    let terms = ServeTerms {
+        host: serving.host,
+        listen: serving.listen,
+        idle: u64::from(serving.idle),
+        budget: BUDGET,
+        first_id: u64::from(serving.first_id),
+        after_loss: serving.after_loss,
+    };
+    ended_as(bridge_run::serve(alloc, terms, doors, out, tape))
 }

@@ -22,75 +22,75 @@ use Rattle.bridge_run.proofs.lemmas.log.Opening.{with_host, nothing-before, open
 use Rattle.bridge_run.proofs.course.serving.serve.Goals as goal
 
 pub returns-in-Err-clause-leaves : goal.returns-in-Err-clause-leaves
-returns-in-Err-clause-leaves g c = λ k b t. making-short (record { served = gate_sends c.args.after_loss c.args.first_id; idle = c.args.idle }) k (outside (g.D.Doors.link c.args.doors.now) (g.D.Doors.door c.args.doors.now)) (written (g.K.Sink.contents c.args.out.now) (g.K.Sink.contents c.args.out.now) (g.T.Tape.contents c.args.tape.now)) t
+returns-in-Err-clause-leaves g c = λ k b t. making-short (record { served = gate_sends c.args.terms.after_loss c.args.terms.first_id; idle = c.args.terms.idle }) k (outside (g.D.Doors.link c.args.doors.now) (g.D.Doors.door c.args.doors.now)) (written (g.K.Sink.contents c.args.out.now) (g.K.Sink.contents c.args.out.now) (g.T.Tape.contents c.args.tape.now)) t
 
 pub returns-in-Err-vec-clause-leaves : goal.returns-in-Err-vec-clause-leaves
-returns-in-Err-vec-clause-leaves g c = λ k b t. making-short (record { served = gate_sends c.args.after_loss c.args.first_id; idle = c.args.idle }) k (outside (g.D.Doors.link c.args.doors.now) (g.D.Doors.door c.args.doors.now)) (written (g.K.Sink.contents c.args.out.now) (g.K.Sink.contents c.args.out.now) (g.T.Tape.contents c.args.tape.now)) t
+returns-in-Err-vec-clause-leaves g c = λ k b t. making-short (record { served = gate_sends c.args.terms.after_loss c.args.terms.first_id; idle = c.args.terms.idle }) k (outside (g.D.Doors.link c.args.doors.now) (g.D.Doors.door c.args.doors.now)) (written (g.K.Sink.contents c.args.out.now) (g.K.Sink.contents c.args.out.now) (g.T.Tape.contents c.args.tape.now)) t
 
 pub returns-in-Err-open-clause-leaves : goal.returns-in-Err-open-clause-leaves
 returns-in-Err-open-clause-leaves g c = λ k b t.
-    let p = gate_sends c.args.after_loss c.args.first_id in
-    let s : Setting = record { served = p; idle = c.args.idle } in
+    let p = gate_sends c.args.terms.after_loss c.args.terms.first_id in
+    let s : Setting = record { served = p; idle = c.args.terms.idle } in
     let w = (outside (g.D.Doors.link c.open.new.doors) (g.D.Doors.door c.open.new.doors)) in
     let out = written (g.K.Sink.contents c.args.out.now) (g.K.Sink.contents c.args.out.now) (g.T.Tape.contents c.args.tape.now) in
-    cut-leaves c.in-Err-open.end (gate_runs_out c.args.first_id) s (Goes Making k) w out c.in-Err-open.ensures.cut
-    (cut-next s (Goes Making k) Making k (make p k) w out (reaches-none s (Goes Making k)) refl (never-cut w out k (make p k) (c.in-Err-open.ensures.course p k out (c.as_slice.ensures ∙ c.in-Ok.ensures.sent ∙ ap (λ (l : List ℕ). l ++ out_host c.args.first_id []) c.new-hello.ensures) b.client_down t)))
+    cut-leaves c.in-Err-open.end (gate_runs_out c.args.terms.first_id) s (Goes Making k) w out c.in-Err-open.ensures.cut
+    (cut-next s (Goes Making k) Making k (make p k) w out (reaches-none s (Goes Making k)) refl (never-cut w out k (make p k) (c.in-Err-open.ensures.course p k out (c.as_slice.ensures ∙ c.in-Ok.ensures.sent ∙ ap (λ (l : List ℕ). l ++ out_host c.args.terms.first_id []) c.new-hello.ensures) b.client_down t)))
 
 pub returns-clause-leaves : goal.returns-clause-leaves
 returns-clause-leaves g c = λ k b t.
-    let first = c.args.first_id in
-    let p = gate_sends c.args.after_loss first in
-    let s : Setting = record { served = p; idle = c.args.idle } in
+    let first = c.args.terms.first_id in
+    let p = gate_sends c.args.terms.after_loss first in
+    let s : Setting = record { served = p; idle = c.args.terms.idle } in
     let w = outside (g.D.Doors.link c.open.new.doors) (g.D.Doors.door c.open.new.doors) in
     let ends = outside (g.D.Doors.link c.run.new.doors) (g.D.Doors.door c.run.new.doors) in
     let out = written (g.K.Sink.contents c.args.out.now) (g.K.Sink.contents c.args.out.now) (g.T.Tape.contents c.args.tape.now) in
     let core = c.new-session.result.core in
-    let stands : List LinkEvent → Type 0 = λ events. (core.after_loss ≡ c.args.after_loss) × GateStands first core.gate (gate_events events) in
+    let stands : List LinkEvent → Type 0 = λ events. (core.after_loss ≡ c.args.terms.after_loss) × GateStands first core.gate (gate_events events) in
     let tells = c.in_default.ensures.course p k out (c.as_slice.ensures ∙ c.in-Ok.ensures.sent ∙ ap (λ (l : List ℕ). l ++ out_host first []) c.new-hello.ensures) b.client_down t in
     leaves-then c.run.result (gate_runs_out first) s (Goes Making k) AtDoor (make p k) ends (written (g.K.Sink.contents c.args.out.now) (g.K.Sink.contents c.run.new.out) (g.T.Tape.contents c.run.new.tape))
     (reaches-call s (Goes Making k) Making k (Goes AtDoor (make p k)) (reaches-none s (Goes Making k)) refl)
-    (subst (λ (q : Rounds). IsServing stands p q w (gathering (g.K.Sink.contents c.args.out.now) (g.K.Sink.contents c.args.out.now) (g.T.Tape.contents c.args.tape.now) c.new-session.result.waiting) (make p k) → Leaves c.run.result (gate_runs_out first) (setting p q) (Goes AtDoor (make p k)) ends (written (g.K.Sink.contents c.args.out.now) (g.K.Sink.contents c.run.new.out) (g.T.Tape.contents c.run.new.tape))) (c.new-session.ensures.rounds ∙ ap (λ (q : Rounds). record q { host_up = true }) c.new.ensures) (c.run.ensures.course (c.args.after_loss, first) (g.K.Sink.contents c.args.out.now) (make p k))
-    (subst (λ (l : List ℕ). IsServing stands p (record (begun c.args.idle c.args.budget) { host_up = true }) w (gathering (g.K.Sink.contents c.args.out.now) (g.K.Sink.contents c.args.out.now) (g.T.Tape.contents c.args.tape.now) l) (make p k)) (sym c.new-session.ensures.waiting)
-    (begun-follows stands p c.args.idle c.args.budget w out k b (subst (λ (x : Gateway). (x.after_loss ≡ c.args.after_loss) × GateStands first x.gate (gate_events [])) (sym c.new-session.ensures.core) (refl, c.in-Ok.ensures.made)) refl tells)))
+    (subst (λ (q : Rounds). IsServing stands p q w (gathering (g.K.Sink.contents c.args.out.now) (g.K.Sink.contents c.args.out.now) (g.T.Tape.contents c.args.tape.now) c.new-session.result.waiting) (make p k) → Leaves c.run.result (gate_runs_out first) (setting p q) (Goes AtDoor (make p k)) ends (written (g.K.Sink.contents c.args.out.now) (g.K.Sink.contents c.run.new.out) (g.T.Tape.contents c.run.new.tape))) (c.new-session.ensures.rounds ∙ ap (λ (q : Rounds). record q { host_up = true }) c.new.ensures) (c.run.ensures.course (c.args.terms.after_loss, first) (g.K.Sink.contents c.args.out.now) (make p k))
+    (subst (λ (l : List ℕ). IsServing stands p (record (begun c.args.terms.idle c.args.terms.budget) { host_up = true }) w (gathering (g.K.Sink.contents c.args.out.now) (g.K.Sink.contents c.args.out.now) (g.T.Tape.contents c.args.tape.now) l) (make p k)) (sym c.new-session.ensures.waiting)
+    (begun-follows stands p c.args.terms.idle c.args.terms.budget w out k b (subst (λ (x : Gateway). (x.after_loss ≡ c.args.terms.after_loss) × GateStands first x.gate (gate_events [])) (sym c.new-session.ensures.core) (refl, c.in-Ok.ensures.made)) refl tells)))
 
 pub returns-clause-cause : goal.returns-clause-cause
 returns-clause-cause g c =
     faults-then {T = Unit {0}} (Err c.run.result) (outside (g.D.Doors.link c.args.doors.now) (g.D.Doors.door c.args.doors.now)) (outside (g.D.Doors.link c.open.new.doors) (g.D.Doors.door c.open.new.doors)) (outside (g.D.Doors.link c.run.new.doors) (g.D.Doors.door c.run.new.doors)) (faults (g.K.Sink.faults c.args.out.now) (g.T.Tape.counts c.args.tape.now)) (faults (g.K.Sink.faults c.args.out.now) (g.T.Tape.counts c.args.tape.now)) (faults (g.K.Sink.faults c.run.new.out) (g.T.Tape.counts c.run.new.tape)) (c.in_default.ensures.faults (faults (g.K.Sink.faults c.args.out.now) (g.T.Tape.counts c.args.tape.now))) c.run.ensures.cause
 
 pub returns-in-Err-open-clause-reason : goal.returns-in-Err-open-clause-reason
-returns-in-Err-open-clause-reason g c = cut-reason c.in-Err-open.end c.args.idle (outside (g.D.Doors.link c.args.doors.now) (g.D.Doors.door c.args.doors.now)) (outside (g.D.Doors.link c.open.new.doors) (g.D.Doors.door c.open.new.doors)) c.in-Err-open.ensures.cut
+returns-in-Err-open-clause-reason g c = cut-reason c.in-Err-open.end c.args.terms.idle (outside (g.D.Doors.link c.args.doors.now) (g.D.Doors.door c.args.doors.now)) (outside (g.D.Doors.link c.open.new.doors) (g.D.Doors.door c.open.new.doors)) c.in-Err-open.ensures.cut
 
 pub returns-clause-reason : goal.returns-clause-reason
 returns-clause-reason g c =
     let before = outside (g.D.Doors.link c.args.doors.now) (g.D.Doors.door c.args.doors.now) in
     let w = outside (g.D.Doors.link c.open.new.doors) (g.D.Doors.door c.open.new.doors) in
     let ends = outside (g.D.Doors.link c.run.new.doors) (g.D.Doors.door c.run.new.doors) in
-    reason-from c.run.result c.args.idle before w ends c.in_default.ensures.idles
+    reason-from c.run.result c.args.terms.idle before w ends c.in_default.ensures.idles
     (subst (λ (q : Rounds). HasReason c.run.result q.idle w ends) (c.new-session.ensures.rounds ∙ ap (λ (q : Rounds). record q { host_up = true }) c.new.ensures) c.run.ensures.reason)
 
 pub returns-in-Err-clause-log : goal.returns-in-Err-clause-log
-returns-in-Err-clause-log g c = nothing-before g.D.Doors.call_gives (gate_runs_out c.args.first_id) (Told g.K.Sink.write_gives c.args.out.now c.args.out.now) (with_host c.args.host.now c.args.listen.now (g.T.Tape.made c.args.tape.now) c.args.idle c.args.budget) (gate_sends c.args.after_loss c.args.first_id) c.args.doors.now
+returns-in-Err-clause-log g c = nothing-before g.D.Doors.call_gives (gate_runs_out c.args.terms.first_id) (Told g.K.Sink.write_gives c.args.out.now c.args.out.now) (with_host c.args.terms.host.now c.args.terms.listen.now (g.T.Tape.made c.args.tape.now) c.args.terms.idle c.args.terms.budget) (gate_sends c.args.terms.after_loss c.args.terms.first_id) c.args.doors.now
     (told-none g.K.Sink.write_gives c.args.out.now)
 
 pub returns-in-Err-vec-clause-log : goal.returns-in-Err-vec-clause-log
-returns-in-Err-vec-clause-log g c = nothing-before g.D.Doors.call_gives (gate_runs_out c.args.first_id) (Told g.K.Sink.write_gives c.args.out.now c.args.out.now) (with_host c.args.host.now c.args.listen.now (g.T.Tape.made c.args.tape.now) c.args.idle c.args.budget) (gate_sends c.args.after_loss c.args.first_id) c.args.doors.now
+returns-in-Err-vec-clause-log g c = nothing-before g.D.Doors.call_gives (gate_runs_out c.args.terms.first_id) (Told g.K.Sink.write_gives c.args.out.now c.args.out.now) (with_host c.args.terms.host.now c.args.terms.listen.now (g.T.Tape.made c.args.tape.now) c.args.terms.idle c.args.terms.budget) (gate_sends c.args.terms.after_loss c.args.terms.first_id) c.args.doors.now
     (told-none g.K.Sink.write_gives c.args.out.now)
 
 pub returns-in-Err-open-clause-log : goal.returns-in-Err-open-clause-log
 returns-in-Err-open-clause-log g c =
-    let p = gate_sends c.args.after_loss c.args.first_id in
-    open-logged c.in-Err-open.end g.D.Doors.call_gives (gate_runs_out c.args.first_id) (Told g.K.Sink.write_gives c.args.out.now c.args.out.now) (with_host c.args.host.now c.args.listen.now (g.T.Tape.made c.args.tape.now) c.args.idle c.args.budget) p c.args.doors.now c.open.new.doors (told-none g.K.Sink.write_gives c.args.out.now)
-    (c.in-Err-open.ensures.log (g.T.Tape.made c.args.tape.now) c.args.idle c.args.budget p (c.as_slice.ensures ∙ c.in-Ok.ensures.sent ∙ ap (λ (l : List ℕ). l ++ out_host c.args.first_id []) c.new-hello.ensures))
+    let p = gate_sends c.args.terms.after_loss c.args.terms.first_id in
+    open-logged c.in-Err-open.end g.D.Doors.call_gives (gate_runs_out c.args.terms.first_id) (Told g.K.Sink.write_gives c.args.out.now c.args.out.now) (with_host c.args.terms.host.now c.args.terms.listen.now (g.T.Tape.made c.args.tape.now) c.args.terms.idle c.args.terms.budget) p c.args.doors.now c.open.new.doors (told-none g.K.Sink.write_gives c.args.out.now)
+    (c.in-Err-open.ensures.log (g.T.Tape.made c.args.tape.now) c.args.terms.idle c.args.terms.budget p (c.as_slice.ensures ∙ c.in-Ok.ensures.sent ∙ ap (λ (l : List ℕ). l ++ out_host c.args.terms.first_id []) c.new-hello.ensures))
 
 pub returns-clause-log : goal.returns-clause-log
 returns-clause-log g c =
-    let first = c.args.first_id in
-    let p = gate_sends c.args.after_loss first in
+    let first = c.args.terms.first_id in
+    let p = gate_sends c.args.terms.after_loss first in
     let core = c.new-session.result.core in
-    let stands : List LinkEvent → Type 0 = λ events. (core.after_loss ≡ c.args.after_loss) × GateStands first core.gate (gate_events events) in
+    let stands : List LinkEvent → Type 0 = λ events. (core.after_loss ≡ c.args.terms.after_loss) × GateStands first core.gate (gate_events events) in
     let tells = Told g.K.Sink.write_gives c.args.out.now c.args.out.now in
-    c.run.ensures.log (c.args.after_loss, first) (with_host c.args.host.now c.args.listen.now (g.T.Tape.made c.args.tape.now) c.args.idle c.args.budget) c.args.doors.now c.args.out.now refl
-    (opened-at g.D.Doors.call_gives stands tells c.args.host.now c.args.listen.now (g.T.Tape.made c.args.tape.now) c.args.idle c.args.budget p c.new-session.result.rounds c.args.doors.now c.open.new.doors
-    (c.in_default.ensures.log (g.T.Tape.made c.args.tape.now) c.args.idle c.args.budget p (c.as_slice.ensures ∙ c.in-Ok.ensures.sent ∙ ap (λ (l : List ℕ). l ++ out_host first []) c.new-hello.ensures))
-    (subst (λ (x : Gateway). (x.after_loss ≡ c.args.after_loss) × GateStands first x.gate (gate_events [])) (sym c.new-session.ensures.core) (refl, c.in-Ok.ensures.made))
+    c.run.ensures.log (c.args.terms.after_loss, first) (with_host c.args.terms.host.now c.args.terms.listen.now (g.T.Tape.made c.args.tape.now) c.args.terms.idle c.args.terms.budget) c.args.doors.now c.args.out.now refl
+    (opened-at g.D.Doors.call_gives stands tells c.args.terms.host.now c.args.terms.listen.now (g.T.Tape.made c.args.tape.now) c.args.terms.idle c.args.terms.budget p c.new-session.result.rounds c.args.doors.now c.open.new.doors
+    (c.in_default.ensures.log (g.T.Tape.made c.args.tape.now) c.args.terms.idle c.args.terms.budget p (c.as_slice.ensures ∙ c.in-Ok.ensures.sent ∙ ap (λ (l : List ℕ). l ++ out_host first []) c.new-hello.ensures))
+    (subst (λ (x : Gateway). (x.after_loss ≡ c.args.terms.after_loss) × GateStands first x.gate (gate_events [])) (sym c.new-session.ensures.core) (refl, c.in-Ok.ensures.made))
     (told-none g.K.Sink.write_gives c.args.out.now) refl c.requires.idle c.requires.budget (c.new-session.ensures.rounds ∙ ap (λ (q : Rounds). record q { host_up = true }) c.new.ensures))
