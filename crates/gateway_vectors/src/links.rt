@@ -1,11 +1,13 @@
 //! Runs between links in memory, and what they leave.
 
-use crate::how::How;
+ghost use Rattle.std.specs.Prelude.{◌≡◌, false, IfOk};
+
+use crate::case::Case;
 use crate::recorded::{push_recorded, recording_of};
 use crate::runs::Came;
 use crate::scripts::{script_of, scripts_of};
 use crate::spend::spend;
-use gate_outside::{Script, ScriptDoors, Scripts, Side, TextSink, TextSource};
+use gate_outside::{ScriptDoors, Side, TextSink, TextSource};
 use session_tape::TextTape;
 use std::alloc::Global;
 use usb_base::Memory;
@@ -15,11 +17,11 @@ use usbgate_tapes::Status;
 /// How many bytes can be written to each side.
 const ROOM: usize = 262_144;
 
-/// Runs the words between links that give what these lines say, over a tape that can't be read. Behind its text come
-/// the lines that it recorded.
-pub fn ran_between(alloc: Global, words: &[&str], lines: &str, how: &How) -> Result<Came, Memory> {
-    let mut recording = recording_of(alloc, how)?;
-    let mut came = ran_recorded(alloc, words, lines, how, &mut recording)?;
+/// Runs the words between links that give what the lines say, over a tape that can't be read. Behind its text come the
+/// lines that it recorded.
+pub fn ran_between(alloc: Global, case: Case<'_>) -> Result<Came, Memory> {
+    let mut recording = recording_of(alloc, case.how)?;
+    let mut came = ran_recorded(alloc, case, &mut recording)?;
     push_recorded(alloc, &mut came.text, recording.held())?;
     Ok(came)
 }
@@ -27,66 +29,50 @@ pub fn ran_between(alloc: Global, words: &[&str], lines: &str, how: &How) -> Res
 /// The same with this file to record in, whose lines aren't told.
 pub fn ran_recorded(
     alloc: Global,
-    words: &[&str],
-    lines: &str,
-    how: &How,
+    case: Case<'_>,
     recording: &mut TextTape,
 ) -> Result<Came, Memory> {
-    let mut tape = TextSource::make(alloc, b"c 00\n", 9, &[0])?;
-    with_tape(alloc, words, lines, how, &mut tape, recording)
-}
-
-fn with_tape(
-    alloc: Global,
-    words: &[&str],
-    lines: &str,
-    how: &How,
-    tape: &mut TextSource,
-    recording: &mut TextTape,
-) -> Result<Came, Memory> {
+    let how = case.how;
     let fails = how.write_fails;
+    let mut doors = doors_of(alloc, case)?;
     let mut out = TextSink::make(alloc, how.room, how.write_by.max(1), fails.as_slice())?;
-    with_out(alloc, words, lines, how, tape, &mut out, recording)
+    let status = between(alloc, case, &mut doors, &mut out, recording)?;
+    left(alloc, status, &doors, &out)
 }
 
-fn with_out(
-    alloc: Global,
-    words: &[&str],
-    lines: &str,
-    how: &How,
-    tape: &mut TextSource,
-    out: &mut TextSink,
-    recording: &mut TextTape,
-) -> Result<Came, Memory> {
-    let host = script_of(alloc, lines, "h ")?;
-    let clients = scripts_of(alloc, lines)?;
-    between(alloc, words, host, clients, how, tape, out, recording)
-}
-
-fn between(
-    alloc: Global,
-    words: &[&str],
-    host: Script,
-    clients: Scripts,
-    how: &How,
-    tape: &mut TextSource,
-    out: &mut TextSink,
-    recording: &mut TextTape,
-) -> Result<Came, Memory> {
-    let (host_fails, client_fails) = (how.host_fails, how.client_fails);
-    let mut doors = ScriptDoors::make_many(
+/// The doors, whose links give what the lines say.
+fn doors_of(alloc: Global, case: Case<'_>) -> Result<ScriptDoors, Memory>
+    ensures client_down { IfOk result (λ doors. doors.client.up ≡ false) }
+    ensures host_down { IfOk result (λ doors. doors.host.up ≡ false) }
+{
+    let host = script_of(alloc, case.lines, "h ")?;
+    let clients = scripts_of(alloc, case.lines)?;
+    let (host_fails, client_fails) = (case.how.host_fails, case.how.client_fails);
+    ScriptDoors::make_many(
         alloc,
         ROOM,
         host,
         clients,
         host_fails.as_slice(),
         client_fails.as_slice(),
-    )?;
-    let status = match how.budget {
-        Some(budget) => spend(alloc, words, budget.max(1), &mut doors, out),
-        None => run(alloc, words, tape, out, &mut doors, recording),
-    };
-    left(alloc, status, &doors, out)
+    )
+}
+
+fn between(
+    alloc: Global,
+    case: Case<'_>,
+    doors: &mut ScriptDoors,
+    out: &mut TextSink,
+    recording: &mut TextTape,
+) -> Result<Status, Memory>
+    requires client_down { doors.old.client.up ≡ false }
+    requires host_down { doors.old.host.up ≡ false }
+{
+    if let Some(budget) = case.how.budget {
+        return Ok(spend(alloc, case.words, budget.max(1), doors, out));
+    }
+    let mut tape = TextSource::make(alloc, b"c 00\n", 9, &[0])?;
+    Ok(run(alloc, case.words, &mut tape, out, doors, recording))
 }
 
 /// What was written to each side, and then what was printed.

@@ -2,6 +2,7 @@
 //! form is explained at their head.
 #![tactic(auto)]
 
+mod case;
 mod cut;
 mod how;
 mod lines;

@@ -1,5 +1,6 @@
 //! Recordings of runs.
 
+use crate::case::Case;
 use crate::cut::joined;
 use crate::how::{How, PLAIN};
 use crate::links::ran_recorded;
@@ -40,21 +41,19 @@ fn push_line(text: &mut String, line: &str) -> Result<(), Memory> {
 
 /// Runs the words of `serve` once more, with a recording, and replays that. Where the run does something else then, or
 /// the replay prints other bytes than were written to the links, or other refusals, or ends otherwise, a line says so.
-pub fn check_recording(
-    alloc: Global,
-    words: &[&str],
-    lines: &str,
-    how: &How,
-    came: &mut Came,
-) -> Result<(), Memory> {
+pub fn check_recording(alloc: Global, case: Case<'_>, came: &mut Came) -> Result<(), Memory> {
     let mut recording = recording_of(alloc, &PLAIN)?;
-    let more = with_option(alloc, words)?;
-    let again = ran_recorded(alloc, &more, lines, how, &mut recording)?;
+    let words = with_option(alloc, case.words)?;
+    let case_again = Case {
+        words: &words,
+        ..case
+    };
+    let again = ran_recorded(alloc, case_again, &mut recording)?;
     if again.text.as_str() != came.text.as_str() || again.status != came.status {
         came.text.push_str("recorded it goes otherwise\n")?;
         return Ok(());
     }
-    let replayed = replay(alloc, words, recording.held())?;
+    let replayed = replay(alloc, case.words, recording.held())?;
     if !is_replayed(came, &replayed) {
         came.text.push_str("its recording sends ")?;
         came.text.push_str(replayed.text.as_str())?;

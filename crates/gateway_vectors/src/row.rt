@@ -1,6 +1,7 @@
 //! A row: the words of a run, its tape, and the text that it has to print.
 
-use crate::how::How;
+use crate::case::Case;
+use crate::how::{How, PLAIN};
 use crate::lines::{push_characters, push_lines, push_plain};
 use crate::runs::{Came, ran};
 use crate::verdict::told;
@@ -78,7 +79,12 @@ impl Row {
         for word in words.split_whitespace() {
             list.push(word)?;
         }
-        let came = ran(alloc, &list, "", &How::read(""))?;
+        let case = Case {
+            words: &list,
+            lines: "",
+            how: &PLAIN,
+        };
+        let came = ran(alloc, case)?;
         self.tape.push_str(came.text.as_str())?;
         Ok(())
     }
@@ -109,6 +115,11 @@ impl Row {
         for word in &self.words {
             words.push(word.as_str())?;
         }
-        ran(alloc, &words, self.tape.as_str(), how)
+        let case = Case {
+            words: &words,
+            lines: self.tape.as_str(),
+            how,
+        };
+        ran(alloc, case)
     }
 }

@@ -1,5 +1,6 @@
 //! Runs over a tape.
 
+use crate::case::Case;
 use crate::cut::cut_tape;
 use crate::how::How;
 use crate::links::ran_between;
@@ -19,26 +20,27 @@ pub struct Came {
 }
 
 /// Runs the words: `serve` and `host` between links that give what the lines say, others over a tape of these lines.
-pub fn ran(alloc: Global, words: &[&str], lines: &str, how: &How) -> Result<Came, Memory> {
-    match words {
-        ["serve", ..] => served(alloc, words, lines, how),
-        ["host", ..] => ran_between(alloc, words, lines, how),
-        _ => ran_over(alloc, words, lines, how),
+pub fn ran(alloc: Global, case: Case<'_>) -> Result<Came, Memory> {
+    match case.words {
+        ["serve", ..] => served(alloc, case),
+        ["host", ..] => ran_between(alloc, case),
+        _ => ran_over(alloc, case),
     }
 }
 
 /// Between links, and then once more, recorded, where the words are a session's that isn't recorded, and links took all
 /// that it sends.
-fn served(alloc: Global, words: &[&str], lines: &str, how: &How) -> Result<Came, Memory> {
-    let mut came = ran_between(alloc, words, lines, how)?;
-    let is_session = came.status != Status::Usage && !words.contains(&"--record");
-    if is_session && how.budget.is_none() && how.unsent.is_none() {
-        check_recording(alloc, words, lines, how, &mut came)?;
+fn served(alloc: Global, case: Case<'_>) -> Result<Came, Memory> {
+    let mut came = ran_between(alloc, case)?;
+    let is_session = came.status != Status::Usage && !case.words.contains(&"--record");
+    if is_session && case.how.budget.is_none() && case.how.unsent.is_none() {
+        check_recording(alloc, case, &mut came)?;
     }
     Ok(came)
 }
 
-fn ran_over(alloc: Global, words: &[&str], lines: &str, how: &How) -> Result<Came, Memory> {
+fn ran_over(alloc: Global, case: Case<'_>) -> Result<Came, Memory> {
+    let Case { words, lines, how } = case;
     match how.cut {
         Some(later) => {
             let cut = cut_tape(alloc, lines, how.first.unwrap_or(later), later)?;
