@@ -18,7 +18,7 @@ use Rattle.bridge_run.specs.course.Calls.{Goes, come, down, heard, poll, call, c
 use Rattle.bridge_run.specs.course.Calls.{turned as passed}
 use Rattle.bridge_run.specs.course.Outside.{Outside, outside, NoFault, Shows, Tells, IsTold, IsBetween, IsOneOf, HasLines, IsTaped, Cut, Written, Faults}
 use Rattle.bridge_run.specs.inner.Keeping.{up_of, with_up}
-use Rattle.bridge_run.specs.inner.Follows.{IsServing, setting, polls, behind}
+use Rattle.bridge_run.specs.inner.Follows.{IsServing, polls, behind}
 use Rattle.bridge_run.proofs.lemmas.written.Put.{between-none, all-recorded, if-told, retold}
 
 -- ---- the door
@@ -155,10 +155,6 @@ is_up Host c = c.host_up
 pub call-poll : (s : Setting) (side : Side) (c : Course) → is_up side c ≡ true → call s (polls side) c ≡ poll side (turns_of side c) (behind side) c
 call-poll s Client c up = ap (λ (b : Bool). cond b (poll Client c.client AtHost c) (Goes AtHost c)) up
 call-poll s Host c up = ap (λ (b : Bool). cond b (poll Host c.host AtEnd c) (Goes AtEnd c)) up
-
-pub call-pass : (s : Setting) (side : Side) (c : Course) → is_up side c ≡ false → call s (polls side) c ≡ Goes (behind side) c
-call-pass s Client c up = ap (λ (b : Bool). cond b (poll Client c.client AtHost c) (Goes AtHost c)) up
-call-pass s Host c up = ap (λ (b : Bool). cond b (poll Host c.host AtEnd c) (Goes AtEnd c)) up
 
 -- a poll that gave what the turns have
 poll-is : (side : Side) (turns : List Turn) (next : Next) (c : Course) (polled : Polled) (buf : List ℕ) → length buf ≡ POLL_LIMIT → GivesTurns polled buf turns
@@ -325,7 +321,3 @@ up-is Host stands p k w out c b f e = sym f.host_up ∙ e
 
 pub call-door : (s : Setting) (c : Course) → c.client_up ≡ false → call s AtDoor c ≡ come c.clients c
 call-door s c up = ap (λ (b : Bool). cond b (Goes AtClient c) (come c.clients c)) up
-
-pub setting-down : (p : Prescribed) (side : Side) (k : Rounds) → setting p (record (with_up side k) { busy = true }) ≡ setting p k
-setting-down p Client k = refl
-setting-down p Host k = refl

@@ -218,14 +218,6 @@ pub fewer-if_ok : (result : Result (Unit {0}) ServeEnd) (k m n : Rounds) → Wea
 fewer-if_ok (Ok x) k m n w live r = rests-fewer_if m.busy k m n refl w live r
 fewer-if_ok (Err e) k m n w live r = tt
 
-rests-live_if : (b : Bool) (k m n : Rounds) → m.busy ≡ b → Wears k m → IsLive k → 0 < m.left → RestsBusy b m n → IsLive n
-rests-live_if true k m n is w live left r = subst IsLive (sym r) (record { rests = refl; left = left; waits = omega (arith, w.idle, live.waits, live.within); within = omega arith })
-rests-live_if false k m n is w live left r = subst IsLive (sym r.0) (record { rests = is; left = left; waits = omega (arith, r.1, ap (λ (v : Rounds). v.waits) r.0); within = omega (arith, w.idle, w.waits, live.within) })
-
-pub live-if_ok : (result : Result (Unit {0}) ServeEnd) (k m n : Rounds) → Wears k m → IsLive k → 0 < m.left → Rests result m n → OnOk result (IsLive n)
-live-if_ok (Ok x) k m n w live left r = rests-live_if m.busy k m n refl w live left r
-live-if_ok (Err e) k m n w live left r = tt
-
 -- ---- one part of a round behind another
 
 pub goes-on : {T : Type 0} → (result : Result T ServeEnd) (stands stands2 : List LinkEvent → Type 0) (runs_out : List LinkEvent → LinkEvent → List ℕ → List ℕ → Type 0) (p : Prescribed) (k0 k1 k2 : Rounds) (w w2 : Outside) (out out2 : Written) (from : Outcome) (next1 next2 : Next)

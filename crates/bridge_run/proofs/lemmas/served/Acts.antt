@@ -56,9 +56,6 @@ midway-more act m s j k past all left ep rest old out new is x does = record {
   same = ap (λ (eps : List ℕ). each act eps x.acts) (sym is) ∙ x.same;
 }
 
-pub midway-all : {S : Type 0} (act : ℕ → Act) (m : Meaning S) (s : S) (k : Core S) (past : List Act) (all left : List ℕ) (old new : List ℕ) → left ≡ [] → Midway act m s k past all left old new → Acts m s k past (each act all past) old new
-midway-all act m s k past all left old new none x = subst (λ (acts : List Act). Acts m s k past acts old new) (ap (λ (eps : List ℕ). each act eps x.acts) (sym none) ∙ x.same) x.done
-
 -- ---- a piece
 
 pub any-refused : (notes : List HostNote) → has_any (flat_map refusal_in notes) ≡ list_any is_refusal notes
@@ -104,27 +101,6 @@ handed-is true true before given behind waiting later is w l = l ∙ ap (λ (b :
 handed-is true false before given behind waiting later is w l = l ∙ ap (λ (b : List ℕ). b ++ given) w ∙ sym (gained-is before given behind is)
 handed-is false true before given behind waiting later is w l = l ∙ ap (λ (b : List ℕ). b ++ given) w ∙ sym is
 handed-is false false before given behind waiting later is w l = refl
-
--- and what waits then
-waits-is : (came comes : Bool) (before given behind waiting later : List ℕ) → behind ≡ before ++ given → waiting ≡ cond came [] before → later ≡ waiting ++ given
-    → cond (comes || came) [] later ≡ cond (comes || came) [] behind
-waits-is true true before given behind waiting later is w l = refl
-waits-is true false before given behind waiting later is w l = refl
-waits-is false true before given behind waiting later is w l = refl
-waits-is false false before given behind waiting later is w l = l ∙ ap (λ (b : List ℕ). b ++ given) w ∙ sym is
-
--- what is kept behind an event
-pub lent-stands : {S : Type 0} (m : Meaning S) (s : S) (old mid new : Lent S) (past : List LinkEvent) (e : LinkEvent) → IsLent m s old past
-    → Acts m s mid.core (acts_of m s past) (acts_behind m s (acts_of m s past) e) old.waiting mid.waiting → mid.has_come ≡ (is_coming e || old.has_come)
-    → new ≡ record mid { waiting = cond mid.has_come [] mid.waiting } → IsLent m s new (e ∷ past)
-lent-stands m s old mid new past e lent acts came is =
-    let come = came ∙ ap (λ (b : Bool). is_coming e || b) lent.came in
-    record {
-      stands = subst (λ (l : Lent _). HostStands m s l.core (acts_of m s (e ∷ past))) (sym is) acts.stands;
-      came = ap (λ (l : Lent _). l.has_come) is ∙ come;
-      waiting = ap (λ (l : Lent _). l.waiting) is ∙ ap (λ (b : Bool). cond b [] mid.waiting) come
-          ∙ waits-is (has_come past) (is_coming e) (host_out m s (acts_of m s past)) acts.given (host_out m s (acts_of m s (e ∷ past))) old.waiting mid.waiting acts.sends lent.waiting acts.sent;
-    }
 
 pub lent-sends : {S : Type 0} (m : Meaning S) (s : S) (old mid : Lent S) (past : List LinkEvent) (e : LinkEvent) (sent sent' : Sent) → IsLent m s old past
     → Acts m s mid.core (acts_of m s past) (acts_behind m s (acts_of m s past) e) old.waiting mid.waiting → mid.has_come ≡ (is_coming e || old.has_come)
