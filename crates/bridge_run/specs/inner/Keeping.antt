@@ -26,9 +26,10 @@ abbrev pub up_of : Side → Rounds → Bool
 up_of Client k = k.client_up
 up_of Host k = k.host_up
 
-abbrev pub with_up : Side → Rounds → Rounds
-with_up Client k = record k { client_up = false }
-with_up Host k = record k { host_up = false }
+-- the side's link has gone down
+abbrev pub with_down : Side → Rounds → Rounds
+with_down Client k = record k { client_up = false }
+with_down Host k = record k { host_up = false }
 
 -- sides are refused, and the client is let go or isn't
 abbrev pub refusing : List Refusal → Bool → Rounds → Rounds

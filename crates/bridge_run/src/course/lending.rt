@@ -49,8 +49,8 @@ pub fn serve_host<G: Gadget, D: Doors, K: Sink>(
     ensures cause { HasCause result (outside (D.link doors.old) (D.door doors.old)) (outside (D.link doors.new) (D.door doors.new)) (faults (K.faults out.old) (counts 0 0)) (faults (K.faults out.new) (counts 0 0)) }
     ensures reason { HasReason result idle (outside (D.link doors.old) (D.door doors.old)) (outside (D.link doors.new) (D.door doors.new)) }
 {
-    let core = match Lent::make(alloc, gadget) {
-        Ok(core) => core,
+    let lent = match Lent::make(alloc, gadget) {
+        Ok(lent) => lent,
         Err(_) => return ServeEnd::Memory,
     };
     let mut buf = match vec![in alloc; 0; POLL_LIMIT] {
@@ -60,6 +60,6 @@ pub fn serve_host<G: Gadget, D: Doors, K: Sink>(
     if let Err(_) = doors.listen(listen) {
         return ServeEnd::LinkFault(Side::Client);
     }
-    let mut session = Session::new(alloc, core, Rounds::new(idle, budget));
+    let mut session = Session::new(alloc, lent, Rounds::new(idle, budget));
     session.run(&mut buf, doors, out, &mut NoTape)
 }

@@ -1,7 +1,7 @@
 //! What is kept of the course of serving.
 
 ghost use Rattle.std.specs.Prelude.{◌≡◌, ◌-◌, ◌<◌, true};
-ghost use Rattle.bridge_run.specs.inner.Keeping.{begun, up_of, with_up, refusing, is_last as is_last_of, Settles, Rests};
+ghost use Rattle.bridge_run.specs.inner.Keeping.{begun, up_of, with_down, refusing, is_last as is_last_of, Settles, Rests};
 
 use crate::course::serve_end::ServeEnd;
 use crate::events::sent::Sent;
@@ -75,7 +75,7 @@ impl Rounds {
 
     /// The side's link has ended.
     pub fn end(&mut self, side: Side)
-        ensures { self.new ≡ record (with_up side self.old) { busy = true } }
+        ensures { self.new ≡ record (with_down side self.old) { busy = true } }
     {
         self.busy = true;
         match side {

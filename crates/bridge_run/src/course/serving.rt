@@ -75,8 +75,8 @@ pub fn serve<D: Doors, K: Sink, T: Tape>(
     ensures reason { HasReason result terms.entry.idle (outside (D.link doors.old) (D.door doors.old)) (outside (D.link doors.new) (D.door doors.new)) }
 {
     let mut hello = Bytes::new(alloc);
-    let core = match Gate::make(alloc, terms.first_id, &mut hello) {
-        Ok(core) => core,
+    let gate = match Gate::make(alloc, terms.first_id, &mut hello) {
+        Ok(gate) => gate,
         Err(_) => return ServeEnd::Memory,
     };
     let mut buf = match vec![in alloc; 0; POLL_LIMIT] {
@@ -87,7 +87,7 @@ pub fn serve<D: Doors, K: Sink, T: Tape>(
         return end;
     }
     let gateway = Gateway {
-        gate: core,
+        gate,
         after_loss: terms.after_loss,
     };
     let rounds = Rounds {
@@ -116,6 +116,7 @@ fn open<D: Doors>(host: &str, listen: &str, hello: &[u8], doors: &mut D) -> Resu
     if let Err(_) = doors.listen(listen) {
         return Err(ServeEnd::LinkFault(Side::Client));
     }
-    write_link(doors, Side::Host, true, hello)?;
+    let host_up = true;
+    write_link(doors, Side::Host, host_up, hello)?;
     Ok(())
 }

@@ -2,16 +2,14 @@
 
 ghost use Rattle.std.specs.Prelude.{◌≡◌, ℕ, ◌<◌, ◌||◌, List, [], ◌∷◌, not, true, false, Option, OnOk, OnErr, IfOk, IfErr, length};
 ghost use Rattle.bridge_run.specs.events.Events.{LinkEvent as PastEvent, event_of, is_quiet};
-ghost use Rattle.bridge_run.specs.course.Course.{Course, Next};
-ghost use Rattle.bridge_run.specs.course.Course.{AtDoor, AtClient, Takes};
+ghost use Rattle.bridge_run.specs.course.Course.{Course, Next, AtDoor, AtClient, Takes};
 ghost use Rattle.bridge_run.specs.course.Calls.{Goes, put, quiet};
 ghost use Rattle.bridge_run.specs.declared.course.serving.TheConstants.{POLL_LIMIT};
-ghost use Rattle.bridge_run.specs.course.Outside.{outside, gathering, written, faults, Tells, Cut};
+ghost use Rattle.bridge_run.specs.course.Outside.{outside, gathering, written, faults, Tells, Cut, HasCause, HasReason};
 ghost use Rattle.bridge_run.specs.written.Recorded.{sends_any};
 ghost use Rattle.bridge_run.specs.course.Serves.{MayRunOut, Leaves};
 ghost use Rattle.bridge_run.specs.inner.Keeping.{Agrees, Wears, IsLive, rounds_of, up_of, is_last};
 ghost use Rattle.bridge_run.specs.inner.Follows.{Prepared, IsServing, HasFaults, IsCutEnd, Puts, setting, RunsOn, polls, behind};
-ghost use Rattle.bridge_run.specs.course.Outside.{HasCause, HasReason};
 ghost use Rattle.bridge_run.specs.log.Asks.{Ask};
 ghost use Rattle.bridge_run.specs.log.Log.{Terms, Told, Logged};
 ghost use Rattle.bridge_run.specs.inner.Logging.{IsTaking, IsResting, IsAsking, PutLogs, HappenLogs, Logs};
@@ -77,7 +75,7 @@ impl<C: Served + Drop> Session<C> {
         self.sent.clear();
         self.lines.clear();
         self.core.take(event, &mut self.sent)?;
-        self.sent.lines(self.alloc, &mut self.lines)
+        self.sent.push_lines(self.alloc, &mut self.lines)
     }
 
     /// Whether the event's lines don't wait: it sends anything, or no more may come.
@@ -105,11 +103,12 @@ impl<C: Served + Drop> Session<C> {
             return ServeEnd::Memory;
         }
         self.sent.refusals.clear();
+        let due = true;
         if let Err(end) = record_event(
             self.alloc,
             event,
             &self.sent,
-            true,
+            due,
             &mut self.waiting,
             tape,
         ) {
@@ -342,7 +341,8 @@ impl<C: Served + Drop> Session<C> {
         self.ask_door(doors, out, tape)?;
         self.ask(Side::Client, buf, doors, out, tape)?;
         self.ask(Side::Host, buf, doors, out, tape)?;
-        write_waiting(!self.rounds.busy, &mut self.waiting, tape)?;
+        let due = !self.rounds.busy;
+        write_waiting(due, &mut self.waiting, tape)?;
         self.rounds.rest()
     }
 

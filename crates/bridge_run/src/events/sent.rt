@@ -84,7 +84,7 @@ impl Sent {
     }
 
     /// Appends the lines of the refusals.
-    pub fn lines(&self, alloc: Global, text: &mut Bytes) -> Result<(), Memory>
+    pub fn push_lines(&self, alloc: Global, text: &mut Bytes) -> Result<(), Memory>
         ensures written { OnOk result (text.new ≡ text.old ++ flat_map refusal_line self.now.refusals) }
         ensures wants { OnErr result (any_in self.now.refusals ≡ true) }
     {

@@ -38,14 +38,14 @@ pub fn write_link<D: Doors>(
     Ok(())
 }
 
-/// Closes the side's link if the side is refused.
-pub fn close_link<D: Doors>(doors: &mut D, side: Side, refused: bool)
-    ensures link { D.link doors.new side ≡ closed_if refused side (D.link doors.old side) }
+/// Closes the side's link if it is dropped: the side is refused, or a client is let go.
+pub fn close_link<D: Doors>(doors: &mut D, side: Side, dropped: bool)
+    ensures link { D.link doors.new side ≡ closed_if dropped side (D.link doors.old side) }
     ensures other { D.link doors.new (other side) ≡ D.link doors.old (other side) }
     ensures door { D.door doors.new ≡ D.door doors.old }
-    ensures log { (begun : D) (calls : List Call) → Called D.call_gives calls begun doors.old → Called D.call_gives (closing refused side calls) begun doors.new }
+    ensures log { (begun : D) (calls : List Call) → Called D.call_gives calls begun doors.old → Called D.call_gives (closing dropped side calls) begun doors.new }
 {
-    if refused {
+    if dropped {
         doors.close(side);
     }
 }

@@ -18,7 +18,7 @@ use session_tape::{Tape, push_end, push_piece, push_refusal};
 use std::alloc::Global;
 use usb_base::{Bytes, List, Memory, Refusal};
 
-/// How many bytes of lines are written at the latest: fewer wait.
+/// So many bytes of lines are written though they aren't due: fewer may wait.
 pub const WAITING_LIMIT: usize = 65_536;
 
 /// Puts the event's line behind those that wait, where the tape is made, and a comment for each refusal that it sends.
@@ -71,7 +71,7 @@ pub fn write_waiting<T: Tape>(due: bool, waiting: &mut Bytes, tape: &mut T) -> R
     }
 }
 
-/// Whether as many bytes wait as are written at the latest.
+/// Whether so many bytes wait that they are written though they aren't due.
 fn is_full(waiting: &Bytes) -> bool
     ensures { result ≡ are_full waiting.now }
 {

@@ -17,7 +17,7 @@ use Rattle.bridge_run.specs.declared.course.serving.TheConstants.{POLL_LIMIT}
 use Rattle.bridge_run.specs.course.Calls.{Goes, come, down, heard, poll, call, course_of}
 use Rattle.bridge_run.specs.course.Calls.{turned as passed}
 use Rattle.bridge_run.specs.course.Outside.{Outside, outside, NoFault, Shows, Tells, IsTold, IsBetween, IsOneOf, HasLines, IsTaped, Cut, Written, Faults}
-use Rattle.bridge_run.specs.inner.Keeping.{up_of, with_up}
+use Rattle.bridge_run.specs.inner.Keeping.{up_of, with_down}
 use Rattle.bridge_run.specs.inner.Follows.{IsServing, polls, behind}
 use Rattle.bridge_run.proofs.lemmas.written.Put.{between-none, all-recorded, if-told, retold}
 
@@ -253,7 +253,7 @@ took-follows stands p k k' w out c n f kept =
 -- the link has ended
 ended-as : (side : Side) (stands : List LinkEvent → Type 0) (p : Prescribed) (k : Rounds) (links links' : Side → Link) (door door' : Door) (out : Written) (c : Course) (len : ℕ) → IsServing stands p k (outside links door) out c → len ≡ POLL_LIMIT
     → OneMoved side links links' door door' → (links' side).up ≡ false → (links' side).turns ≡ option_map (λ ts. after len (pending ts)) (links side).turns → (links' side).written ≡ (links side).written
-    → IsServing stands p (record (with_up side k) { busy = true }) (outside links' door') out (record (down side (passed side c)) { busy = true })
+    → IsServing stands p (record (with_down side k) { busy = true }) (outside links' door') out (record (down side (passed side c)) { busy = true })
 ended-as Client stands p k links links' door door' out c len f is moved u turns written =
     let t = passed-tells Client false links links' door door' out c len f.tells is moved u turns written in
     record { stands_for = f.stands_for; tells = record { client = t.client; host = t.host; clients = t.clients; told = t.told; tape = t.tape }; client_up = refl; host_up = f.host_up; busy = refl; waits = f.waits; left = f.left; refused = f.refused }
@@ -263,7 +263,7 @@ ended-as Host stands p k links links' door door' out c len f is moved u turns wr
 
 pub ended-follows : (side : Side) (stands : List LinkEvent → Type 0) (p : Prescribed) (k k' : Rounds) (links links' : Side → Link) (door door' : Door) (out : Written) (c : Course) (len : ℕ) → IsServing stands p k (outside links door) out c → len ≡ POLL_LIMIT
     → OneMoved side links links' door door' → (links' side).up ≡ false → (links' side).turns ≡ option_map (λ ts. after len (pending ts)) (links side).turns → (links' side).written ≡ (links side).written
-    → k' ≡ record (with_up side k) { busy = true } → IsServing stands p k' (outside links' door') out (record (down side (passed side c)) { busy = true })
+    → k' ≡ record (with_down side k) { busy = true } → IsServing stands p k' (outside links' door') out (record (down side (passed side c)) { busy = true })
 ended-follows side stands p k k' links links' door door' out c len f is moved u turns written kept =
     subst (λ (q : Rounds). IsServing stands p q (outside links' door') out (record (down side (passed side c)) { busy = true })) (sym kept) (ended-as side stands p k links links' door door' out c len f is moved u turns written)
 

@@ -18,7 +18,7 @@ use Rattle.bridge_run.specs.written.Recorded.{written_if, waiting_if}
 use Rattle.bridge_run.specs.course.Calls.{Outcome, Goes, Stops, gathered, rest, course_of}
 use Rattle.bridge_run.specs.course.Outside.{Outside, OneRose, NoFault, Tells, IsTold, Cut, Written, Faults}
 use Rattle.bridge_run.specs.course.Serves.{Reaches}
-use Rattle.bridge_run.specs.inner.Keeping.{up_of, with_up, one_if, chances_of, Wears, rounds_of, IsLive, RestsBusy, Rests}
+use Rattle.bridge_run.specs.inner.Keeping.{up_of, with_down, one_if, chances_of, Wears, rounds_of, IsLive, RestsBusy, Rests}
 use Rattle.bridge_run.specs.inner.Follows.{IsServing, HasFaults, setting, Comes, RunsOn}
 use Rattle.bridge_run.proofs.lemmas.course.Course.{reaches-call, reaches-then, runs-then}
 use Rattle.bridge_run.proofs.lemmas.course.Settle.{positive-not_zero, choice}
@@ -190,7 +190,7 @@ wears-then a b c p q = record { idle = q.idle ∙ p.idle; waits = q.waits ∙ p.
     go (inr x) (inr y) = inr (y.0 ∙ x.0, omega (arith, x.1, y.1))
 
 -- a link that has ended is a chance gone
-pub end-wears : (side : Side) (k k' : Rounds) → up_of side k ≡ true → k' ≡ record (with_up side k) { busy = true } → Wears k k'
+pub end-wears : (side : Side) (k k' : Rounds) → up_of side k ≡ true → k' ≡ record (with_down side k) { busy = true } → Wears k k'
 end-wears Client k k' up is = subst (λ (x : Rounds). Wears k x) (sym is) (record { idle = refl; waits = refl; fewer = inl (refl, omega (arith, ap one_if up)) })
 end-wears Host k k' up is = subst (λ (x : Rounds). Wears k x) (sym is) (record { idle = refl; waits = refl; fewer = inl (refl, omega (arith, ap one_if up)) })
 

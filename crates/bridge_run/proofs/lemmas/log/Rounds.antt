@@ -16,7 +16,7 @@ use Rattle.bridge_run.specs.events.Prescribed.{Prescribed, first_of}
 use Rattle.bridge_run.specs.written.Ups.{client_at, client_behind, host_at, host_since, told_of, up_by}
 use Rattle.bridge_run.specs.log.Asks.{Ask, ForClient, OfSide, asks_of, taken, taken_by, has_just_come, quiet_rounds, is_behind_host}
 use Rattle.bridge_run.specs.log.Log.{Terms, events_of, events_before, IsWritten, is_up, is_over, AsksSettled, JustCame, MayBegin, MayAsk, BeginsRound, IsTurnOf, Logged}
-use Rattle.bridge_run.specs.inner.Keeping.{up_of, with_up, chances_of, Wears, one_if}
+use Rattle.bridge_run.specs.inner.Keeping.{up_of, with_down, chances_of, Wears, one_if}
 use Rattle.bridge_run.specs.course.Course.{AtClient, AtDoor}
 use Rattle.bridge_run.specs.inner.Follows.{behind, polls}
 use Rattle.bridge_run.specs.inner.Logging.{IsAt, up_at, IsOn, IsTaking, HappenLogs, IsResting, IsPatient, HasWaited, Waits, DoorTurn, HasTurn, IsAsking, Logs}
@@ -204,24 +204,24 @@ rest-resting gives stands tells terms p Host buf k begun d0 d1 a up g =
     quiet-on gives stands tells terms p a.asks (OfSide Host NotYet) (Poll Host NotYet buf) k begun d0 d1 a.on g (may-poll Host gives stands tells terms p k begun d0 up a) refl refl refl refl refl (λ of. rest-links Host of buf a.on.at.calls) refl
 
 -- a side's end takes its link down, and leaves the other's, what may still come, and the first refusal
-down-left : (side : Side) (k k' : Rounds) → k' ≡ record (with_up side k) { busy = true } → k'.left ≡ k.left
+down-left : (side : Side) (k k' : Rounds) → k' ≡ record (with_down side k) { busy = true } → k'.left ≡ k.left
 down-left Client k k' is = ap (λ (q : Rounds). q.left) is
 down-left Host k k' is = ap (λ (q : Rounds). q.left) is
 
-down-refused : (side : Side) (k k' : Rounds) → k' ≡ record (with_up side k) { busy = true } → k'.refused ≡ k.refused
+down-refused : (side : Side) (k k' : Rounds) → k' ≡ record (with_down side k) { busy = true } → k'.refused ≡ k.refused
 down-refused Client k k' is = ap (λ (q : Rounds). q.refused) is
 down-refused Host k k' is = ap (λ (q : Rounds). q.refused) is
 
-down-client : (side : Side) (k k' : Rounds) (up : Bool) → k' ≡ record (with_up side k) { busy = true } → k.client_up ≡ up → k'.client_up ≡ client_at (SideEnd side) up
+down-client : (side : Side) (k k' : Rounds) (up : Bool) → k' ≡ record (with_down side k) { busy = true } → k.client_up ≡ up → k'.client_up ≡ client_at (SideEnd side) up
 down-client Client k k' up is was = ap (λ (q : Rounds). q.client_up) is
 down-client Host k k' up is was = ap (λ (q : Rounds). q.client_up) is ∙ was
 
-down-host : (side : Side) (k k' : Rounds) (up : Bool) → k' ≡ record (with_up side k) { busy = true } → k.host_up ≡ up → k'.host_up ≡ host_at (SideEnd side) up
+down-host : (side : Side) (k k' : Rounds) (up : Bool) → k' ≡ record (with_down side k) { busy = true } → k.host_up ≡ up → k'.host_up ≡ host_at (SideEnd side) up
 down-host Client k k' up is was = ap (λ (q : Rounds). q.host_up) is ∙ was
 down-host Host k k' up is was = ap (λ (q : Rounds). q.host_up) is
 
 pub end-taking : {D : Type 0} → (gives : D → Call → D → Type 0) (stands : List LinkEvent → Type 0) (tells : List ℕ → Type 0) (terms : Terms) (p : Prescribed) (side : Side) (buf : List ℕ) (k k' : Rounds) (begun d0 d1 : D) → (a : IsAsking (polls side) gives stands tells terms p k begun d0)
-    → up_of side k ≡ true → gives d0 (Poll side Ended buf) d1 → k' ≡ record (with_up side k) { busy = true } → IsTaking gives stands tells terms p (OfSide side Ended ∷ a.asks) (SideEnd side) k' begun d1
+    → up_of side k ≡ true → gives d0 (Poll side Ended buf) d1 → k' ≡ record (with_down side k) { busy = true } → IsTaking gives stands tells terms p (OfSide side Ended ∷ a.asks) (SideEnd side) k' begun d1
 end-taking gives stands tells terms p side buf k k' begun d0 d1 a up g kept =
     let at = a.on.at in
     let events = events_of at.calls in
@@ -300,11 +300,11 @@ gone-asking Client gives stands tells terms p k begun now down a = record {
 gone-asking Host gives stands tells terms p k begun now down a = record { asks = a.asks; on = a.on; patient = a.patient; waited = a.waited; turn = λ up. absurd (false≢true (sym down ∙ up)) }
 
 -- a side's end leaves how long it waits
-pub down-idle : (side : Side) (k k' : Rounds) → k' ≡ record (with_up side k) { busy = true } → k'.idle ≡ k.idle
+pub down-idle : (side : Side) (k k' : Rounds) → k' ≡ record (with_down side k) { busy = true } → k'.idle ≡ k.idle
 down-idle Client k k' is = ap (λ (q : Rounds). q.idle) is
 down-idle Host k k' is = ap (λ (q : Rounds). q.idle) is
 
-pub down-waits : (side : Side) (k k' : Rounds) → k' ≡ record (with_up side k) { busy = true } → k'.waits ≡ k.waits
+pub down-waits : (side : Side) (k k' : Rounds) → k' ≡ record (with_down side k) { busy = true } → k'.waits ≡ k.waits
 down-waits Client k k' is = ap (λ (q : Rounds). q.waits) is
 down-waits Host k k' is = ap (λ (q : Rounds). q.waits) is
 

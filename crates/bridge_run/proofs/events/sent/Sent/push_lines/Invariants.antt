@@ -1,7 +1,7 @@
 use Rattle.std.proofs.Common.{◌≡◌, ◌++◌, drop}
 use Rattle.std.specs.List.{flat_map}
 use Rattle.usb_base.specs.Refusal.{refusal_line}
-use Rattle.bridge_run.proofs.events.sent.Sent.lines.Given as goal
+use Rattle.bridge_run.proofs.events.sent.Sent.push_lines.Given as goal
 
 abbrev pub invariant-loop-refusal : goal.invariant-loop-refusal
 invariant-loop-refusal l = l.text ++ flat_map refusal_line (drop l.refusal-index l.self.refusals) ≡ l.initial.text ++ flat_map refusal_line l.self.refusals
