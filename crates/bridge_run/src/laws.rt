@@ -4,7 +4,7 @@ ghost use Rattle.std.specs.Prelude.{◌≡◌, ◌<◌, ◌∷◌, [], true, fal
 ghost use Rattle.bridge_run.specs.declared.course.serve_end.ServeEnd.{ServeEnd as End};
 ghost use Rattle.bridge_run.specs.events.Events.{LinkEvent as PastEvent};
 ghost use Rattle.bridge_run.specs.events.Prescribed.{Prescribed, gained};
-ghost use Rattle.bridge_run.specs.declared.course.serving.TheConstants.{POLL_LIMIT};
+ghost use Rattle.bridge_run.specs.declared.course.polling.TheConstants.{POLL_LIMIT};
 ghost use Rattle.bridge_run.specs.declared.written.recording.TheConstants.{WAITING_LIMIT};
 ghost use Rattle.bridge_run.specs.written.Recorded.{sends_any};
 ghost use Rattle.bridge_run.specs.course.Course.{Setting, Course, Next};

@@ -13,7 +13,7 @@ use Rattle.bridge_run.specs.events.Events.{LinkEvent, ClientComes, ClientQuiet, 
 use Rattle.bridge_run.specs.events.Prescribed.{Prescribed, gained, refuses, drops, first_of}
 use Rattle.bridge_run.specs.written.Recorded.{lines_of, has_any, is_last, is_full, written_if, waiting_if}
 use Rattle.bridge_run.specs.course.Course.{Setting, Course, Next, Making, AtDoor, AtClient, AtHost, AtEnd, Takes}
-use Rattle.bridge_run.specs.declared.course.serving.TheConstants.{POLL_LIMIT}
+use Rattle.bridge_run.specs.declared.course.polling.TheConstants.{POLL_LIMIT}
 use Rattle.bridge_run.specs.course.Calls.{Outcome, Goes, Stops, is_due, lines_with, put, settle, ends_next, take_event, come, heard, poll, gathered, make, call, and_then, calls}
 use Rattle.bridge_run.specs.served.Gate.{gate_events}
 use Rattle.usbgate_tapes.specs.tape.Tape.{host_ended}

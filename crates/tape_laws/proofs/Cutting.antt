@@ -15,7 +15,7 @@ use Rattle.bridge_run.specs.events.Events.{LinkEvent}
 use Rattle.bridge_run.specs.events.Prescribed.{Prescribed, gained}
 use Rattle.bridge_run.specs.written.Recorded.{lines_of}
 use Rattle.bridge_run.specs.course.Course.{Setting, Course, Next, Making, AtDoor, AtClient, AtHost, AtEnd, Takes}
-use Rattle.bridge_run.specs.declared.course.serving.TheConstants.{POLL_LIMIT}
+use Rattle.bridge_run.specs.declared.course.polling.TheConstants.{POLL_LIMIT}
 use Rattle.bridge_run.specs.course.Calls.{Outcome, Goes, Stops, come, turned, heard, poll, gathered, call, course_of}
 use Rattle.bridge_run.specs.written.Ups.{client_at, host_at, client_behind, to_clients}
 use Rattle.bridge_run.proofs.lemmas.course.Settle.{take-course}

@@ -10,7 +10,7 @@ use Rattle.gate_outside.specs.declared.turn.Polled.TheVariants.{Took, NotYet, En
 use Rattle.gate_outside.specs.Turns.{pending, answer, given, after}
 use Rattle.bridge_run.specs.events.Events.{LinkEvent, ClientComes, ClientQuiet, SidePiece, SideEnd}
 use Rattle.bridge_run.specs.written.Recorded.{lines_of, sends_any, is_last, is_full, written_if, waiting_if}
-use Rattle.bridge_run.specs.declared.course.serving.TheConstants.{POLL_LIMIT}
+use Rattle.bridge_run.specs.declared.course.polling.TheConstants.{POLL_LIMIT}
 use Rattle.bridge_run.specs.declared.course.serve_end.ServeEnd.{ServeEnd}
 use Rattle.bridge_run.specs.declared.course.serve_end.ServeEnd.TheVariants as end
 use Rattle.bridge_run.specs.events.Prescribed.{Prescribed, gained, refuses, drops, first_of}

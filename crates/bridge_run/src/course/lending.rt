@@ -11,9 +11,9 @@ ghost use Rattle.bridge_run.specs.served.Lent.{lent_sends};
 ghost use Rattle.bridge_run.specs.served.LentStops.{LentStops};
 ghost use Rattle.bridge_run.specs.course.Serves.{NothingYet, Leaves};
 
+use crate::course::polling::POLL_LIMIT;
 use crate::course::rounds::Rounds;
 use crate::course::serve_end::ServeEnd;
-use crate::course::serving::POLL_LIMIT;
 use crate::course::session::Session;
 use crate::served::lent::Lent;
 use gate_outside::{Doors, Side, Sink};

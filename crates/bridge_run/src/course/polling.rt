@@ -1,13 +1,15 @@
 //! Polling a side's link.
 
 ghost use Rattle.std.specs.Prelude.{◌≡◌, ℕ, List, length, IsTrue};
-ghost use Rattle.bridge_run.specs.declared.course.serving.TheConstants.{POLL_LIMIT as LIMIT};
+ghost use Rattle.bridge_run.specs.declared.course.polling.TheConstants.{POLL_LIMIT as LIMIT};
 ghost use Rattle.bridge_run.specs.inner.Polling.{IsPolled, Brings};
 
-use crate::course::serving::POLL_LIMIT;
 use crate::served::any::Served;
 use gate_outside::{Doors, Polled, Side};
 use usb_base::Incoming;
+
+/// How many bytes a poll takes at most.
+pub const POLL_LIMIT: usize = 65_536;
 
 /// What a poll has brought.
 #[derive(Clone, Copy)]

@@ -14,6 +14,7 @@ ghost use Rattle.bridge_run.specs.inner.Logging.{OpenLogs};
 ghost use Rattle.bridge_run.specs.inner.Follows.{HasFaults, IsCutEnd, IsOpen, Opens};
 ghost use Rattle.bridge_run.specs.inner.Idling.{NotIdle};
 
+use crate::course::polling::POLL_LIMIT;
 use crate::course::rounds::Rounds;
 use crate::course::serve_end::ServeEnd;
 use crate::course::session::Session;
@@ -25,9 +26,6 @@ use gate_outside::{Doors, Side, Sink};
 use session_tape::Tape;
 use std::alloc::Global;
 use usb_base::Bytes;
-
-/// How many bytes a poll takes at most.
-pub const POLL_LIMIT: usize = 65_536;
 
 /// What the gateway is asked: between whom, and how long.
 #[derive(Clone, Copy)]

@@ -4,7 +4,7 @@ ghost use Rattle.std.specs.Prelude.{◌≡◌, ℕ, ◌<◌, ◌||◌, List, [],
 ghost use Rattle.bridge_run.specs.events.Events.{LinkEvent as PastEvent, event_of, is_quiet};
 ghost use Rattle.bridge_run.specs.course.Course.{Course, Next, AtDoor, AtClient, Takes};
 ghost use Rattle.bridge_run.specs.course.Calls.{Goes, put, quiet};
-ghost use Rattle.bridge_run.specs.declared.course.serving.TheConstants.{POLL_LIMIT};
+ghost use Rattle.bridge_run.specs.declared.course.polling.TheConstants.{POLL_LIMIT};
 ghost use Rattle.bridge_run.specs.course.Outside.{outside, gathering, written, faults, Tells, Cut, HasCause, HasReason};
 ghost use Rattle.bridge_run.specs.written.Recorded.{sends_any};
 ghost use Rattle.bridge_run.specs.course.Serves.{MayRunOut, Leaves};

@@ -10,7 +10,7 @@ use Rattle.bridge_run.specs.declared.course.rounds.Rounds.{Rounds}
 use Rattle.bridge_run.specs.declared.course.serve_end.ServeEnd.{ServeEnd}
 use Rattle.bridge_run.specs.events.Prescribed.{Prescribed}
 use Rattle.bridge_run.specs.course.Course.{Course, Next}
-use Rattle.bridge_run.specs.declared.course.serving.TheConstants.{POLL_LIMIT}
+use Rattle.bridge_run.specs.declared.course.polling.TheConstants.{POLL_LIMIT}
 use Rattle.bridge_run.specs.course.Calls.{Goes, heard}
 use Rattle.bridge_run.specs.course.Calls.{turned as passed}
 use Rattle.bridge_run.specs.course.Outside.{Outside, outside, Written, Faults}

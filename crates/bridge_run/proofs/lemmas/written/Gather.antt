@@ -15,7 +15,7 @@ use Rattle.bridge_run.specs.events.Prescribed.{Prescribed, gained, refuses, drop
 use Rattle.bridge_run.specs.declared.written.recording.TheConstants.{WAITING_LIMIT}
 use Rattle.bridge_run.specs.written.Recorded.{has_any, sends_any, is_last, is_full, waiting_if}
 use Rattle.bridge_run.specs.course.Course.{Setting, Course, Next, Making, AtDoor, AtClient, AtHost, AtEnd, Takes}
-use Rattle.bridge_run.specs.declared.course.serving.TheConstants.{POLL_LIMIT}
+use Rattle.bridge_run.specs.declared.course.polling.TheConstants.{POLL_LIMIT}
 use Rattle.bridge_run.specs.course.Calls.{Outcome, Goes, Stops, course_of, sends_now, is_due, lines_with, put, settle, ends_next, take_event, come, turned, heard, poll, gathered, rest, call, and_then, calls}
 use Rattle.bridge_run.specs.course.Outside.{Outside, gathering, written}
 use Rattle.bridge_run.specs.course.Serves.{Reaches, NoneWaits, EndsSo, CutShort, Leaves}

@@ -7,7 +7,7 @@ use Rattle.bridge_run.specs.inner.Follows.{IsServing, setting, Comes}
 use Rattle.bridge_run.specs.log.Log.{Terms, Told}
 use Rattle.bridge_run.specs.inner.Logging.{IsAsking}
 use Rattle.bridge_run.proofs.lemmas.course.Idle.{HasWaited}
-use Rattle.bridge_run.specs.declared.course.serving.TheConstants.{POLL_LIMIT}
+use Rattle.bridge_run.specs.declared.course.polling.TheConstants.{POLL_LIMIT}
 use Rattle.bridge_run.proofs.course.session.Session.run.Given as goal
 
 abbrev pub invariant-rounds : goal.invariant-rounds
