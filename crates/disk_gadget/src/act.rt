@@ -69,7 +69,7 @@ pub fn carry_out(
     }
 }
 
-// Whether the wrapper moves data the other way than its command does.
+/// Whether the wrapper moves data the other way than its command does.
 fn is_crossed(wrapper: &Wrapper) -> bool
     ensures { result ≡ is_crossed wrapper.now }
 {
@@ -86,14 +86,14 @@ fn is_crossed(wrapper: &Wrapper) -> bool
     }
 }
 
-// Whether some of the blocks stand behind the last of so many.
+/// Whether some of the blocks stand behind the last of so many.
 fn is_past_end(blocks: u32, extent: Extent) -> bool
     ensures { result ≡ is_past_end blocks extent }
 {
     u64::from(extent.block) + u64::from(extent.count) > u64::from(blocks)
 }
 
-// An end with no answer.
+/// An end with no answer.
 fn nothing(alloc: Global, status: Status) -> Acted
     ensures { result ≡ record { status = status; answer = Text [] } }
 {
@@ -103,7 +103,7 @@ fn nothing(alloc: Global, status: Status) -> Acted
     }
 }
 
-// A failure, and its sense.
+/// A failure, and its sense.
 fn fail(alloc: Global, sense: &mut Option<Sense>, why: Sense) -> Acted
     ensures act { result ≡ record { status = Failed; answer = Text [] } }
     ensures sense { sense.new ≡ Some why }
@@ -112,7 +112,7 @@ fn fail(alloc: Global, sense: &mut Option<Sense>, why: Sense) -> Acted
     nothing(alloc, Status::Failed)
 }
 
-// An answer of at most so many of the bytes.
+/// An answer of at most so many of the bytes.
 fn text(alloc: Global, bytes: &[u8], most: usize) -> Result<Acted, Memory>
     ensures { IfOk result (λ act. act ≡ record { status = Passed; answer = Text (take most bytes.now) }) }
 {
@@ -124,7 +124,7 @@ fn text(alloc: Global, bytes: &[u8], most: usize) -> Result<Acted, Memory>
     })
 }
 
-// READ CAPACITY (10): the last block, and the bytes of a block (SBC-3, 5.15).
+/// READ CAPACITY (10): the last block, and the bytes of a block (SBC-3, 5.15).
 fn capacity(alloc: Global, blocks: u32) -> Result<Acted, Memory>
     ensures { IfOk result (λ act. act ≡ record { status = Passed; answer = Text (be w32 (blocks - 1) ++ be w32 BLOCK_SIZE) }) }
 {
@@ -137,7 +137,7 @@ fn capacity(alloc: Global, blocks: u32) -> Result<Acted, Memory>
     })
 }
 
-// READ (10): the bytes stay where they are until they are given.
+/// READ (10): the bytes stay where they are until they are given.
 fn read(alloc: Global, sense: &mut Option<Sense>, blocks: u32, extent: Extent) -> Acted
     ensures status { result.status ≡ (command_act blocks sense.old 0 [] (ReadCommand extent)).status }
     ensures answer { result.answer ≡ (command_act blocks sense.old 0 [] (ReadCommand extent)).answer }
@@ -156,7 +156,7 @@ fn read(alloc: Global, sense: &mut Option<Sense>, blocks: u32, extent: Extent) -
     }
 }
 
-// WRITE (10), of so many bytes, which have all come.
+/// WRITE (10), of so many bytes, which have all come.
 fn write(
     alloc: Global,
     sense: &mut Option<Sense>,

@@ -106,7 +106,7 @@ pub fn give(
     }
 }
 
-// Gives the next bytes of an answer, which then aren't missing any more.
+/// Gives the next bytes of an answer, which then aren't missing any more.
 fn give_answer(
     alloc: Global,
     answer: &mut Answer,
@@ -130,7 +130,7 @@ fn give_answer(
     Ok(bytes)
 }
 
-// Begins a command. One without data acts at once, and so does one that answers.
+/// Begins a command. One without data acts at once, and so does one that answers.
 fn begin(
     alloc: Global,
     course: &mut Course,
@@ -161,7 +161,7 @@ fn begin(
     Ok(())
 }
 
-// Takes data of the host. Where they are whole the command acts, and its report is due.
+/// Takes data of the host. Where they are whole the command acts, and its report is due.
 fn gather(
     alloc: Global,
     sense: &mut Option<Sense>,

@@ -127,7 +127,7 @@ impl Gadget for Disk {
     ghost lawful = { disk_lawful };
 }
 
-// Answers a transfer of endpoint 0.
+/// Answers a transfer of endpoint 0.
 fn request(
     alloc: Global,
     framework: &mut Framework,
