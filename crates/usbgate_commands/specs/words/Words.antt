@@ -5,7 +5,6 @@ use Rattle.std.specs.List.{list_all}
 use Rattle.std.specs.Str.{bytes_eq}
 use Rattle.clap.specs.Words.{Text, first_of}
 use Rattle.packet_show.specs.Number.{number_of}
-use Rattle.usb_base.specs.declared.side.Side.{Side}
 use Rattle.usb_base.specs.declared.side.Side.TheVariants.{Client, Host}
 use Rattle.usbgate_commands.specs.declared.words.command.Command.{Command}
 use Rattle.usbgate_commands.specs.declared.words.command.Command.TheVariants.{Replay, Model, Show, Serve, Host as HostLent, Make, Load, Unknown}
@@ -61,9 +60,6 @@ first_id_of text = unwrap_or (option_map number_of text) (Some 1)
 abbrev pub after_loss_of : Option Text → Option AfterLoss
 after_loss_of text = named ((codes "keep", Keep) ∷ (codes "close", Close) ∷ []) (unwrap_or text (codes "keep"))
 
-abbrev pub side_of : Text → Option Side
-side_of text = named ((codes "client", Client) ∷ (codes "host", Host) ∷ []) text
-
 abbrev pub serving_of : (host listen : Option Text) → (idle first_id : Option ℕ) → Option AfterLoss → (recording : Option Text) → Option ServeSettings
 serving_of (Some host) (Some listen) (Some idle) (Some first_id) (Some after_loss) recording =
     Some (record { host = host; listen = listen; idle = idle; first_id = first_id; after_loss = after_loss; recording = recording })
@@ -80,7 +76,7 @@ count_of text = option_and_then (λ n. if nat_le n MOST_ROUNDS then Some n else 
 abbrev pub asked_by : Verb → (Text → Option Text) → Option Command
 asked_by verb.Replay given = option_map Replay (first_id_of (given (codes "first-id")))
 asked_by verb.Model given = option_map Model (option_and_then device_of (given (codes "device")))
-asked_by verb.Show given = option_map Show (option_and_then side_of (given (codes "side")))
+asked_by verb.Show given = option_map Show (option_and_then (named ((codes "client", Client) ∷ (codes "host", Host) ∷ [])) (given (codes "side")))
 asked_by verb.Serve given = option_map Serve (serving_of (given (codes "host")) (given (codes "listen")) (option_and_then number_of (given (codes "idle"))) (first_id_of (given (codes "first-id"))) (after_loss_of (given (codes "after-loss"))) (given (codes "record")))
 asked_by verb.Host given = option_map HostLent (lending_of (option_and_then device_of (given (codes "device"))) (given (codes "listen")) (option_and_then number_of (given (codes "idle"))))
 asked_by verb.Make given = option_map Make (count_of (given (codes "number")))
