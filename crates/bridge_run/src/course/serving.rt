@@ -27,21 +27,20 @@ use session_tape::Tape;
 use std::alloc::Global;
 use usb_base::Bytes;
 
-/// What the gateway is asked: between whom, and how long.
+/// What the gateway is asked: how, between whom, and how long.
 #[derive(Clone, Copy)]
 pub struct ServeTerms<'a> {
-    /// The address at which the host is dialled.
-    pub host: &'a str,
-    /// The address of the clients' door.
-    pub listen: &'a str,
-    /// After how many rounds in a row that bring nothing it ends.
-    pub idle: u64,
-    /// How many bytes may come, where each client counts as one.
-    pub budget: u64,
     /// The first id that is drawn for a packet to the host.
     pub first_id: u64,
     /// What becomes of the link of a client whose imported device is lost.
     pub after_loss: AfterLoss,
+    /// The addresses at which the host is dialled, and of the clients' door.
+    pub host: &'a str,
+    pub listen: &'a str,
+    /// After how many rounds in a row that bring nothing it ends, and after how many bytes, where each client counts as
+    /// one.
+    pub idle: u64,
+    pub budget: u64,
 }
 
 /// Dials the host, makes the clients' door, and goes in rounds. A round asks for a client where none is there, and
