@@ -2,12 +2,13 @@
 //! with the run's exit code.
 #![tactic(auto)]
 
-ghost use Rattle.std.specs.Prelude.{◌≡◌, IfOk, drop, map, string_bytes};
+ghost use Rattle.std.specs.Prelude.{◌≡◌, IfOk, drop, map, string_bytes, false};
 ghost use Rattle.std.specs.Process.{exit_status};
+ghost use Rattle.usb_base.specs.declared.side.Side.TheVariants.{Client, Host};
 ghost use Rattle.usbgate_tapes.specs.Code.{code_of};
 ghost use Rattle.usbgate_commands.specs.words.Words.{texts};
 
-use gate_outside::{NoDoors, StdStream};
+use gate_outside::{Doors, NoDoors, StdStream};
 use gate_sockets::TcpDoors;
 use session_tape::FileTape;
 use std::alloc::{AllocError, Global};
@@ -51,45 +52,61 @@ fn run_args(
         Ok(words) => words,
         Err(_) => return Status::OutOfMemory,
     };
-    let mut tape = StdStream::new(rt.reader());
-    let mut out = StdStream::new(io::writer(rt));
-    let mut recording = FileTape::new(rt);
     match TcpDoors::new(rt, rt.alloc()) {
         Ok(mut doors) => {
             if let Ok(Some(interval)) = pace_of(rt.alloc(), &words) {
                 doors.keep_pace(interval);
             }
-            let status = run(
-                rt.alloc(),
-                &words,
-                &mut tape,
-                &mut out,
-                &mut doors,
-                &mut recording,
-            );
+            let ran = run_words(rt, &words, &mut doors);
             if doors.were_used() {
-                tell_end(rt, status, recording.has_failed());
-            } else if let Status::Usage = status {
-                tell_wrong(rt, &words, recording.has_failed());
+                tell_end(rt, &ran);
+            } else if let Status::Usage = ran.status {
+                tell_wrong(rt, &words, &ran);
             }
-            status
+            ran.status
         }
         Err(error) => {
-            let status = run(
-                rt.alloc(),
-                &words,
-                &mut tape,
-                &mut out,
-                &mut NoDoors::new(),
-                &mut recording,
-            );
-            match status {
+            let ran = run_words(rt, &words, &mut NoDoors::new());
+            match ran.status {
                 Status::LinkFault(_) => tell_no_sockets(rt, &error),
-                Status::Usage => tell_wrong(rt, &words, recording.has_failed()),
+                Status::Usage => tell_wrong(rt, &words, &ran),
                 _ => {}
             }
-            status
+            ran.status
         }
+    }
+}
+
+/// What came of a run.
+#[derive(Clone, Copy)]
+struct Ran {
+    status: Status,
+    /// The file to record in couldn't be made or written, which has been said.
+    is_unrecorded: bool,
+}
+
+/// Runs the words over the standard streams, these doors, and a file to record in.
+fn run_words<D: Doors>(
+    rt: &(impl Input + Print + Eprint + Files + AllocGlobal),
+    words: &[&str],
+    doors: &mut D,
+) -> Ran
+    requires down { ((D.link doors.old Client).up ≡ false) × ((D.link doors.old Host).up ≡ false) }
+{
+    let mut tape = StdStream::new(rt.reader());
+    let mut out = StdStream::new(io::writer(rt));
+    let mut recording = FileTape::new(rt);
+    let status = run(
+        rt.alloc(),
+        words,
+        &mut tape,
+        &mut out,
+        doors,
+        &mut recording,
+    );
+    Ran {
+        status,
+        is_unrecorded: recording.has_failed(),
     }
 }
 
@@ -117,8 +134,8 @@ fn words_behind_the_name(alloc: Global, args: &[String]) -> Result<Vec<&str>, Me
 
 /// Says on standard error what is wrong with words that are no command, and which commands there are. Of a file that
 /// was there before the tape has said it.
-fn tell_wrong(rt: &(impl Eprint + AllocGlobal), words: &[&str], was_there: bool) {
-    if was_there {
+fn tell_wrong(rt: &(impl Eprint + AllocGlobal), words: &[&str], ran: &Ran) {
+    if ran.is_unrecorded {
         return;
     }
     if let Ok(wrong) = wrong_with(rt.alloc(), words) {
@@ -133,15 +150,15 @@ fn tell_no_sockets(rt: &impl Eprint, error: &io::Error) {
 }
 
 /// Says on standard error why serving or lending has ended. A recording that has failed has ended it.
-fn tell_end(rt: &impl Eprint, status: Status, is_unrecorded: bool) {
-    let why = match status {
+fn tell_end(rt: &impl Eprint, ran: &Ran) {
+    let why = match ran.status {
         Status::Done => "no link is left",
         Status::Refused => "no link is left, and a side was refused",
         Status::LinkFault(Side::Client) => "a fault at the clients' side",
         Status::LinkFault(Side::Host) => "a fault at the host's side",
         Status::Idle => "nothing has come for as many rounds as --idle says",
         Status::Spent => "as much has come as may",
-        Status::WriteFault if is_unrecorded => "the recording can't be written",
+        Status::WriteFault if ran.is_unrecorded => "the recording can't be written",
         Status::WriteFault => "standard output can't be written",
         Status::OutOfMemory => "memory ran out",
         Status::Usage | Status::ReadFault | Status::BadTape(_) => return,
