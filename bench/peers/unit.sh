@@ -63,7 +63,7 @@ step "is read without a word" test -z "$(systemd-analyze verify --man=no usbgate
 step "starts" systemctl enable --now usbgate@loop usbgate@probe
 step "serves" await lists
 step "has a user of its own, and no privilege" has_no_privilege probe
-step "has a bound of memory" sh -c 'systemctl show -p MemoryMax usbgate@probe | grep =1073741824'
+step "has a bound of memory" sh -c 'systemctl show -p LimitAS usbgate@probe | grep =1073741824'
 step "is killed, and begins anew" killed probe
 step "serves again" await lists
 step "its host is killed, and begins anew" killed loop
