@@ -23,7 +23,7 @@ use Rattle.direct_device.specs.Performed.{times_performed}
 
 abbrev asks : ℕ → Bool → ℕ → Option Setup → ℕ → Request
 asks number is_in ep setup wanted = record {
-  number = number;
+  seqnum = number;
   is_in = is_in;
   flags = 0;
   packets = 0;

@@ -18,7 +18,7 @@ use Rattle.direct_device.proofs.Taken.{weight, away, count-apart}
 -- ---- the performs of each number since it was last submitted, after one item more
 
 abbrev pub counted : (ℕ → ℕ) → Deed → ℕ → ℕ
-counted c (Submit r) n = cond (r.number == n) 0 (c n)
+counted c (Submit r) n = cond (r.seqnum == n) 0 (c n)
 counted c (Perform ep k) n = cond (k == n) (c n + 1) (c n)
 counted c _ n = c n
 
@@ -97,9 +97,9 @@ wait-by_id n l h = ap (λ (b : Bool). both b (is_number n l.load)) (waits-no_id 
 
 -- ---- a number that is live is no number of a new one, nor of one that is performed
 
-pub reset : {X : Type 0} (num value : X → ℕ) (c : ℕ → ℕ) (r : Request) (xs : List X) → Each (λ x. (num x == r.number) ≡ false) xs → Each (λ x. c (num x) ≡ value x) xs → Each (λ x. counted c (Submit r) (num x) ≡ value x) xs
+pub reset : {X : Type 0} (num value : X → ℕ) (c : ℕ → ℕ) (r : Request) (xs : List X) → Each (λ x. (num x == r.seqnum) ≡ false) xs → Each (λ x. c (num x) ≡ value x) xs → Each (λ x. counted c (Submit r) (num x) ≡ value x) xs
 reset num value c r [] h k = tt
-reset num value c r (x ∷ xs) h k = (ap (λ (b : Bool). cond b 0 (c (num x))) (away (num x) r.number h.0) ∙ k.0, reset num value c r xs h.1 k.1)
+reset num value c r (x ∷ xs) h k = (ap (λ (b : Bool). cond b 0 (c (num x))) (away (num x) r.seqnum h.0) ∙ k.0, reset num value c r xs h.1 k.1)
 
 pub passed : {X : Type 0} (num value : X → ℕ) (c : ℕ → ℕ) (ep n : ℕ) (xs : List X) → Each (λ x. (num x == n) ≡ false) xs → Each (λ x. c (num x) ≡ value x) xs → Each (λ x. counted c (Perform ep n) (num x) ≡ value x) xs
 passed num value c ep n [] h k = tt

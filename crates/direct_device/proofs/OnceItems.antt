@@ -31,7 +31,7 @@ use Rattle.direct_device.proofs.OnceSteps.{unlink-once, performed-once, performe
 keep-submit : {S : Type 0} (m : Meaning S) (d : Direct S) (c : ℕ → ℕ) (r : Request) → Holds m d c → IsAllowed m d (Submit r) → Holds m (act m d (Submit r)) (counted c (Submit r))
 keep-submit m d c r inv ok = record {
   once = λ h k. submit-once d.live d.queue d.ran c r (made_of m d r) (inv.once h k) ok.1;
-  most = submit-most d.queue c r (made_of m d r) inv.most (λ goes. none-queued d.live d.queue d.ran c r.number (inv.once ok.0 (there goes)) ok.1);
+  most = submit-most d.queue c r (made_of m d r) inv.most (λ goes. none-queued d.live d.queue d.ran c r.seqnum (inv.once ok.0 (there goes)) ok.1);
   out = λ h. absurd (both_ways d.imported h ok.0);
   lost = λ h i. filter (λ y. not (is_ended (made_of m d r) y)) (inv.lost h i) ++ joins_live (record { request = r; verdict = made_of m d r }) (now h i);
 }

@@ -71,7 +71,7 @@ abbrev pub as_submission : Load → Submission
 as_submission l = record { place = 0; request = l.request; verdict = l.verdict; id = 0 }
 
 abbrev pub number : Load → ℕ
-number l = l.request.number
+number l = l.request.seqnum
 
 abbrev pub is_number : ℕ → Load → Bool
 is_number n l = number l == n

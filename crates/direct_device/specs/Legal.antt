@@ -17,8 +17,8 @@ use Rattle.direct_device.specs.Acting.{Deed, Import, Submit, Unlink, Perform, Ca
 -- of those that wait for a stream it is the earliest, and what is held fills it; of the others it is the first that ran
 abbrev pub CanAnswerBy : {S : Type 0} → Direct S → Load → Bool → Type 0
 CanAnswerBy d l true =
-    IsSomeAnd (find (λ (e : Live). waits_at l.request.transfer.ep (as_submission e.load)) d.live) (λ e. (is_number l.request.number e.load ≡ true) × IsSome (cut_for d l))
-CanAnswerBy d l false = IsSomeAnd (slice_get d.ran 0) (λ r. is_number l.request.number r.load ≡ true)
+    IsSomeAnd (find (λ (e : Live). waits_at l.request.transfer.ep (as_submission e.load)) d.live) (λ e. (is_number l.request.seqnum e.load ≡ true) × IsSome (cut_for d l))
+CanAnswerBy d l false = IsSomeAnd (slice_get d.ran 0) (λ r. is_number l.request.seqnum r.load ≡ true)
 
 abbrev pub CanArrive : Option Up → List StreamPacket → Type 0
 CanArrive (Some up) (p ∷ packets) = Unit {0}
@@ -27,7 +27,7 @@ CanArrive _ _ = ⊥
 -- what is performed is the first of its queue, and the device is ready for it
 abbrev pub IsAllowed : {S : Type 0} → Meaning S → Direct S → Deed → Type 0
 IsAllowed m d Import = (d.imported ≡ false) × (d.gone ≡ false) × (d.queue ≡ [])
-IsAllowed m d (Submit r) = (d.imported ≡ true) × (list_any (λ (l : Live). is_number r.number l.load) d.live ≡ false)
+IsAllowed m d (Submit r) = (d.imported ≡ true) × (list_any (λ (l : Live). is_number r.seqnum l.load) d.live ≡ false)
 IsAllowed m d (Unlink by target) = d.imported ≡ true
 IsAllowed m d (Perform ep n) = (d.gone ≡ false) × IsSomeAnd (find (is_at ep) d.queue) (λ q. (is_number n q.load ≡ true) × IsSome (m.perform d.gadget (normal_of q.load)))
 IsAllowed m d (Cancel n) = (d.gone ≡ false) × IsSomeAnd (find (is_cancelled_by n) d.queue) (λ q. q.asked ≡ true)
@@ -55,7 +55,7 @@ all_answers m d (x ∷ xs) = answers m d x ++ all_answers m (act m d x) xs
 
 abbrev pub item_of : Deed → Item
 item_of Import = item.Import
-item_of (Submit r) = item.Submit r.number
+item_of (Submit r) = item.Submit r.seqnum
 item_of (Unlink by target) = item.Unlink by target
 item_of (Perform ep seqnum) = item.Perform ep seqnum
 item_of (Cancel seqnum) = item.Cancel seqnum

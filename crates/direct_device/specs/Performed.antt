@@ -21,7 +21,7 @@ use Rattle.direct_device.specs.Legal.{AreAllowed, acts}
 -- how often this number is performed since it was last submitted, where it was so often before
 abbrev pub times_performed : ℕ → ℕ → List Deed → ℕ
 times_performed n before [] = before
-times_performed n before (Submit r ∷ xs) = times_performed n (if r.number == n then 0 else before) xs
+times_performed n before (Submit r ∷ xs) = times_performed n (if r.seqnum == n then 0 else before) xs
 times_performed n before (Perform ep k ∷ xs) = times_performed n (if k == n then before + 1 else before) xs
 times_performed n before (_ ∷ xs) = times_performed n before xs
 

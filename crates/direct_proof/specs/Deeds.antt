@@ -32,7 +32,7 @@ arrive_deeds (Arrives ep fill) = Arrive ep ∷ []
 arrive_deeds _ = []
 
 abbrev pub answer_deeds : State → Effect → List Deed
-answer_deeds st e = map (λ p. Answer p.submit.request.number) (filter (λ p. is_by_answer (ends e p.submit)) (present st e))
+answer_deeds st e = map (λ p. Answer p.submit.request.seqnum) (filter (λ p. is_by_answer (ends e p.submit)) (present st e))
 
 abbrev pub when : Bool → Deed → List Deed
 when b x = if b then x ∷ [] else []

@@ -14,7 +14,7 @@ use usbip_urb::{Descs, IsoDesc, Submit, URB_SHORT_NOT_OK, USBIP_DIR_OUT};
 #[derive(Drop)]
 pub struct Request {
     /// The submit's number, which its answer has.
-    pub number: u32,
+    pub seqnum: u32,
     /// Whether data go from the device to the client, by the submit.
     pub is_in: bool,
     /// transfer_flags of the submit.
@@ -58,7 +58,7 @@ impl Request {
             (address(is_in, head.ep), None)
         };
         Request {
-            number: head.seqnum,
+            seqnum: head.seqnum,
             is_in,
             flags,
             packets,
@@ -87,7 +87,7 @@ fn address(is_in: bool, number: u32) -> EpAddr
 #[derive(Clone, Copy)]
 pub struct AnsweredSubmit<'a> {
     /// The submit's number.
-    pub number: u32,
+    pub seqnum: u32,
     /// Whether data go from the device to the client.
     pub is_in: bool,
     /// transfer_flags of the submit.
@@ -115,7 +115,7 @@ impl Request {
         ensures { asked_view result ≡ record self.now { transfer = answered_transfer self.now.transfer.wanted } }
     {
         AnsweredSubmit {
-            number: self.number,
+            seqnum: self.seqnum,
             is_in: self.is_in,
             flags: self.flags,
             packets: self.packets,

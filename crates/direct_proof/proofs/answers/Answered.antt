@@ -61,7 +61,7 @@ pub reads-answer : {S : Type 0} (m : Meaning S) (w : World S) (j : Shared) (plac
     IsDeed m w (with_back j (Answered c ∷ bs)) (move as_deeds m w (GateReads place)) (with_back j bs) (Answer (number c.load))
 reads-answer {S = S} m w j place k c bs p wire open_ imported is found only load-is one-is by_id = record {
   deeds = ap (λ (x : Made S Deed). x.told) moved
-      ∙ answers-done st c.id o mark refl ∙ ap (map (λ (q : Pending). Answer q.submit.request.number)) only ∙ ap (λ (l : Load). Answer (number l) ∷ []) load-is;
+      ∙ answers-done st c.id o mark refl ∙ ap (map (λ (q : Pending). Answer q.submit.request.seqnum)) only ∙ ap (λ (l : Load). Answer (number l) ∷ []) load-is;
   outs = ap (λ (x : Made S Deed). x.outs) moved
       ∙ answers-sent st c.id o mark refl ∙ ap (λ (ps : List Pending). map Urb (flat_map (λ q. answers_by q.submit o q.unlinker) ps)) only
       ∙ ap (map Urb) (append-nil (answers_by p.submit o p.unlinker) ∙ sym (bare-answers p.submit o p.unlinker) ∙ sym device.1);

@@ -142,12 +142,12 @@ answers-sent st id o m what =
     by-one : (p : Pending) → answers_at p.submit p.unlinker (ends (Answers id o) p.submit) ≡ cond (pending_has id p) (answers_by p.submit o p.unlinker) []
     by-one p = elim (pending_has id p) as (λ b. answers_at p.submit p.unlinker (cond b (Some (ByAnswer o)) None) ≡ cond b (answers_by p.submit o p.unlinker) []) [ true ↦ refl | false ↦ refl ]
 
-pub answers-done : (st : State) (id : ℕ) (o : Outcome) (m : Mark) → m.what ≡ Answers id o → deeds_of st m ≡ map (λ p. Answer p.submit.request.number) (filter (pending_has id) st.live)
+pub answers-done : (st : State) (id : ℕ) (o : Outcome) (m : Mark) → m.what ≡ Answers id o → deeds_of st m ≡ map (λ p. Answer p.submit.request.seqnum) (filter (pending_has id) st.live)
 answers-done st id o m what =
     ap (λ (e : Effect). deeds_of st (record m { what = e })) what
     ∙ append-nil (answer_deeds st (Answers id o) ++ []) ∙ append-nil (answer_deeds st (Answers id o))
-    ∙ ap (λ (ps : List Pending). map (λ p. Answer p.submit.request.number) (filter (λ p. is_by_answer (ends (Answers id o) p.submit)) ps)) (append-nil st.live)
-    ∙ ap (map (λ (p : Pending). Answer p.submit.request.number))
+    ∙ ap (λ (ps : List Pending). map (λ p. Answer p.submit.request.seqnum) (filter (λ p. is_by_answer (ends (Answers id o) p.submit)) ps)) (append-nil st.live)
+    ∙ ap (map (λ (p : Pending). Answer p.submit.request.seqnum))
     (filter-same (λ p. is_by_answer (ends (Answers id o) p.submit)) (pending_has id) st.live (every (λ p. is_by_answer (ends (Answers id o) p.submit) ≡ pending_has id p) by-answer st.live))
   where
     by-answer : (p : Pending) → is_by_answer (ends (Answers id o) p.submit) ≡ pending_has id p

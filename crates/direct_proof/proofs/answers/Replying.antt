@@ -167,4 +167,4 @@ module _ {S : Type 0} (m : Meaning S) (w : World S) (j : Shared) (place : ℕ) (
           none-sent = answers-sent st c.id (seen_of c.load c.configuration c.outcome) mark refl ∙ ap (λ (ps : List Pending). map Urb (flat_map (λ p. answers_by p.submit (seen_of c.load c.configuration c.outcome) p.unlinker) (filter (pending_has c.id) ps))) none
 
           none-done : made.told ≡ []
-          none-done = answers-done st c.id (seen_of c.load c.configuration c.outcome) mark refl ∙ ap (λ (ps : List Pending). map (λ p. Answer p.submit.request.number) (filter (pending_has c.id) ps)) none
+          none-done = answers-done st c.id (seen_of c.load c.configuration c.outcome) mark refl ∙ ap (λ (ps : List Pending). map (λ p. Answer p.submit.request.seqnum) (filter (pending_has c.id) ps)) none

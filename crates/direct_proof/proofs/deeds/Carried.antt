@@ -56,7 +56,7 @@ lacks-arrive : (e : Effect) → flat_map request_in (arrive_deeds e) ≡ []
 lacks-arrive (Arrives ep fill) = refl
 lacks-arrive e = refl
 
-lacks-answer : (ps : List Pending) → flat_map request_in (map (λ (p : Pending). Answer p.submit.request.number) ps) ≡ []
+lacks-answer : (ps : List Pending) → flat_map request_in (map (λ (p : Pending). Answer p.submit.request.seqnum) ps) ≡ []
 lacks-answer [] = refl
 lacks-answer (p ∷ ps) = lacks-answer ps
 

@@ -27,9 +27,9 @@ tells _ = refl
 answers-told : (st : State) (e : Effect) → map deed_item (answer_deeds st e) ≡ flat_map item_of (answer_notes st e)
 answers-told st e = go (filter (λ (p : Pending). is_by_answer (ends e p.submit)) (present st e))
   where
-    go : (ps : List Pending) → map deed_item (map (λ (p : Pending). Answer p.submit.request.number) ps) ≡ flat_map item_of (map (λ (p : Pending). note.Answered p.submit.request.number) ps)
+    go : (ps : List Pending) → map deed_item (map (λ (p : Pending). Answer p.submit.request.seqnum) ps) ≡ flat_map item_of (map (λ (p : Pending). note.Answered p.submit.request.seqnum) ps)
     go [] = refl
-    go (p ∷ ps) = ap (λ (l : List Item). deed_item (Answer p.submit.request.number) ∷ l) (go ps)
+    go (p ∷ ps) = ap (λ (l : List Item). deed_item (Answer p.submit.request.seqnum) ∷ l) (go ps)
 
 -- a refusal is no item
 none-refused : (o : Option Refusal) → flat_map item_of (refusal_notes o) ≡ []

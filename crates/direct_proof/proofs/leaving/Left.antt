@@ -123,5 +123,5 @@ module _ {S : Type 0} (w : World S) (e : Effect) (l : ClientGoes w.gate e) where
       submits = (ap (λ (ns : List Submitted). w.submits ++ ns) noted ∙ append-nil w.submits) i;
     };
     outs = l.silent i ++ leaving-answered w.gate e l.gone i;
-    told = ((l.no_deed i ++ map (λ (p : Pending). Answer p.submit.request.number) (none-answered i)) ++ when (l.keeps i && w.gate.imported && not w.gate.lost) Gone) ++ when (l.gone i && not w.gate.client_over) ClientGone;
+    told = ((l.no_deed i ++ map (λ (p : Pending). Answer p.submit.request.seqnum) (none-answered i)) ++ when (l.keeps i && w.gate.imported && not w.gate.lost) Gone) ++ when (l.gone i && not w.gate.client_over) ClientGone;
   }

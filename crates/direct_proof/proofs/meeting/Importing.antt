@@ -44,10 +44,10 @@ replied-made {S = S} w reply = λ i. record {
   world = record w {
     gate = record st { items = suc st.items; live = live i; abandoned = filter-all st.abandoned i };
     to_host = (ap (λ (l : List (ℕ × RedirPacket)). w.to_host ++ ((l ++ []) ++ [])) (none-cancelled (Replies reply) stays-uncancelled st.live) ∙ append-nil w.to_host) i;
-    submits = (ap (λ (ps : List Pending). w.submits ++ flat_map named (((map (λ (p : Pending). note.Answered p.submit.request.number) ps ++ []) ++ []) ++ [])) (filter-none (present st (Replies reply))) ∙ append-nil w.submits) i;
+    submits = (ap (λ (ps : List Pending). w.submits ++ flat_map named (((map (λ (p : Pending). note.Answered p.submit.request.seqnum) ps ++ []) ++ []) ++ [])) (filter-none (present st (Replies reply))) ∙ append-nil w.submits) i;
   };
   outs = Op reply ∷ map Urb (flat_map-none (present st (Replies reply)) i);
-  told = (ap (λ (ps : List Pending). (map (λ (p : Pending). Answer p.submit.request.number) ps ++ []) ++ []) (filter-none (present st (Replies reply)))) i;
+  told = (ap (λ (ps : List Pending). (map (λ (p : Pending). Answer p.submit.request.seqnum) ps ++ []) ++ []) (filter-none (present st (Replies reply)))) i;
 }
   where
     st : State
@@ -78,10 +78,10 @@ imported-made {S = S} w reply = λ i. record {
   world = record w {
     gate = record st { items = suc st.items; imported = true; lost = false; live = live i; abandoned = filter-all st.abandoned i };
     to_host = (ap (λ (l : List (ℕ × RedirPacket)). w.to_host ++ ((l ++ []) ++ [])) (none-cancelled (Imports reply) stays-uncancelled st.live) ∙ append-nil w.to_host) i;
-    submits = (ap (λ (ps : List Pending). w.submits ++ flat_map named (((((note.Imported ∷ []) ++ map (λ (p : Pending). note.Answered p.submit.request.number) ps) ++ []) ++ []) ++ [])) (filter-none (present st (Imports reply))) ∙ append-nil w.submits) i;
+    submits = (ap (λ (ps : List Pending). w.submits ++ flat_map named (((((note.Imported ∷ []) ++ map (λ (p : Pending). note.Answered p.submit.request.seqnum) ps) ++ []) ++ []) ++ [])) (filter-none (present st (Imports reply))) ∙ append-nil w.submits) i;
   };
   outs = Op reply ∷ map Urb (flat_map-none (present st (Imports reply)) i);
-  told = (ap (λ (ps : List Pending). (((Import ∷ []) ++ map (λ (p : Pending). Answer p.submit.request.number) ps) ++ []) ++ []) (filter-none (present st (Imports reply)))) i;
+  told = (ap (λ (ps : List Pending). (((Import ∷ []) ++ map (λ (p : Pending). Answer p.submit.request.seqnum) ps) ++ []) ++ []) (filter-none (present st (Imports reply)))) i;
 }
   where
     st : State

@@ -91,10 +91,10 @@ module _ {S : Type 0} (m : Meaning S) (w : World S) (j : Shared) (place : ℕ) (
           gate = record st { items = suc st.items; facts = no_facts; lost = true; live = map (ask effect) (filter-none (present st effect) i); abandoned = []; streams = no_streams; fence = None };
           to_host = w.to_host ++ ((none-cancelled effect stays-uncancelled st.live i ++ []) ++ acks);
           to_gate = [];
-          submits = (ap (λ (ps : List Pending). w.submits ++ flat_map named (((map (λ (p : Pending). note.Answered p.submit.request.number) ps ++ notes.when (st.imported && not st.lost) note.DeviceGone) ++ []) ++ [])) (filter-none (present st effect)) ∙ unnamed (st.imported && not st.lost)) i;
+          submits = (ap (λ (ps : List Pending). w.submits ++ flat_map named (((map (λ (p : Pending). note.Answered p.submit.request.seqnum) ps ++ notes.when (st.imported && not st.lost) note.DeviceGone) ++ []) ++ [])) (filter-none (present st effect)) ∙ unnamed (st.imported && not st.lost)) i;
         };
         outs = map Urb (told (st.live ++ []) i);
-        told = (ap (λ (ps : List Pending). (map (λ (p : Pending). Answer p.submit.request.number) ps ++ when (st.imported && not st.lost) Gone) ++ []) (filter-none (present st effect)) ∙ append-nil (when (st.imported && not st.lost) Gone)) i;
+        told = (ap (λ (ps : List Pending). (map (λ (p : Pending). Answer p.submit.request.seqnum) ps ++ when (st.imported && not st.lost) Gone) ++ []) (filter-none (present st effect)) ∙ append-nil (when (st.imported && not st.lost) Gone)) i;
       })
       ∙ (λ i. record { world = lost_world; outs = map Urb (map (λ (p : Pending). lost_answer p.submit.request p.unlinker) (append-nil st.live i)); told = when ((ap (λ (b : Bool). st.imported && not b) there ∙ and-true st.imported) i) Gone })
     where

@@ -28,10 +28,10 @@ idle-made {S = S} w fact = λ i. record {
   world = record w {
     gate = record st { items = suc st.items; facts = tell st.facts fact; live = live i; abandoned = filter-all st.abandoned i };
     to_host = (ap (λ (l : List (ℕ × RedirPacket)). w.to_host ++ ((l ++ []) ++ [])) (none-cancelled Idle stays-uncancelled st.live) ∙ append-nil w.to_host) i;
-    submits = (ap (λ (ps : List Pending). w.submits ++ flat_map named (((map (λ (p : Pending). note.Answered p.submit.request.number) ps ++ []) ++ []) ++ [])) (filter-none (present st Idle)) ∙ append-nil w.submits) i;
+    submits = (ap (λ (ps : List Pending). w.submits ++ flat_map named (((map (λ (p : Pending). note.Answered p.submit.request.seqnum) ps ++ []) ++ []) ++ [])) (filter-none (present st Idle)) ∙ append-nil w.submits) i;
   };
   outs = map Urb (flat_map-none (present st Idle) i);
-  told = (ap (λ (ps : List Pending). (map (λ (p : Pending). Answer p.submit.request.number) ps ++ []) ++ []) (filter-none (present st Idle))) i;
+  told = (ap (λ (ps : List Pending). (map (λ (p : Pending). Answer p.submit.request.seqnum) ps ++ []) ++ []) (filter-none (present st Idle))) i;
 }
   where
     st : State
@@ -45,10 +45,10 @@ agrees-made {S = S} w caps fact = λ i. record {
   world = record w {
     gate = record st { items = suc st.items; facts = tell st.facts fact; agreed = caps; live = live i; abandoned = filter-all st.abandoned i };
     to_host = (ap (λ (l : List (ℕ × RedirPacket)). w.to_host ++ ((l ++ []) ++ [])) (none-cancelled (Agrees caps) stays-uncancelled st.live) ∙ append-nil w.to_host) i;
-    submits = (ap (λ (ps : List Pending). w.submits ++ flat_map named (((map (λ (p : Pending). note.Answered p.submit.request.number) ps ++ []) ++ []) ++ [])) (filter-none (present st (Agrees caps))) ∙ append-nil w.submits) i;
+    submits = (ap (λ (ps : List Pending). w.submits ++ flat_map named (((map (λ (p : Pending). note.Answered p.submit.request.seqnum) ps ++ []) ++ []) ++ [])) (filter-none (present st (Agrees caps))) ∙ append-nil w.submits) i;
   };
   outs = map Urb (flat_map-none (present st (Agrees caps)) i);
-  told = (ap (λ (ps : List Pending). (map (λ (p : Pending). Answer p.submit.request.number) ps ++ []) ++ []) (filter-none (present st (Agrees caps)))) i;
+  told = (ap (λ (ps : List Pending). (map (λ (p : Pending). Answer p.submit.request.seqnum) ps ++ []) ++ []) (filter-none (present st (Agrees caps)))) i;
 }
   where
     st : State

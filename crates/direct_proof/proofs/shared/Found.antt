@@ -44,7 +44,7 @@ find-only {X = X} p (y ∷ ys) x h = go (p y) h (find-only p ys x)
 pub none-named : (st : State) (id : ℕ) (o : Outcome) (fact : Option Fact) → flat_map named (notes_of st (mark_as st (Answers id o) fact)) ≡ []
 none-named st id o fact =
     ap (flat_map named) (append-nil ((answer_notes st (Answers id o) ++ []) ++ []) ∙ append-nil (answer_notes st (Answers id o) ++ []) ∙ append-nil (answer_notes st (Answers id o)))
-    ∙ flat_map-map named (λ (p : Pending). note.Answered p.submit.request.number) (filter (λ (p : Pending). is_by_answer (ends (Answers id o) p.submit)) (present st (Answers id o)))
+    ∙ flat_map-map named (λ (p : Pending). note.Answered p.submit.request.seqnum) (filter (λ (p : Pending). is_by_answer (ends (Answers id o) p.submit)) (present st (Answers id o)))
     ∙ flat_map-none (filter (λ (p : Pending). is_by_answer (ends (Answers id o) p.submit)) (present st (Answers id o)))
 
 -- ---- a submit

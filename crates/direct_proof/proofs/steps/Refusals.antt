@@ -32,7 +32,7 @@ first-spares : (e : Effect) → refuses (came_notes e ++ submit_notes e) ≡ fal
 first-spares (Imports reply) = refl
 first-spares e = refl
 
-answer-spares : (ps : List Pending) → refuses (map (λ (p : Pending). note.Answered p.submit.request.number) ps) ≡ false
+answer-spares : (ps : List Pending) → refuses (map (λ (p : Pending). note.Answered p.submit.request.seqnum) ps) ≡ false
 answer-spares [] = refl
 answer-spares (p ∷ ps) = answer-spares ps
 

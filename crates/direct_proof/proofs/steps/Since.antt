@@ -63,7 +63,7 @@ submits-plain : (ss : List Submission) → Each IsPlain (map (λ (s : Submission
 submits-plain [] = tt
 submits-plain (s ∷ ss) = (tt, submits-plain ss)
 
-answers-plain : (ps : List Pending) → Each IsPlain (map (λ (p : Pending). Answer p.submit.request.number) ps)
+answers-plain : (ps : List Pending) → Each IsPlain (map (λ (p : Pending). Answer p.submit.request.seqnum) ps)
 answers-plain [] = tt
 answers-plain (p ∷ ps) = (tt, answers-plain ps)
 

@@ -98,7 +98,7 @@ module _ {S : Type 0} (m : Meaning S) (w : World S) (j : Shared) (rel : Related 
   opened_world = record w {
     gate = record (with_mark st mark) { live = st.live ++ fresh (record { place = st.items; request = r; verdict = v; id = is.simple.id }) ∷ []; abandoned = st.abandoned; streams = st.streams; stream_ids = st.stream_ids };
     to_host = w.to_host ++ qs;
-    submits = w.submits ++ record { seqnum = r.number; id = is.simple.id } ∷ [];
+    submits = w.submits ++ record { seqnum = r.seqnum; id = is.simple.id } ∷ [];
   }
 
   world : (gate_made as_deeds w mark).world ≡ opened_world
@@ -140,9 +140,9 @@ module _ {S : Type 0} (m : Meaning S) (w : World S) (j : Shared) (rel : Related 
   uncancelled ahead (p ∷ ps) es h = ((λ c. absurd (both_ways (is_cancel p.1) h.0 c)), uncancelled (moved_on (begins p.1) ahead es) ps (left (begins p.1) es) h.1)
 
   new-number : IsNewNumber (number load) j.debts
-  new-number = subst (IsNewNumber r.number) owed (mapped (filter (λ (x : Submission). goes_by_id x.verdict) (submits st)) (Each-filter (λ (x : Submission). is_numbered r.number x ≡ false) (λ (x : Submission). goes_by_id x.verdict) (submits st) (any-none (is_numbered r.number) (submits st) is.new)))
+  new-number = subst (IsNewNumber r.seqnum) owed (mapped (filter (λ (x : Submission). goes_by_id x.verdict) (submits st)) (Each-filter (λ (x : Submission). is_numbered r.seqnum x ≡ false) (λ (x : Submission). goes_by_id x.verdict) (submits st) (any-none (is_numbered r.seqnum) (submits st) is.new)))
     where
-      mapped : (ss : List Submission) → Each (λ (x : Submission). is_numbered r.number x ≡ false) ss → Each (λ (d : Debt). (number d.load == r.number) ≡ false) (map debt_from ss)
+      mapped : (ss : List Submission) → Each (λ (x : Submission). is_numbered r.seqnum x ≡ false) ss → Each (λ (d : Debt). (number d.load == r.seqnum) ≡ false) (map debt_from ss)
       mapped [] h = tt
       mapped (x ∷ xs) h = (h.0, mapped xs h.1)
 
@@ -166,7 +166,7 @@ module _ {S : Type 0} (m : Meaning S) (w : World S) (j : Shared) (rel : Related 
     };
     answers = rel.answers;
     tagged = rel.tagged;
-    ids = subst (λ (es : List Entry). Ids later.debts (w.submits ++ record { seqnum = r.number; id = is.simple.id } ∷ []) es (runs_in j.back)) joined
+    ids = subst (λ (es : List Entry). Ids later.debts (w.submits ++ record { seqnum = r.seqnum; id = is.simple.id } ∷ []) es (runs_in j.back)) joined
         (ids-submit j.debts w.submits (j.held ++ j.coming) (runs_in j.back) (is.simple.id) load false rel.ids (is-new st (is.simple.id) j.debts is.fresh.1 (rel.debts there)) new-number);
     real = Each-append (λ (d : Debt). (d.id == 0) ≡ false) j.debts (debt ∷ []) rel.real (is.fresh.0, tt);
     runs_at_in = rel.runs_at_in;
@@ -222,7 +222,7 @@ module _ {S : Type 0} (m : Meaning S) (w : World S) (j : Shared) (rel : Related 
               queue = (sym (map-append at_device (j.held ++ j.coming) (entry ∷ [])) ∙ ap (map at_device) joined) i;
             })
             ∙ ap (λ (x : World S). view x later) (sym world) ∙ ap (λ (x : Made S Deed). view x.world later) (sym moved);
-        allowed = (inside, list_any-map (λ (l : Live). is_number r.number l.load) live_of st.live ∙ sym (list_any-map (is_numbered r.number) (λ (p : Pending). p.submit) st.live) ∙ is.new);
+        allowed = (inside, list_any-map (λ (l : Live). is_number r.seqnum l.load) live_of st.live ∙ sym (list_any-map (is_numbered r.seqnum) (λ (p : Pending). p.submit) st.live) ∙ is.new);
       })
           (subst (λ (x : Made S Deed). Related m x.world later) (sym moved) (subst (λ (x : World S). Related m x later) (sym world) related))
         where

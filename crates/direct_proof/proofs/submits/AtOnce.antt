@@ -96,18 +96,18 @@ module _ (st : State) (r : Request) (status : ℤ) (before : AreBefore st.items 
   none-done = filter-append (λ p. is_by_answer (ends what p.submit)) st.live (fresh answered_as ∷ []) ∙ (λ i. done-of st.live before i ++ cond (is_by_answer (ends-now i)) (fresh answered_as ∷ []) [])
 
   pub now-made : {S : Type 0} (w : World S) → w.gate ≡ st → gate_made as_deeds w (mark_as w.gate what None)
-      ≡ record { world = record (replied_world w) { submits = w.submits ++ record { seqnum = r.number; id = 0 } ∷ [] }; outs = Urb (without_packets r status) ∷ []; told = Submit r ∷ [] }
-  now-made {S = S} w same = subst (λ (g : State). gate_made as_deeds (record w { gate = g }) (mark_as g what None) ≡ record { world = record (replied_world (record w { gate = g })) { submits = w.submits ++ record { seqnum = r.number; id = 0 } ∷ [] }; outs = Urb (without_packets r status) ∷ []; told = Submit r ∷ [] }) (sym same) here
+      ≡ record { world = record (replied_world w) { submits = w.submits ++ record { seqnum = r.seqnum; id = 0 } ∷ [] }; outs = Urb (without_packets r status) ∷ []; told = Submit r ∷ [] }
+  now-made {S = S} w same = subst (λ (g : State). gate_made as_deeds (record w { gate = g }) (mark_as g what None) ≡ record { world = record (replied_world (record w { gate = g })) { submits = w.submits ++ record { seqnum = r.seqnum; id = 0 } ∷ [] }; outs = Urb (without_packets r status) ∷ []; told = Submit r ∷ [] }) (sym same) here
     where
-      here : gate_made as_deeds (record w { gate = st }) (mark_as st what None) ≡ record { world = record (replied_world (record w { gate = st })) { submits = w.submits ++ record { seqnum = r.number; id = 0 } ∷ [] }; outs = Urb (without_packets r status) ∷ []; told = Submit r ∷ [] }
+      here : gate_made as_deeds (record w { gate = st }) (mark_as st what None) ≡ record { world = record (replied_world (record w { gate = st })) { submits = w.submits ++ record { seqnum = r.seqnum; id = 0 } ∷ [] }; outs = Urb (without_packets r status) ∷ []; told = Submit r ∷ [] }
       here = λ i. record {
         world = record w {
           gate = record st { items = suc st.items; live = now-live i; abandoned = filter-all st.abandoned i };
           to_host = (ap (λ (l : List (ℕ × RedirPacket)). w.to_host ++ ((l ++ []) ++ [])) (none-cancelled what stays-uncancelled st.live) ∙ append-nil w.to_host) i;
-          submits = (ap (λ (ps : List Pending). w.submits ++ flat_map named (((((note.Submitted r.number 0 ∷ []) ++ map (λ (p : Pending). note.Answered p.submit.request.number) ps) ++ []) ++ []) ++ [])) none-done) i;
+          submits = (ap (λ (ps : List Pending). w.submits ++ flat_map named (((((note.Submitted r.seqnum 0 ∷ []) ++ map (λ (p : Pending). note.Answered p.submit.request.seqnum) ps) ++ []) ++ []) ++ [])) none-done) i;
         };
         outs = map Urb (now-answered i);
-        told = (ap (λ (ps : List Pending). (((Submit r ∷ []) ++ map (λ (p : Pending). Answer p.submit.request.number) ps) ++ []) ++ []) none-done) i;
+        told = (ap (λ (ps : List Pending). (((Submit r ∷ []) ++ map (λ (p : Pending). Answer p.submit.request.seqnum) ps) ++ []) ++ []) none-done) i;
       }
 
 -- ---- and the device
@@ -130,7 +130,7 @@ keep-now {S = S} m w j place s status rel before inside new is made-is = go st.c
     made = move as_deeds m w (ByClient (Asked place (Urb (urb.Submit s))))
 
     new_world : World S
-    new_world = record (replied_world w) { submits = w.submits ++ record { seqnum = r.number; id = 0 } ∷ [] }
+    new_world = record (replied_world w) { submits = w.submits ++ record { seqnum = r.seqnum; id = 0 } ∷ [] }
 
     device : act m d (Submit r) ≡ d
     device = ap (λ (v : Verdict). submitted d (record { request = r; verdict = v })) made-is
@@ -150,9 +150,9 @@ keep-now {S = S} m w j place s status rel before inside new is made-is = go st.c
       deeds = ap (λ (x : Made S Deed). x.told) moved;
       outs = ap (λ (x : Made S Deed). x.outs) moved ∙ ap (map Urb) (sym says);
       same = device ∙ ap (λ (x : Made S Deed). view x.world j) (sym moved);
-      allowed = (inside, list_any-map (λ (l : Live). is_number r.number l.load) live_of st.live ∙ sym (list_any-map (is_numbered r.number) (λ (p : Pending). p.submit) st.live) ∙ new);
+      allowed = (inside, list_any-map (λ (l : Live). is_number r.seqnum l.load) live_of st.live ∙ sym (list_any-map (is_numbered r.seqnum) (λ (p : Pending). p.submit) st.live) ∙ new);
     })
-        (subst (λ (x : Made S Deed). Related m x.world j) (sym moved) (counted-related m w j (w.submits ++ record { seqnum = r.number; id = 0 } ∷ []) st.client_over rel (ids-named j.debts w.submits (j.held ++ j.coming) (runs_in j.back) r.number rel.real rel.ids) rel.sides.refused))
+        (subst (λ (x : Made S Deed). Related m x.world j) (sym moved) (counted-related m w j (w.submits ++ record { seqnum = r.seqnum; id = 0 } ∷ []) st.client_over rel (ids-named j.debts w.submits (j.held ++ j.coming) (runs_in j.back) r.seqnum rel.real rel.ids) rel.sides.refused))
       where
         moved : made ≡ record { world = new_world; outs = Urb (without_packets r status) ∷ []; told = Submit r ∷ [] }
         moved = (λ i. cond (on i) (quiet w) (gate_made as_deeds w (mark_as st (now-means st r status before place s refl inside new is i) None))) ∙ now-made st r status before w refl

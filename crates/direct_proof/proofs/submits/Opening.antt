@@ -92,10 +92,10 @@ module _ (st : State) (r : Request) (v : Verdict) (x : IsSimple st r v) (before 
       weak (p ∷ ps) h = (ap is_by_answer h.0, weak ps h.1)
 
   pub simple-done : deeds_of st (mark_as st what None) ≡ Submit r ∷ []
-  simple-done = ap (λ (ps : List Pending). (((Submit r ∷ []) ++ map (λ (p : Pending). Answer p.submit.request.number) ps) ++ []) ++ []) none-by-answer
+  simple-done = ap (λ (ps : List Pending). (((Submit r ∷ []) ++ map (λ (p : Pending). Answer p.submit.request.seqnum) ps) ++ []) ++ []) none-by-answer
 
-  pub simple-named : flat_map named (notes_of st (mark_as st what None)) ≡ record { seqnum = r.number; id = x.id } ∷ []
-  simple-named = ap (λ (ps : List Pending). flat_map named (((((note.Submitted r.number x.id ∷ []) ++ map (λ (p : Pending). note.Answered p.submit.request.number) ps) ++ []) ++ []) ++ [])) none-by-answer
+  pub simple-named : flat_map named (notes_of st (mark_as st what None)) ≡ record { seqnum = r.seqnum; id = x.id } ∷ []
+  simple-named = ap (λ (ps : List Pending). flat_map named (((((note.Submitted r.seqnum x.id ∷ []) ++ map (λ (p : Pending). note.Answered p.submit.request.seqnum) ps) ++ []) ++ []) ++ [])) none-by-answer
 
   pub simple-asks : asking st.streams (mark_as st what None) ≡ x.qs
   simple-asks = (λ i. zip (next_ids st (length (x.packets i))) (x.packets i)) ∙ x.zipped

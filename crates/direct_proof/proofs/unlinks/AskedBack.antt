@@ -22,11 +22,11 @@ pub still-asked : (target id : ℕ) (e : Entry) → IsAsked id e → IsAsked id 
 still-asked target id e h k = elim (is_number target e.load) as (λ b. (b || e.asked) ≡ true) [ true ↦ refl | false ↦ h k ]
 
 -- one that is cancelled goes by an id, and has the number
-cancelled-is : (by target : ℕ) (p : Pending) → cancels (what by target) p ≡ true → (goes_by_id p.submit.verdict ≡ true) × ((p.submit.request.number == target) ≡ true)
+cancelled-is : (by target : ℕ) (p : Pending) → cancels (what by target) p ≡ true → (goes_by_id p.submit.verdict ≡ true) × ((p.submit.request.seqnum == target) ≡ true)
 cancelled-is by target p h =
     let a = and_parts (is_wire p.submit.verdict) (gate_target target p) h in
-    let b = and_parts (goes_by_id p.submit.verdict && (p.submit.request.number == target)) (is_none p.unlinker) a.1 in
-    and_parts (goes_by_id p.submit.verdict) (p.submit.request.number == target) b.0
+    let b = and_parts (goes_by_id p.submit.verdict && (p.submit.request.seqnum == target)) (is_none p.unlinker) a.1 in
+    and_parts (goes_by_id p.submit.verdict) (p.submit.request.seqnum == target) b.0
 
 equal : (a b : ℕ) → (a == b) ≡ true → a ≡ b
 equal a b h = grind (arith, h)
@@ -36,7 +36,7 @@ pub asked-of : (by target : ℕ) (es : List Entry) (ps : List Pending) → Each 
 asked-of by target es [] h = tt
 asked-of by target es (p ∷ ps) h = go (cancels (what by target) p) refl (asked-of by target es ps h.1)
   where
-    one : (p.submit.request.number == target) ≡ true → (xs : List Entry) → Each (λ (e : Entry). Agrees (debt_from p.submit) e.id e.load) xs → Each (IsAsked p.submit.id) (map (ask_entry target) xs)
+    one : (p.submit.request.seqnum == target) ≡ true → (xs : List Entry) → Each (λ (e : Entry). Agrees (debt_from p.submit) e.id e.load) xs → Each (IsAsked p.submit.id) (map (ask_entry target) xs)
     one is [] k = tt
     one is (x ∷ xs) k = (
       (λ z. (

@@ -167,7 +167,7 @@ keep-unlink {S = S} m w j place u rel sound inside = go w.gate.client_over refl
 
         shorter : (ps : List Pending) → length (filter (gate_taken target) ps) ≤ length (filter (λ (p : Pending). is_numbered target p.submit) ps)
         shorter [] = omega arith
-        shorter (p ∷ ps) = on (is_waiting p.submit.verdict) (p.submit.request.number == target) (shorter ps)
+        shorter (p ∷ ps) = on (is_waiting p.submit.verdict) (p.submit.request.seqnum == target) (shorter ps)
           where
             on : (a b : Bool) → length (filter (gate_taken target) ps) ≤ length (filter (λ (x : Pending). is_numbered target x.submit) ps) →
                 length (cond (a && b) (p ∷ filter (gate_taken target) ps) (filter (gate_taken target) ps)) ≤ length (cond b (p ∷ filter (λ (x : Pending). is_numbered target x.submit) ps) (filter (λ (x : Pending). is_numbered target x.submit) ps))

@@ -70,7 +70,7 @@ module _ (st : State) (by target : ℕ) where
 
           on : (b : Bool) → gate_taken target p ≡ b → debts_of (map (λ (x : Pending). x.submit) (map (ask what) rest)) ≡ debts_of (map (λ (x : Pending). x.submit) ps) →
               debts_of (map (λ (x : Pending). x.submit) (map (ask what) (cond (not b) (p ∷ rest) rest))) ≡ debts_of (p.submit ∷ map (λ (x : Pending). x.submit) ps)
-          on true e k = k ∙ ap (λ (a : Bool). map debt_from (cond a (p.submit ∷ filter (λ (x : Submission). goes_by_id x.verdict) (map (λ (x : Pending). x.submit) ps)) (filter (λ (x : Submission). goes_by_id x.verdict) (map (λ (x : Pending). x.submit) ps)))) (sym (waits p.submit.verdict (p.submit.request.number == target) e))
+          on true e k = k ∙ ap (λ (a : Bool). map debt_from (cond a (p.submit ∷ filter (λ (x : Submission). goes_by_id x.verdict) (map (λ (x : Pending). x.submit) ps)) (filter (λ (x : Submission). goes_by_id x.verdict) (map (λ (x : Pending). x.submit) ps)))) (sym (waits p.submit.verdict (p.submit.request.seqnum == target) e))
           on false e k = two (goes_by_id p.submit.verdict) (map (λ (x : Pending). x.submit) (map (ask what) rest)) (map (λ (x : Pending). x.submit) ps) k
 
   none-by-answer : filter (λ p. is_by_answer (ends what p.submit)) (present st what) ≡ []
@@ -79,10 +79,10 @@ module _ (st : State) (by target : ℕ) where
       ∙ filter-none (present st what)
 
   pub unlink-done : deeds_of st (mark_as st what None) ≡ Unlink by target ∷ []
-  unlink-done = ap (λ (ps : List Pending). ((Unlink by target ∷ []) ++ map (λ (p : Pending). Answer p.submit.request.number) ps) ++ [] ++ []) none-by-answer
+  unlink-done = ap (λ (ps : List Pending). ((Unlink by target ∷ []) ++ map (λ (p : Pending). Answer p.submit.request.seqnum) ps) ++ [] ++ []) none-by-answer
 
   pub unlink-named : flat_map named (notes_of st (mark_as st what None)) ≡ []
-  unlink-named = ap (λ (ps : List Pending). flat_map named (((note.UnlinkAsked by target ∷ []) ++ map (λ (p : Pending). note.Answered p.submit.request.number) ps) ++ [] ++ [] ++ [])) none-by-answer
+  unlink-named = ap (λ (ps : List Pending). flat_map named (((note.UnlinkAsked by target ∷ []) ++ map (λ (p : Pending). note.Answered p.submit.request.seqnum) ps) ++ [] ++ [] ++ [])) none-by-answer
 
   -- its cancel
   pub unlink-sent : to_host st (mark_as st what None) ≡ map cancel (filter (cancels what) st.live)

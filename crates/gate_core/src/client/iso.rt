@@ -40,7 +40,7 @@ impl Kept {
             → OnOk result (Does st (mark_as st (Opens (submission st request.now (IsoOut row) [])) None) self.old self.new out.old out.new) }
         ensures err { OnErr result (StopsShort self.old self.new out.old out.new) }
     {
-        let seqnum = request.number;
+        let seqnum = request.seqnum;
         out.notes.push(Note::Submitted { seqnum, id: 0 })?;
         let ep = request.transfer.ep;
         let started = self.write_start(ep, row, &mut out.to_host)?;

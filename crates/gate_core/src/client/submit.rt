@@ -99,7 +99,7 @@ impl Kept {
             → OnOk result (Does st (mark_as st (Opens (submission st request.now (Now status) [])) None) self.old self.new out.old out.new) }
         ensures err { OnErr result (StopsShort self.old self.new out.old out.new) }
     {
-        let seqnum = request.number;
+        let seqnum = request.seqnum;
         out.notes.push(Note::Submitted { seqnum, id: 0 })?;
         write_without_packets(self.alloc, &request.asked(), status, &mut out.to_client)?;
         self.answered = self.answered.saturating_add(1);
@@ -109,7 +109,7 @@ impl Kept {
     /// A transfer goes to the host as a packet of its own kind.
     fn send(&mut self, pipe: Pipe, request: Request, out: &mut Outputs) -> Result<(), Memory>
         requires kept { IsKept self.old }
-        requires free { IsFree self.old request.number }
+        requires free { IsFree self.old request.seqnum }
         requires sent { IsSent (wide_bulk self.old.caps) pipe request.transfer }
         requires answered { CanAnswer request (kind_of (Wire pipe) request.transfer.ep) }
         ensures kept { IsKept self.new }
@@ -119,7 +119,7 @@ impl Kept {
     {
         let id = self.draw(self.last);
         let Request {
-            number: seqnum,
+            seqnum,
             is_in,
             flags,
             packets,
@@ -158,7 +158,7 @@ impl Kept {
         out: &mut Outputs,
     ) -> Result<(), Memory>
         requires kept { IsKept self.old }
-        requires free { IsFree self.old request.number }
+        requires free { IsFree self.old request.seqnum }
         requires answered { CanAnswer request (Routed route) }
         requires some { 1 ≤ length (route_packets route) }
         ensures kept { IsKept self.new }
@@ -170,7 +170,7 @@ impl Kept {
         self.write_ends(&end, ESHUTDOWN, &mut out.to_client)?;
         let sent_ids = self.write_stops(Some(route), &mut out.to_host)?;
         let id = self.ask_route(&route, sent_ids.last, &mut out.to_host)?;
-        let seqnum = request.number;
+        let seqnum = request.seqnum;
         out.notes.push(Note::Submitted { seqnum, id })?;
         let live = row_for(request, LiveKind::Routed(route), id);
         self.open(live, id);

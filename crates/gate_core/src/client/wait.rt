@@ -24,7 +24,7 @@ impl Kept {
     /// row, and may hold packets that fill the request.
     pub fn wait(&mut self, row: EpRow, request: Request, out: &mut Outputs) -> Result<(), Memory>
         requires kept { IsKept self.old }
-        requires free { IsFree self.old request.number }
+        requires free { IsFree self.old request.seqnum }
         requires waits { CanWait request }
         ensures kept { IsKept self.new }
         ensures ok { (st : State) → Holds self.old st → IsSound st
@@ -43,16 +43,16 @@ impl Kept {
     /// A request waits for a stream that is up.
     fn join(&mut self, up: &mut Up, request: Request, out: &mut Outputs) -> Result<(), Memory>
         requires kept { IsKept self.old }
-        requires free { IsFree self.old request.number }
+        requires free { IsFree self.old request.seqnum }
         requires waits { CanWait request }
         ensures kept { IsKept self.new }
         ensures joined { OnOk result (HasJoined up.old up.new request self.old self.new) }
-        ensures sent { OnOk result (out.new ≡ with_answers out.old (up_bytes request.transfer.ep up.old (joined_rows up.old request self.old)) (Submitted request.number 0 ∷ filled_notes (up_fill request.transfer.ep up.old (joined_rows up.old request self.old)))) }
+        ensures sent { OnOk result (out.new ≡ with_answers out.old (up_bytes request.transfer.ep up.old (joined_rows up.old request self.old)) (Submitted request.seqnum 0 ∷ filled_notes (up_fill request.transfer.ep up.old (joined_rows up.old request self.old)))) }
         ensures same { OnErr result (self.new ≡ self.old) }
         ensures same_up { OnErr result (up.new ≡ up.old) }
         ensures err { OnErr result (HasSome out.old out.new) }
     {
-        let seqnum = request.number;
+        let seqnum = request.seqnum;
         out.notes.push(Note::Submitted { seqnum, id: 0 })?;
         let ep = request.ep();
         let kind = LiveKind::Stream {
@@ -73,7 +73,7 @@ impl Kept {
     /// A request waits for a stream that it starts.
     fn start(&mut self, row: EpRow, request: Request, out: &mut Outputs) -> Result<(), Memory>
         requires kept { IsKept self.old }
-        requires free { IsFree self.old request.number }
+        requires free { IsFree self.old request.seqnum }
         requires waits { CanWait request }
         requires down { stream_at self.old.streams request.transfer.ep ≡ None }
         ensures kept { IsKept self.new }
@@ -81,7 +81,7 @@ impl Kept {
             → OnOk result (Does st (mark_as st (accepts st request (Stream row)) None) self.old self.new out.old out.new) }
         ensures err { OnErr result (StopsShort self.old self.new out.old out.new) }
     {
-        let seqnum = request.number;
+        let seqnum = request.seqnum;
         out.notes.push(Note::Submitted { seqnum, id: 0 })?;
         let ep = request.ep();
         let started = self.write_start(ep, row, &mut out.to_host)?;

@@ -59,7 +59,7 @@ at_once (IsoOut row) = Some Sent
 at_once _ = None
 
 abbrev pub packets_end : ℕ → List Filling → Submission → Option End
-packets_end ep fillings s = if waits_at ep s then option_map ByPackets (given_to fillings s.request.number) else None
+packets_end ep fillings s = if waits_at ep s then option_map ByPackets (given_to fillings s.request.seqnum) else None
 
 -- ---- the answers of one that may have been asked back
 
@@ -83,7 +83,7 @@ abbrev pub own_end : Effect → Submission → Option End
 own_end (Opens t) s = if t.place == s.place then at_once s.verdict else if is_touched t.verdict s.verdict then Some (ByStatus ESHUTDOWN) else None
 own_end (Waits t fill) s = packets_end t.request.transfer.ep fill.fillings s
 own_end (Arrives ep fill) s = packets_end ep fill.fillings s
-own_end (Unlinks by target) s = if is_waiting s.verdict && (s.request.number == target) then Some (ByUnlink by) else None
+own_end (Unlinks by target) s = if is_waiting s.verdict && (s.request.seqnum == target) then Some (ByUnlink by) else None
 own_end (StreamTold id ep status) s = if waits_at ep s && not (is_success status) then Some (ByStatus (errno_of status)) else None
 own_end (Answers id outcome) s = if has_id id s then Some (ByAnswer outcome) else None
 own_end _ s = None

@@ -21,7 +21,7 @@ transfer_by control s = record {
 
 abbrev pub request_of : Submit → Request
 request_of s = record {
-  number = s.head.seqnum;
+  seqnum = s.head.seqnum;
   is_in = not (is_out s.head.direction);
   flags = s.flags;
   packets = s.packets;

@@ -39,7 +39,7 @@ ended ms m = filter (λ s. is_live ms s && not (is_live (m ∷ ms) s)) (accepted
 
 -- a stream's request is taken back at once, and so has none
 abbrev pub asks : Effect → Submission → Option ℕ
-asks (Unlinks by target) s = if goes_by_id s.verdict && (s.request.number == target) then Some by else None
+asks (Unlinks by target) s = if goes_by_id s.verdict && (s.request.seqnum == target) then Some by else None
 asks _ s = None
 
 -- the number of the first unlink that asks for it, after it and before its end

@@ -64,8 +64,8 @@ wins s _ = false
 -- an unlink that takes back a request which waits for a stream's packets is its answer
 abbrev pub answer_by : Submission → Option ℕ → Option End → Answer
 answer_by s by (Some (ByUnlink other)) = Unlinked other
-answer_by s None end = Completed s.request.number
-answer_by s (Some by) end = if wins s end then Unlinked by else Completed s.request.number
+answer_by s None end = Completed s.request.seqnum
+answer_by s (Some by) end = if wins s end then Unlinked by else Completed s.request.seqnum
 
 -- the one answer of a submit that has ended
 abbrev pub answer_of : List Mark → Submission → Answer

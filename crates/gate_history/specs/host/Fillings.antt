@@ -18,7 +18,7 @@ pub data Given : Type 0 where
 
 -- the request that has this number is given this
 pub record Filling : Type 0 where
-  pub number : ℕ
+  pub seqnum : ℕ
   pub given : Given
 
 pub record Fill : Type 0 where
@@ -45,13 +45,13 @@ none_filled packets = record { fillings = []; left = packets }
 -- where a request isn't filled, none behind it is
 abbrev pub filled_by : ℕ → List StreamPacket → Option (Cut Given) → (List StreamPacket → Fill) → Fill
 filled_by number packets None rest = none_filled packets
-filled_by number packets (Some cut) rest = record (rest cut.leaves) { fillings = record { number = number; given = cut.gives } ∷ (rest cut.leaves).fillings }
+filled_by number packets (Some cut) rest = record (rest cut.leaves) { fillings = record { seqnum = number; given = cut.gives } ∷ (rest cut.leaves).fillings }
 
 abbrev pub fill : ℕ → List Request → List StreamPacket → Fill
 fill max_packet [] packets = none_filled packets
-fill max_packet (r ∷ rs) packets = filled_by r.number packets (cut_of max_packet r packets) (fill max_packet rs)
+fill max_packet (r ∷ rs) packets = filled_by r.seqnum packets (cut_of max_packet r packets) (fill max_packet rs)
 
 -- what the request with this number is given
 abbrev pub given_to : List Filling → ℕ → Option Given
 given_to [] number = None
-given_to (f ∷ fs) number = if f.number == number then Some f.given else given_to fs number
+given_to (f ∷ fs) number = if f.seqnum == number then Some f.given else given_to fs number

@@ -62,7 +62,7 @@ abbrev pub next_ids : State → ℕ → List ℕ
 next_ids st n = draws (greatest (wide_ids st.agreed)) (flying st) st.last n
 
 abbrev pub is_number : ℕ → Submission → Bool
-is_number number s = s.request.number == number
+is_number number s = s.request.seqnum == number
 
 abbrev pub has_number : State → ℕ → Bool
 has_number st number = list_any (is_number number) (submits st)

@@ -16,7 +16,7 @@ use Rattle.gate_history.specs.host.Fillings.{Given, Transferred, Isochronous}
 
 -- an answer has its request's number, and zeros in the other fields of its head
 abbrev pub answer_head : ℕ → Head
-answer_head number = record { seqnum = number; devid = 0; direction = 0; ep = 0 }
+answer_head seqnum = record { seqnum = seqnum; devid = 0; direction = 0; ep = 0 }
 
 -- by its transfer_flags, a read that gives fewer bytes than were asked for has failed
 abbrev pub fails_if_short : ℕ → Bool
@@ -28,7 +28,7 @@ told_status r status actual =
 
 abbrev pub ret_submit : Request → ℤ → ℕ → List ℕ → List IsoDesc → UrbPacket
 ret_submit r status actual body descs = urb.RetSubmit (record {
-  head = answer_head r.number;
+  head = answer_head r.seqnum;
   status = told_status r status actual;
   actual = actual;
   start_frame = 0;
@@ -40,7 +40,7 @@ ret_submit r status actual body descs = urb.RetSubmit (record {
 })
 
 abbrev pub ret_unlink : ℕ → ℤ → UrbPacket
-ret_unlink number status = urb.RetUnlink (record { head = answer_head number; status = status; pad = replicate 24 0 })
+ret_unlink seqnum status = urb.RetUnlink (record { head = answer_head seqnum; status = status; pad = replicate 24 0 })
 
 -- isochronous packets of which nothing came have the request's status
 abbrev pub echoed : ℤ → List IsoDesc → List IsoDesc

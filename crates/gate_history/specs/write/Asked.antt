@@ -15,7 +15,7 @@ answered_transfer wanted = record { ep = 0; setup = None; wanted = wanted; body 
 
 abbrev pub asked_view : AnsweredSubmit → Request
 asked_view a = record {
-  number = a.number;
+  seqnum = a.seqnum;
   is_in = a.is_in;
   flags = a.flags;
   packets = a.packets;

@@ -23,7 +23,7 @@ came_notes (Arrives ep fill) = note.Arrived ep ∷ []
 came_notes _ = []
 
 abbrev pub submit_notes : Effect → List Note
-submit_notes e = map (λ s. note.Submitted s.request.number s.id) (opened e)
+submit_notes e = map (λ s. note.Submitted s.request.seqnum s.id) (opened e)
 
 -- by its answer, or by packets of its stream
 abbrev pub is_by_answer : Option End → Bool
@@ -32,7 +32,7 @@ is_by_answer (Some (ByPackets given)) = true
 is_by_answer _ = false
 
 abbrev pub answer_notes : State → Effect → List Note
-answer_notes st e = map (λ p. note.Answered p.submit.request.number) (filter (λ p. is_by_answer (ends e p.submit)) (present st e))
+answer_notes st e = map (λ p. note.Answered p.submit.request.seqnum) (filter (λ p. is_by_answer (ends e p.submit)) (present st e))
 
 abbrev pub refusal_notes : Option Refusal → List Note
 refusal_notes refusal = map note.Refused (option_to_list refusal)

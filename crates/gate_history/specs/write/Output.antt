@@ -34,11 +34,11 @@ answered st e = map Urb (flat_map (λ p. answers_at p.submit p.unlinker (ends e 
 
 -- an unlink can still win where its target is live and no earlier one asks for it
 abbrev pub is_target : ℕ → Pending → Bool
-is_target target p = goes_by_id p.submit.verdict && (p.submit.request.number == target) && is_none p.unlinker
+is_target target p = goes_by_id p.submit.verdict && (p.submit.request.seqnum == target) && is_none p.unlinker
 
 -- a request that waits for a stream's packets is taken back at once
 abbrev pub is_taken : ℕ → Pending → Bool
-is_taken target p = is_waiting p.submit.verdict && (p.submit.request.number == target)
+is_taken target p = is_waiting p.submit.verdict && (p.submit.request.seqnum == target)
 
 abbrev pub replies : State → Effect → List ClientPacket
 replies st (Replies reply) = Op reply ∷ []

@@ -39,7 +39,7 @@ filled_bytes max_packet [] packets = []
 filled_bytes max_packet (l ∷ ls) packets = bytes_by l (row_cut max_packet l packets) (filled_bytes max_packet ls)
 
 abbrev pub filled_notes : Fill → List Note
-filled_notes f = map (λ (x : Filling). note.Answered x.number) f.fillings
+filled_notes f = map (λ (x : Filling). note.Answered x.seqnum) f.fillings
 
 abbrev pub waiting_rows : ℕ → List Live → List Live
 waiting_rows ep rows = filter (waits_for ep) rows

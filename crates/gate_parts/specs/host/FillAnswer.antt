@@ -9,4 +9,4 @@ use Rattle.gate_history.specs.write.Answers.{told_status}
 -- the fields of an answer in front of its body, with so many bytes moved and so many errors
 abbrev pub front_bytes : Request → ℤ → ℕ → ℕ → List ℕ
 front_bytes r status actual errors =
-    words (USBIP_RET_SUBMIT ∷ r.number ∷ 0 ∷ 0 ∷ 0 ∷ cast_unsigned w32 (told_status r status actual) ∷ actual ∷ 0 ∷ r.packets ∷ errors ∷ []) ++ replicate 8 0
+    words (USBIP_RET_SUBMIT ∷ r.seqnum ∷ 0 ∷ 0 ∷ 0 ∷ cast_unsigned w32 (told_status r status actual) ∷ actual ∷ 0 ∷ r.packets ∷ errors ∷ []) ++ replicate 8 0

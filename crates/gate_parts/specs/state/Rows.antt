@@ -36,7 +36,7 @@ kind_of _ ep = live_kind.Stream ep 0
 -- the row of a request that goes as one of this kind, under this id
 abbrev pub row_for : Request → LiveKind → ℕ → Live
 row_for r kind id = record {
-  seqnum = r.number;
+  seqnum = r.seqnum;
   id = id;
   kind = kind;
   is_in = r.is_in;
@@ -67,7 +67,7 @@ is_wire_row (live_kind.Wire ep kind) = true
 is_wire_row _ = false
 
 pub record IsRowOf (s : Submission) (l : Live) : Type 0 where
-  pub number : l.seqnum ≡ s.request.number
+  pub seqnum : l.seqnum ≡ s.request.seqnum
   pub is_in : l.is_in ≡ s.request.is_in
   pub flags : l.flags ≡ s.request.flags
   pub packets : l.packets ≡ s.request.packets
@@ -95,7 +95,7 @@ pub record IsFine (caps : Caps) (l : Live) : Type 0 where
 
 abbrev pub row_request : Live → Request
 row_request l = record {
-  number = l.seqnum;
+  seqnum = l.seqnum;
   is_in = l.is_in;
   flags = l.flags;
   packets = l.packets;

@@ -69,12 +69,12 @@ pub fn write_outcome(
 
 /// Appends the answer of the unlink with this number: -104 (ECONNRESET) where it won, and 0 where its submit was
 /// answered before. For want of memory `out` stands.
-pub fn write_ret_unlink(number: u32, status: i32, out: &mut Bytes) -> Result<(), Memory>
-    ensures ok { OnOk result (out.new ≡ out.old ++ spelling (ret_unlink number status)) }
+pub fn write_ret_unlink(seqnum: u32, status: i32, out: &mut Bytes) -> Result<(), Memory>
+    ensures ok { OnOk result (out.new ≡ out.old ++ spelling (ret_unlink seqnum status)) }
     ensures err { OnErr result (out.new ≡ out.old) }
 {
     let answer = RetUnlink {
-        head: answer_head(number),
+        head: answer_head(seqnum),
         status,
         pad: [0; 24],
     };
@@ -82,11 +82,11 @@ pub fn write_ret_unlink(number: u32, status: i32, out: &mut Bytes) -> Result<(),
 }
 
 /// An answer has its request's number, and zeros in the other fields of its head.
-fn answer_head(number: u32) -> Head
-    ensures { result ≡ answer_head number }
+fn answer_head(seqnum: u32) -> Head
+    ensures { result ≡ answer_head seqnum }
 {
     Head {
-        seqnum: number,
+        seqnum,
         devid: 0,
         direction: 0,
         ep: 0,
@@ -105,7 +105,7 @@ pub fn ret_submit(
     ensures { RetSubmitPacket result ≡ ret_submit (asked_view asked.now) status actual body descs }
 {
     RetSubmit {
-        head: answer_head(asked.number),
+        head: answer_head(asked.seqnum),
         status: told_status(asked, status, actual),
         actual,
         start_frame: 0,

@@ -31,7 +31,7 @@ pub fn asked_by(live: &Live) -> AnsweredSubmit<'_>
     ensures { asked_view result ≡ row_request live.now }
 {
     AnsweredSubmit {
-        number: live.seqnum,
+        seqnum: live.seqnum,
         is_in: live.is_in,
         flags: live.flags,
         packets: live.packets,
@@ -161,7 +161,7 @@ pub fn row_for(request: Request, kind: LiveKind, id: u64) -> Live
     ensures { result ≡ row_for request kind id }
 {
     Live {
-        seqnum: request.number,
+        seqnum: request.seqnum,
         id,
         kind,
         is_in: request.is_in,

@@ -135,8 +135,8 @@ module _ {S : Type 0} (m : Meaning S) (w : World S) (j : Shared) (place : ℕ) (
     };
     answers = rel.answers;
     tagged = tagged-lower (is_ended (Some x)) w.gate.streams j.back rel.tagged;
-    ids = subst (λ (es : List Entry). Ids later.debts (w.submits ++ record { seqnum = r.number; id = id } ∷ []) es (runs_in j.back)) joined
-        (ids-submit j.debts w.submits (j.held ++ j.coming) (runs_in j.back) id (record { request = r; verdict = Routed x }) false rel.ids new-id (subst (IsNewNumber r.number) owed (new-numbers r.number (submits w.gate) new)));
+    ids = subst (λ (es : List Entry). Ids later.debts (w.submits ++ record { seqnum = r.seqnum; id = id } ∷ []) es (runs_in j.back)) joined
+        (ids-submit j.debts w.submits (j.held ++ j.coming) (runs_in j.back) id (record { request = r; verdict = Routed x }) false rel.ids new-id (subst (IsNewNumber r.seqnum) owed (new-numbers r.seqnum (submits w.gate) new)));
     real = Each-append (λ (y : Debt). (y.id == 0) ≡ false) j.debts (debt ∷ []) rel.real ((change-id m w j r x change rel gate).1, tt);
     runs_at_in = rel.runs_at_in;
     before = λ h. absurd (both_ways w.host.guest.first (rel.meets.behind connect).2 h);
@@ -174,8 +174,8 @@ module _ {S : Type 0} (m : Meaning S) (w : World S) (j : Shared) (place : ℕ) (
           ∙ setup-alone (situation w.gate r) (row_of (m.table w.host.gadget) r.transfer.ep) r y e ∙ v)
           ∙ by-routed (stream_at d.streams r.transfer.ep) x
 
-  new-live : list_any (λ (l : Live). is_number r.number l.load) d.live ≡ false
-  new-live = list_any-map (λ (l : Live). is_number r.number l.load) live_of w.gate.live ∙ sym (list_any-map (has_seq r.number) (λ (p : Pending). p.submit) w.gate.live) ∙ new
+  new-live : list_any (λ (l : Live). is_number r.seqnum l.load) d.live ≡ false
+  new-live = list_any-map (λ (l : Live). is_number r.seqnum l.load) live_of w.gate.live ∙ sym (list_any-map (has_seq r.seqnum) (λ (p : Pending). p.submit) w.gate.live) ∙ new
 
   outs-same : map (λ (y : Live). without_packets y.load.request ESHUTDOWN) (filter (λ (l : Live). is_touched (Routed x) l.load.verdict) d.live) ≡ ending x w.gate.live
   outs-same = ap (map (λ (y : Live). without_packets y.load.request ESHUTDOWN)) (filter-map (λ (l : Live). is_touched (Routed x) l.load.verdict) live_of w.gate.live) ∙ map-map (λ (y : Live). without_packets y.load.request ESHUTDOWN) live_of (filter (touched x) w.gate.live)

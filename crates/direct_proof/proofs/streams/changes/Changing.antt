@@ -83,7 +83,7 @@ change_world w r x = record w {
     last = last_of w.gate.last (change_ids w.gate x);
   };
   to_host = w.to_host ++ change_sent w.gate x;
-  submits = w.submits ++ record { seqnum = r.number; id = last_of 0 (change_ids w.gate x) } ∷ [];
+  submits = w.submits ++ record { seqnum = r.seqnum; id = last_of 0 (change_ids w.gate x) } ∷ [];
 }
 
 module _ (st : State) (r : Request) (x : Route) where
@@ -135,10 +135,10 @@ change-made {S = S} w r x before = λ i. record {
       abandoned = filter-all w.gate.abandoned i;
     };
     to_host = (ap (λ (l : List (ℕ × RedirPacket)). w.to_host ++ ((l ++ change_sent w.gate x) ++ [])) (none-cancelled (Opens (changer w.gate r x)) stays-uncancelled w.gate.live) ∙ ap (λ (l : List (ℕ × RedirPacket)). w.to_host ++ l) (append-nil (change_sent w.gate x))) i;
-    submits = (ap (λ (ps : List Pending). w.submits ++ flat_map named ((((note.Submitted r.number (last_of 0 (change_ids w.gate x)) ∷ map (λ (p : Pending). note.Answered p.submit.request.number) ps) ++ []) ++ []) ++ [])) (none-answer w.gate r x w.gate.live before)) i;
+    submits = (ap (λ (ps : List Pending). w.submits ++ flat_map named ((((note.Submitted r.seqnum (last_of 0 (change_ids w.gate x)) ∷ map (λ (p : Pending). note.Answered p.submit.request.seqnum) ps) ++ []) ++ []) ++ [])) (none-answer w.gate r x w.gate.live before)) i;
   };
   outs = ap (map Urb) (gives w.gate r x w.gate.live before) i;
-  told = ap (λ (ps : List Pending). ((Submit r ∷ map (λ (p : Pending). Answer p.submit.request.number) ps) ++ []) ++ []) (none-answer w.gate r x w.gate.live before) i;
+  told = ap (λ (ps : List Pending). ((Submit r ∷ map (λ (p : Pending). Answer p.submit.request.seqnum) ps) ++ []) ++ []) (none-answer w.gate r x w.gate.live before) i;
 }
 
 -- ---- and the device
@@ -156,7 +156,7 @@ changed d r x =
       way = way_by ups d.way;
     }
 
-pub device-changes : {S : Type 0} (m : Meaning S) (d : Direct S) (r : Request) (x : Route) → made_of m d r ≡ Routed x → d.imported ≡ true → list_any (λ (l : Live). is_number r.number l.load) d.live ≡ false →
+pub device-changes : {S : Type 0} (m : Meaning S) (d : Direct S) (r : Request) (x : Route) → made_of m d r ≡ Routed x → d.imported ≡ true → list_any (λ (l : Live). is_number r.seqnum l.load) d.live ≡ false →
     Does m d (Submit r ∷ []) (changed d r x) (map Urb (map (λ (y : Live). without_packets y.load.request ESHUTDOWN) (filter (λ (l : Live). is_touched (Routed x) l.load.verdict) d.live)))
 device-changes {S = S} m d r x made imported new = record {
   same = ap (λ (v : Verdict). submitted d (record { request = r; verdict = v })) made;

@@ -107,7 +107,7 @@ module _ {S : Type 0} (m : Meaning S) (ep max : ℕ) where
   answers-one d kept l ls held cut imported live apart ahead holds waiting cuts = record {
     same = ap (answered_by d) found ∙ ap (λ (b : Bool). cond b (fills d l.load (cut_for d l.load)) other) is_stream ∙ ap (fills d l.load) cut-is
         ∙ (λ i. record d { live = (ap (without_number n) live ∙ filter-middle (λ y. is_number n y.load) kept l ls differ.0 (itself n) differ.1) i; streams = hold (at i) cut.leaves d.streams });
-    legal = ((imported, subst (λ (o : Option Live). IsSomeAnd o (λ l. CanAnswerBy d l.load (is_waiting l.load.verdict))) (sym found) (subst (CanAnswerBy d l.load) (sym is_stream) (subst (λ (o : Option Live). IsSomeAnd o (λ e. (is_number l.load.request.number e.load ≡ true) × IsSome (cut_for d l.load))) (sym earliest) (itself n, ap is_some cut-is)))), tt);
+    legal = ((imported, subst (λ (o : Option Live). IsSomeAnd o (λ l. CanAnswerBy d l.load (is_waiting l.load.verdict))) (sym found) (subst (CanAnswerBy d l.load) (sym is_stream) (subst (λ (o : Option Live). IsSomeAnd o (λ e. (is_number l.load.request.seqnum e.load ≡ true) × IsSome (cut_for d l.load))) (sym earliest) (itself n, ap is_some cut-is)))), tt);
     outs-are = ap (map Urb) (sym (append-nil (answers m d (Answer n)) ∙ ap (answers_of d) found ∙ ap (λ (b : Bool). cond b (filled_answers l.load (cut_for d l.load)) more) is_stream ∙ ap (filled_answers l.load) cut-is));
   }
     where

@@ -26,7 +26,7 @@ abbrev pub ends_by : ℕ → List Filling → Pending → Option End
 ends_by ep fs p = packets_end ep fs p.submit
 
 abbrev pub has_seqnum : ℕ → Pending → Bool
-has_seqnum n p = p.submit.request.number == n
+has_seqnum n p = p.submit.request.seqnum == n
 
 abbrev pub Differ : List Pending → Type 0
 Differ ps = (n : ℕ) → count (has_seqnum n) ps ≤ 1
@@ -36,7 +36,7 @@ pub record AreFills (ep : ℕ) (ps : List Pending) (f : Fill) (g : Filled) : Typ
   pub left : f.left ≡ g.left
   pub live : map live_of (filter (λ p. is_none (ends_by ep f.fillings p)) ps) ≡ g.live
   pub outs : flat_map (λ (p : Pending). answers_at p.submit p.unlinker (ends_by ep f.fillings p)) ps ≡ map (λ (x : ℕ × UrbPacket). x.1) g.filled
-  pub numbers : map (λ (p : Pending). p.submit.request.number) (filter (λ p. is_by_answer (ends_by ep f.fillings p)) ps) ≡ map (λ (x : ℕ × UrbPacket). x.0) g.filled
+  pub numbers : map (λ (p : Pending). p.submit.request.seqnum) (filter (λ p. is_by_answer (ends_by ep f.fillings p)) ps) ≡ map (λ (x : ℕ × UrbPacket). x.0) g.filled
 
 no-end : (b : Bool) → cond b (option_map ByPackets None) None ≡ None
 no-end true = refl
@@ -51,7 +51,7 @@ none-fill ep (p ∷ ps) left =
       left = refl;
       live = (λ i. map live_of (cond (is_none (e i)) (p ∷ filter (λ q. is_none (ends_by ep [] q)) ps) (filter (λ q. is_none (ends_by ep [] q)) ps))) ∙ ap (λ (l : List Live). live_of p ∷ l) r.live;
       outs = (λ i. answers_at p.submit p.unlinker (e i) ++ flat_map (λ (q : Pending). answers_at q.submit q.unlinker (ends_by ep [] q)) ps) ∙ r.outs;
-      numbers = (λ i. map (λ (q : Pending). q.submit.request.number) (cond (is_by_answer (e i)) (p ∷ filter (λ q. is_by_answer (ends_by ep [] q)) ps) (filter (λ q. is_by_answer (ends_by ep [] q)) ps))) ∙ r.numbers;
+      numbers = (λ i. map (λ (q : Pending). q.submit.request.seqnum) (cond (is_by_answer (e i)) (p ∷ filter (λ q. is_by_answer (ends_by ep [] q)) ps) (filter (λ q. is_by_answer (ends_by ep [] q)) ps))) ∙ r.numbers;
     }
 
 -- one in front that doesn't wait
@@ -60,27 +60,27 @@ skip-fill ep p ps f g h r = record {
   left = r.left;
   live = (λ i. map live_of (cond (is_none (e i)) (p ∷ filter (λ q. is_none (ends_by ep f.fillings q)) ps) (filter (λ q. is_none (ends_by ep f.fillings q)) ps))) ∙ ap (λ (l : List Live). live_of p ∷ l) r.live;
   outs = (λ i. answers_at p.submit p.unlinker (e i) ++ flat_map (λ (q : Pending). answers_at q.submit q.unlinker (ends_by ep f.fillings q)) ps) ∙ r.outs;
-  numbers = (λ i. map (λ (q : Pending). q.submit.request.number) (cond (is_by_answer (e i)) (p ∷ filter (λ q. is_by_answer (ends_by ep f.fillings q)) ps) (filter (λ q. is_by_answer (ends_by ep f.fillings q)) ps))) ∙ r.numbers;
+  numbers = (λ i. map (λ (q : Pending). q.submit.request.seqnum) (cond (is_by_answer (e i)) (p ∷ filter (λ q. is_by_answer (ends_by ep f.fillings q)) ps) (filter (λ q. is_by_answer (ends_by ep f.fillings q)) ps))) ∙ r.numbers;
 }
   where
     e : ends_by ep f.fillings p ≡ None
-    e = ap (λ (b : Bool). cond b (option_map ByPackets (given_to f.fillings p.submit.request.number)) None) h
+    e = ap (λ (b : Bool). cond b (option_map ByPackets (given_to f.fillings p.submit.request.seqnum)) None) h
 
 -- one in front that is filled
-front-fill : (ep : ℕ) (p : Pending) (ps : List Pending) (given : Given) (f : Fill) (g : Filled) → waits_at ep p.submit ≡ true → Each (λ (q : Pending). has_seqnum p.submit.request.number q ≡ false) ps → AreFills ep ps f g →
-    AreFills ep (p ∷ ps) (record { fillings = record { number = p.submit.request.number; given = given } ∷ f.fillings; left = f.left }) (with_answer p.submit.request.number (with_given p.submit.request given) g)
+front-fill : (ep : ℕ) (p : Pending) (ps : List Pending) (given : Given) (f : Fill) (g : Filled) → waits_at ep p.submit ≡ true → Each (λ (q : Pending). has_seqnum p.submit.request.seqnum q ≡ false) ps → AreFills ep ps f g →
+    AreFills ep (p ∷ ps) (record { fillings = record { seqnum = p.submit.request.seqnum; given = given } ∷ f.fillings; left = f.left }) (with_answer p.submit.request.seqnum (with_given p.submit.request given) g)
 front-fill ep p ps given f g h others r = record {
   left = r.left;
   live = (λ i. map live_of (cond (is_none (e i)) (p ∷ filter (λ q. is_none (ends_by ep fs q)) ps) (filter (λ q. is_none (ends_by ep fs q)) ps))) ∙ ap (map live_of) (stay ps others) ∙ r.live;
   outs = (λ i. answers_at p.submit p.unlinker (e i) ++ gives ps others i) ∙ ap (λ (l : List UrbPacket). with_given p.submit.request given ∷ l) r.outs;
-  numbers = (λ i. map (λ (q : Pending). q.submit.request.number) (cond (is_by_answer (e i)) (p ∷ told ps others i) (told ps others i))) ∙ ap (λ (l : List ℕ). p.submit.request.number ∷ l) r.numbers;
+  numbers = (λ i. map (λ (q : Pending). q.submit.request.seqnum) (cond (is_by_answer (e i)) (p ∷ told ps others i) (told ps others i))) ∙ ap (λ (l : List ℕ). p.submit.request.seqnum ∷ l) r.numbers;
 }
   where
     n : ℕ
-    n = p.submit.request.number
+    n = p.submit.request.seqnum
 
     fs : List Filling
-    fs = record { number = n; given = given } ∷ f.fillings
+    fs = record { seqnum = n; given = given } ∷ f.fillings
 
     e : ends_by ep fs p ≡ Some (ByPackets given)
     e = (λ i. cond (h i) (option_map ByPackets (cond (itself n i) (Some given) (given_to f.fillings n))) None)
@@ -89,7 +89,7 @@ front-fill ep p ps given f g h others r = record {
     apart k z = grind (arith, z)
 
     past : (q : Pending) → has_seqnum n q ≡ false → ends_by ep fs q ≡ ends_by ep f.fillings q
-    past q z = ap (λ (b : Bool). cond (waits_at ep q.submit) (option_map ByPackets (cond b (Some given) (given_to f.fillings q.submit.request.number))) None) (apart q.submit.request.number z)
+    past q z = ap (λ (b : Bool). cond (waits_at ep q.submit) (option_map ByPackets (cond b (Some given) (given_to f.fillings q.submit.request.seqnum))) None) (apart q.submit.request.seqnum z)
 
     stay : (qs : List Pending) → Each (λ (q : Pending). has_seqnum n q ≡ false) qs → filter (λ q. is_none (ends_by ep fs q)) qs ≡ filter (λ q. is_none (ends_by ep f.fillings q)) qs
     stay [] z = refl
@@ -110,8 +110,8 @@ are-fills max ep (p ∷ ps) held d = go (waits_at ep p.submit) refl (λ left. ar
     rest : Differ ps
     rest n = let z = d n in omega (arith, z)
 
-    others : Each (λ (q : Pending). has_seqnum p.submit.request.number q ≡ false) ps
-    others = let z = d p.submit.request.number in let w = ap weight (itself p.submit.request.number) in zero-count (has_seqnum p.submit.request.number) ps (omega (arith, z, w))
+    others : Each (λ (q : Pending). has_seqnum p.submit.request.seqnum q ≡ false) ps
+    others = let z = d p.submit.request.seqnum in let w = ap weight (itself p.submit.request.seqnum) in zero-count (has_seqnum p.submit.request.seqnum) ps (omega (arith, z, w))
 
     go : (b : Bool) → waits_at ep p.submit ≡ b → ((left : List StreamPacket) → AreFills ep ps (fill max (asking_at ep ps) left) (fill_all max ep (map live_of ps) left)) →
         AreFills ep (p ∷ ps) (fill max (map (λ (q : Pending). q.submit.request) (cond b (p ∷ filter (λ (q : Pending). waits_at ep q.submit) ps) (filter (λ (q : Pending). waits_at ep q.submit) ps))) held)
@@ -119,6 +119,6 @@ are-fills max ep (p ∷ ps) held d = go (waits_at ep p.submit) refl (λ left. ar
     go false e ih = skip-fill ep p ps (fill max (asking_at ep ps) held) (fill_all max ep (map live_of ps) held) e (ih held)
     go true e ih = by (cut_of max p.submit.request held)
       where
-        by : (o : Option (Cut Given)) → AreFills ep (p ∷ ps) (filled_by p.submit.request.number held o (fill max (asking_at ep ps))) (fill_by (live_of p) (map live_of ps) held o (fill_all max ep (map live_of ps)))
+        by : (o : Option (Cut Given)) → AreFills ep (p ∷ ps) (filled_by p.submit.request.seqnum held o (fill max (asking_at ep ps))) (fill_by (live_of p) (map live_of ps) held o (fill_all max ep (map live_of ps)))
         by None = none-fill ep (p ∷ ps) held
         by (Some cut) = front-fill ep p ps cut.gives (fill max (asking_at ep ps) cut.leaves) (fill_all max ep (map live_of ps) cut.leaves) e others (ih cut.leaves)

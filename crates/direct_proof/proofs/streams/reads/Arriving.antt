@@ -88,7 +88,7 @@ abbrev pub stay_by : ℕ → List Filling → List Pending → List Pending
 stay_by ep fs ps = filter (λ p. is_none (ends_by ep fs p)) ps
 
 abbrev pub told_by_fills : ℕ → List Filling → List Pending → List ℕ
-told_by_fills ep fs ps = map (λ (p : Pending). p.submit.request.number) (filter (λ p. is_by_answer (ends_by ep fs p)) ps)
+told_by_fills ep fs ps = map (λ (p : Pending). p.submit.request.seqnum) (filter (λ p. is_by_answer (ends_by ep fs p)) ps)
 
 abbrev pub sent_by_fills : ℕ → List Filling → List Pending → List UrbPacket
 sent_by_fills ep fs ps = flat_map (λ (p : Pending). answers_at p.submit p.unlinker (ends_by ep fs p)) ps
@@ -101,7 +101,7 @@ abbrev pub arrived_world : {S : Type 0} → World S → ℕ → Fill → World S
 arrived_world w ep f = record w { gate = record w.gate { items = suc w.gate.items; live = stay_by ep f.fillings w.gate.live; streams = hold ep f.left w.gate.streams } }
 
 abbrev noted : State → ℕ → Fill → List Note
-noted st ep f = map (λ (p : Pending). note.Answered p.submit.request.number) (filter (λ p. is_by_answer (ends_by ep f.fillings p)) (st.live ++ []))
+noted st ep f = map (λ (p : Pending). note.Answered p.submit.request.seqnum) (filter (λ p. is_by_answer (ends_by ep f.fillings p)) (st.live ++ []))
 
 pub arrives-made : {S : Type 0} (w : World S) (ep : ℕ) (f : Fill) →
     gate_made as_deeds w (mark_as w.gate (Arrives ep f) None) ≡ record { world = arrived_world w ep f; outs = map Urb (sent_by_fills ep f.fillings w.gate.live); told = Arrive ep ∷ map Answer (told_by_fills ep f.fillings w.gate.live) }
@@ -126,14 +126,14 @@ arrives-made w ep f = λ i. record {
 
     names : w.submits ++ flat_map named (notes_of w.gate (mark_as w.gate (Arrives ep f) None)) ≡ w.submits ++ []
     names =
-        ap (λ (l : List Note). w.submits ++ flat_map named (note.Arrived ep ∷ l)) (append-nil ((noted w.gate ep f ++ []) ++ []) ∙ append-nil (noted w.gate ep f ++ []) ∙ append-nil (noted w.gate ep f) ∙ sym (map-map note.Answered (λ (p : Pending). p.submit.request.number) (filter (λ p. is_by_answer (ends_by ep f.fillings p)) (w.gate.live ++ []))))
+        ap (λ (l : List Note). w.submits ++ flat_map named (note.Arrived ep ∷ l)) (append-nil ((noted w.gate ep f ++ []) ++ []) ∙ append-nil (noted w.gate ep f ++ []) ∙ append-nil (noted w.gate ep f) ∙ sym (map-map note.Answered (λ (p : Pending). p.submit.request.seqnum) (filter (λ p. is_by_answer (ends_by ep f.fillings p)) (w.gate.live ++ []))))
         ∙ ap (λ (l : List Submitted). w.submits ++ l) (none-named (told_by_fills ep f.fillings (w.gate.live ++ [])))
 
-    deeds : (Arrive ep ∷ map (λ (p : Pending). Answer p.submit.request.number) (filter (λ p. is_by_answer (ends_by ep f.fillings p)) (w.gate.live ++ [])) ++ []) ++ [] ≡ Arrive ep ∷ map Answer (told_by_fills ep f.fillings w.gate.live)
+    deeds : (Arrive ep ∷ map (λ (p : Pending). Answer p.submit.request.seqnum) (filter (λ p. is_by_answer (ends_by ep f.fillings p)) (w.gate.live ++ [])) ++ []) ++ [] ≡ Arrive ep ∷ map Answer (told_by_fills ep f.fillings w.gate.live)
     deeds =
         append-nil _ ∙ append-nil _
-        ∙ ap (λ (ps : List Pending). Arrive ep ∷ map (λ (p : Pending). Answer p.submit.request.number) (filter (λ p. is_by_answer (ends_by ep f.fillings p)) ps)) (append-nil w.gate.live)
-        ∙ ap (λ (l : List Deed). Arrive ep ∷ l) (sym (map-map Answer (λ (p : Pending). p.submit.request.number) (filter (λ p. is_by_answer (ends_by ep f.fillings p)) w.gate.live)))
+        ∙ ap (λ (ps : List Pending). Arrive ep ∷ map (λ (p : Pending). Answer p.submit.request.seqnum) (filter (λ p. is_by_answer (ends_by ep f.fillings p)) ps)) (append-nil w.gate.live)
+        ∙ ap (λ (l : List Deed). Arrive ep ∷ l) (sym (map-map Answer (λ (p : Pending). p.submit.request.seqnum) (filter (λ p. is_by_answer (ends_by ep f.fillings p)) w.gate.live)))
 
 abbrev debt_in : Submission → Debt
 debt_in s = record { id = s.id; load = load_of s }
@@ -161,7 +161,7 @@ debts-stay ep fs (p ∷ ps) = go (ends_by ep fs p) refl (goes_by_id p.submit.ver
       where
         stream : (s : Submission) → goes_by_id s.verdict ≡ true → (c : Bool) → waits_at ep s ≡ c → packets_end ep fs s ≡ Some end → ⊥
         stream s g true w z = waits-no-id s.verdict g (s.request.transfer.ep == ep) w
-        stream s g false w z = none (sym (ap (λ (x : Bool). cond x (option_map ByPackets (given_to fs s.request.number)) None) w) ∙ z)
+        stream s g false w z = none (sym (ap (λ (x : Bool). cond x (option_map ByPackets (given_to fs s.request.seqnum)) None) w) ∙ z)
           where
             none : None ≡ Some end → ⊥
             none y = cc

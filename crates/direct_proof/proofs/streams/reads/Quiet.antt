@@ -42,10 +42,10 @@ idle-made w = λ i. record {
   world = record w {
     gate = record w.gate { items = suc w.gate.items; live = lives i; abandoned = filter-all w.gate.abandoned i };
     to_host = (ap (λ (l : List (ℕ × RedirPacket)). w.to_host ++ ((l ++ []) ++ [])) (none-cancelled Idle stays-uncancelled w.gate.live) ∙ append-nil w.to_host) i;
-    submits = (ap (λ (ps : List Pending). w.submits ++ flat_map named ((((map (λ (p : Pending). note.Answered p.submit.request.number) ps ++ []) ++ []) ++ []))) (none-told Idle (λ s. refl) (w.gate.live ++ [])) ∙ append-nil w.submits) i;
+    submits = (ap (λ (ps : List Pending). w.submits ++ flat_map named ((((map (λ (p : Pending). note.Answered p.submit.request.seqnum) ps ++ []) ++ []) ++ []))) (none-told Idle (λ s. refl) (w.gate.live ++ [])) ∙ append-nil w.submits) i;
   };
   outs = ap (map Urb) (none-given Idle (λ s. refl) (w.gate.live ++ [])) i;
-  told = ap (λ (ps : List Pending). (map (λ (p : Pending). Answer p.submit.request.number) ps ++ []) ++ []) (none-told Idle (λ s. refl) (w.gate.live ++ [])) i;
+  told = ap (λ (ps : List Pending). (map (λ (p : Pending). Answer p.submit.request.seqnum) ps ++ []) ++ []) (none-told Idle (λ s. refl) (w.gate.live ++ [])) i;
 }
   where
     lives : live_after w.gate Idle ≡ w.gate.live
@@ -57,10 +57,10 @@ stated-made w id ep = λ i. record {
   world = record w {
     gate = record w.gate { items = suc w.gate.items; live = lives i; abandoned = filter-all w.gate.abandoned i; fence = lifted id w.gate.fence };
     to_host = (ap (λ (l : List (ℕ × RedirPacket)). w.to_host ++ ((l ++ []) ++ [])) (none-cancelled (StreamTold id ep Success) stays-uncancelled w.gate.live) ∙ append-nil w.to_host) i;
-    submits = (ap (λ (ps : List Pending). w.submits ++ flat_map named ((((map (λ (p : Pending). note.Answered p.submit.request.number) ps ++ []) ++ []) ++ []))) (none-told (StreamTold id ep Success) none (w.gate.live ++ [])) ∙ append-nil w.submits) i;
+    submits = (ap (λ (ps : List Pending). w.submits ++ flat_map named ((((map (λ (p : Pending). note.Answered p.submit.request.seqnum) ps ++ []) ++ []) ++ []))) (none-told (StreamTold id ep Success) none (w.gate.live ++ [])) ∙ append-nil w.submits) i;
   };
   outs = ap (map Urb) (none-given (StreamTold id ep Success) none (w.gate.live ++ [])) i;
-  told = ap (λ (ps : List Pending). (map (λ (p : Pending). Answer p.submit.request.number) ps ++ []) ++ []) (none-told (StreamTold id ep Success) none (w.gate.live ++ [])) i;
+  told = ap (λ (ps : List Pending). (map (λ (p : Pending). Answer p.submit.request.seqnum) ps ++ []) ++ []) (none-told (StreamTold id ep Success) none (w.gate.live ++ [])) i;
 }
   where
     none : (s : Submission) → ends (StreamTold id ep Success) s ≡ None

@@ -30,20 +30,20 @@ pub record IsGate (st : State) : Type 0 where
 pub id-free : (st : State) → IsGate st → holds (ids_of_streams st.stream_ids) (next_id st) ≡ false
 id-free st g = any-back (ids_of (submits st) ++ ids_of st.abandoned) (ids_of_streams st.stream_ids) (next_id st) (g.fresh.free.0)
 
-pub differ-more : (st : State) (r : Request) (row : EpRow) → Differ st.live → has_number st r.number ≡ false → Differ (with_waiter st r row)
-differ-more st r row d new n = go (r.number == n) refl
+pub differ-more : (st : State) (r : Request) (row : EpRow) → Differ st.live → has_number st r.seqnum ≡ false → Differ (with_waiter st r row)
+differ-more st r row d new n = go (r.seqnum == n) refl
   where
-    none : Each (λ (p : Pending). has_seqnum r.number p ≡ false) st.live
-    none = unmapped st.live (any-none (has_seq r.number) (submits st) new)
+    none : Each (λ (p : Pending). has_seqnum r.seqnum p ≡ false) st.live
+    none = unmapped st.live (any-none (has_seq r.seqnum) (submits st) new)
       where
-        unmapped : (ps : List Pending) → Each (λ (s : Submission). has_seq r.number s ≡ false) (map (λ (p : Pending). p.submit) ps) → Each (λ (p : Pending). has_seqnum r.number p ≡ false) ps
+        unmapped : (ps : List Pending) → Each (λ (s : Submission). has_seq r.seqnum s ≡ false) (map (λ (p : Pending). p.submit) ps) → Each (λ (p : Pending). has_seqnum r.seqnum p ≡ false) ps
         unmapped [] h = tt
         unmapped (p ∷ ps) h = (h.0, unmapped ps h.1)
 
-    go : (b : Bool) → (r.number == n) ≡ b → count (has_seqnum n) (with_waiter st r row) ≤ 1
-    go false e = let few = d n in let z : weight (r.number == n) ≡ weight false = ap weight e in omega (arith, few, z, count-append (has_seqnum n) st.live (fresh (waiter st r row) ∷ []))
+    go : (b : Bool) → (r.seqnum == n) ≡ b → count (has_seqnum n) (with_waiter st r row) ≤ 1
+    go false e = let few = d n in let z : weight (r.seqnum == n) ≡ weight false = ap weight e in omega (arith, few, z, count-append (has_seqnum n) st.live (fresh (waiter st r row) ∷ []))
     go true e =
-        let same : r.number ≡ n = grind (arith, e) in
-        let z : weight (r.number == n) ≡ weight true = ap weight e in
-        let c : count (has_seqnum n) st.live ≡ 0 = subst (λ (k : ℕ). count (has_seqnum k) st.live ≡ 0) same (count-zero (has_seqnum r.number) st.live none) in
+        let same : r.seqnum ≡ n = grind (arith, e) in
+        let z : weight (r.seqnum == n) ≡ weight true = ap weight e in
+        let c : count (has_seqnum n) st.live ≡ 0 = subst (λ (k : ℕ). count (has_seqnum k) st.live ≡ 0) same (count-zero (has_seqnum r.seqnum) st.live none) in
         omega (arith, c, z, count-append (has_seqnum n) st.live (fresh (waiter st r row) ∷ []))

@@ -101,7 +101,7 @@ waits-related {S = S} m w j r row rel imported there a = record {
   };
   answers = rel.answers;
   tagged = a.tagged;
-  ids = ids-named j.debts w.submits (j.held ++ j.coming) (runs_in j.back) r.number rel.real rel.ids;
+  ids = ids-named j.debts w.submits (j.held ++ j.coming) (runs_in j.back) r.seqnum rel.real rel.ids;
   real = rel.real;
   runs_at_in = rel.runs_at_in;
   before = λ h. absurd (both_ways w.host.guest.first (rel.meets.behind (rel.meets.no_session imported there)).2 h);

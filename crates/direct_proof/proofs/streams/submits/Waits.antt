@@ -91,11 +91,11 @@ waits_world w r row = record w {
     last = last_of w.gate.last (next_ids w.gate (length (starts (stream_at w.gate.streams r.transfer.ep) r.transfer.ep row)));
   };
   to_host = w.to_host ++ sent_for w.gate r row;
-  submits = w.submits ++ record { seqnum = r.number; id = 0 } ∷ [];
+  submits = w.submits ++ record { seqnum = r.seqnum; id = 0 } ∷ [];
 }
 
 abbrev noted : State → Request → EpRow → List Note
-noted st r row = map (λ (p : Pending). note.Answered p.submit.request.number) (filter (λ p. is_by_answer (ends_by r.transfer.ep (fill_for st r row).fillings p)) (with_waiter st r row))
+noted st r row = map (λ (p : Pending). note.Answered p.submit.request.seqnum) (filter (λ p. is_by_answer (ends_by r.transfer.ep (fill_for st r row).fillings p)) (with_waiter st r row))
 
 pub waits-made : {S : Type 0} (w : World S) (r : Request) (row : EpRow) →
     gate_made as_deeds w (mark_as w.gate (Waits (waiter w.gate r row) (fill_for w.gate r row)) None) ≡
@@ -117,16 +117,16 @@ waits-made {S = S} w r row = λ i. record {
     lives : live_after w.gate (Waits (waiter w.gate r row) (fill_for w.gate r row)) ≡ stay_by r.transfer.ep (fill_for w.gate r row).fillings (with_waiter w.gate r row)
     lives = asks-none (Waits (waiter w.gate r row) (fill_for w.gate r row)) (λ s. refl) (stay_by r.transfer.ep (fill_for w.gate r row).fillings (with_waiter w.gate r row))
 
-    names : w.submits ++ flat_map named (notes_of w.gate (mark_as w.gate (Waits (waiter w.gate r row) (fill_for w.gate r row)) None)) ≡ w.submits ++ record { seqnum = r.number; id = 0 } ∷ []
+    names : w.submits ++ flat_map named (notes_of w.gate (mark_as w.gate (Waits (waiter w.gate r row) (fill_for w.gate r row)) None)) ≡ w.submits ++ record { seqnum = r.seqnum; id = 0 } ∷ []
     names =
-        ap (λ (l : List Note). w.submits ++ flat_map named (note.Submitted r.number 0 ∷ l)) (append-nil ((noted w.gate r row ++ []) ++ []) ∙ append-nil (noted w.gate r row ++ []) ∙ append-nil (noted w.gate r row)
-        ∙ sym (map-map note.Answered (λ (p : Pending). p.submit.request.number) (filter (λ p. is_by_answer (ends_by r.transfer.ep (fill_for w.gate r row).fillings p)) (with_waiter w.gate r row))))
-        ∙ ap (λ (l : List Submitted). w.submits ++ record { seqnum = r.number; id = 0 } ∷ l) (none-named (told_by_fills r.transfer.ep (fill_for w.gate r row).fillings (with_waiter w.gate r row)))
+        ap (λ (l : List Note). w.submits ++ flat_map named (note.Submitted r.seqnum 0 ∷ l)) (append-nil ((noted w.gate r row ++ []) ++ []) ∙ append-nil (noted w.gate r row ++ []) ∙ append-nil (noted w.gate r row)
+        ∙ sym (map-map note.Answered (λ (p : Pending). p.submit.request.seqnum) (filter (λ p. is_by_answer (ends_by r.transfer.ep (fill_for w.gate r row).fillings p)) (with_waiter w.gate r row))))
+        ∙ ap (λ (l : List Submitted). w.submits ++ record { seqnum = r.seqnum; id = 0 } ∷ l) (none-named (told_by_fills r.transfer.ep (fill_for w.gate r row).fillings (with_waiter w.gate r row)))
 
-    deeds : (Submit r ∷ map (λ (p : Pending). Answer p.submit.request.number) (filter (λ p. is_by_answer (ends_by r.transfer.ep (fill_for w.gate r row).fillings p)) (with_waiter w.gate r row)) ++ []) ++ [] ≡
+    deeds : (Submit r ∷ map (λ (p : Pending). Answer p.submit.request.seqnum) (filter (λ p. is_by_answer (ends_by r.transfer.ep (fill_for w.gate r row).fillings p)) (with_waiter w.gate r row)) ++ []) ++ [] ≡
         Submit r ∷ map Answer (told_by_fills r.transfer.ep (fill_for w.gate r row).fillings (with_waiter w.gate r row))
     deeds = append-nil _ ∙ append-nil _
-        ∙ ap (λ (l : List Deed). Submit r ∷ l) (sym (map-map Answer (λ (p : Pending). p.submit.request.number) (filter (λ p. is_by_answer (ends_by r.transfer.ep (fill_for w.gate r row).fillings p)) (with_waiter w.gate r row))))
+        ∙ ap (λ (l : List Deed). Submit r ∷ l) (sym (map-map Answer (λ (p : Pending). p.submit.request.seqnum) (filter (λ p. is_by_answer (ends_by r.transfer.ep (fill_for w.gate r row).fillings p)) (with_waiter w.gate r row))))
 
 -- ---- and the device
 
@@ -135,7 +135,7 @@ waited d r row =
     let ups : List (Option Up) = raise (record { ep = r.transfer.ep; row = row; held = [] }) d.streams in
     record d { live = d.live ++ record { load = record { request = r; verdict = Stream row }; unlinker = None } ∷ []; streams = ups; way = way_by ups d.way }
 
-pub device-waits : {S : Type 0} (m : Meaning S) (d : Direct S) (r : Request) (row : EpRow) → made_of m d r ≡ Stream row → d.imported ≡ true → list_any (λ (l : Live). is_number r.number l.load) d.live ≡ false → Does m d (Submit r ∷ []) (waited d r row) []
+pub device-waits : {S : Type 0} (m : Meaning S) (d : Direct S) (r : Request) (row : EpRow) → made_of m d r ≡ Stream row → d.imported ≡ true → list_any (λ (l : Live). is_number r.seqnum l.load) d.live ≡ false → Does m d (Submit r ∷ []) (waited d r row) []
 device-waits {S = S} m d r row made imported new = record {
   same = ap (λ (v : Verdict). submitted d (record { request = r; verdict = v })) made
       ∙ (λ i. record (waited d r row) {

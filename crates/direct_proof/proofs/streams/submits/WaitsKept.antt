@@ -76,8 +76,8 @@ module _ {S : Type 0} (m : Meaning S) (w : World S) (j : Shared) (place : ℕ) (
   same-row : row_of w.gate.facts.table ep ≡ row_of (m.table w.host.gadget) ep
   same-row = ap (λ (t : EpTable). row_of t ep) (still.table ∙ still.session.table) ∙ row-told (m.table w.host.gadget) ep (in-place ep at)
 
-  new-live : list_any (λ (l : Live). is_number r.number l.load) d.live ≡ false
-  new-live = list_any-map (λ (l : Live). is_number r.number l.load) live_of w.gate.live ∙ sym (list_any-map (has_seq r.number) (λ (p : Pending). p.submit) w.gate.live) ∙ new
+  new-live : list_any (λ (l : Live). is_number r.seqnum l.load) d.live ≡ false
+  new-live = list_any-map (λ (l : Live). is_number r.seqnum l.load) live_of w.gate.live ∙ sym (list_any-map (has_seq r.seqnum) (λ (p : Pending). p.submit) w.gate.live) ∙ new
 
   wide : true ≡ wide_bulk w.gate.agreed
   wide = sym (ap wide_bulk (rel.meets.gate (rel.meets.behind (rel.meets.no_session imported facts.here)).0))

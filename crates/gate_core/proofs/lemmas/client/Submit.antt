@@ -72,7 +72,7 @@ module _ (st : State) (s : Submission) (placed : s.place ≡ st.items) (sound : 
       } →
       out_new.to_client ≡ out_old.to_client ++ flat_map client_spelling (map Urb (answers_at s None (at_once s.verdict))) →
       out_new.to_host ≡ out_old.to_host ++ flat_map (sent_packet_bytes old.caps) (zip (drawn_for st s.request s.verdict) (packets_of st.streams s.verdict s.request)) →
-      out_new.notes ≡ out_old.notes ++ note.Submitted s.request.number s.id ∷ [] →
+      out_new.notes ≡ out_old.notes ++ note.Submitted s.request.seqnum s.id ∷ [] →
       Does st (mark_as st (Opens s) None) old new out_old out_new
   does-open old new more out_old out_new h unlinked_fits dropped_fits kept by_answer by_client none_won is client host notes =
       let e = Opens s in
@@ -85,4 +85,4 @@ module _ (st : State) (s : Submission) (placed : s.place ≡ st.items) (sound : 
       (opening-dropped st s others own by_client)
       (client ∙ ap (λ (ps : List ClientPacket). out_old.to_client ++ flat_map client_spelling ps) (sym sent))
       (host ∙ (λ i. out_old.to_host ++ flat_map (sent_packet_bytes (h.caps i)) (sym (none-cancelled e stays-uncancelled st.live) i ++ zip (drawn_for st s.request s.verdict) (packets_of st.streams s.verdict s.request))))
-      (notes ∙ ap (λ (ns : List Note). out_old.notes ++ note.Submitted s.request.number s.id ∷ ns) (sym (opening-noted st s others own by_answer)))
+      (notes ∙ ap (λ (ns : List Note). out_old.notes ++ note.Submitted s.request.seqnum s.id ∷ ns) (sym (opening-noted st s others own by_answer)))

@@ -63,8 +63,8 @@ module _ (by target : ℕ) where
 
   taken-so : (p : Pending) → IsGoing p → EndsSo asks (is_taken_row target) back p
   taken-so p going =
-      ends-so asks (is_taken_row target) back p (is_waiting p.submit.verdict && (p.submit.request.number == target)) (ByUnlink by) refl
-      (ap (λ (b : Bool). b && (p.submit.request.number == target)) (stream-row p going)) refl refl refl
+      ends-so asks (is_taken_row target) back p (is_waiting p.submit.verdict && (p.submit.request.seqnum == target)) (ByUnlink by) refl
+      (ap (λ (b : Bool). b && (p.submit.request.seqnum == target)) (stream-row p going)) refl refl refl
 
   all-so : (st : State) → IsSound st → Each (EndsSo asks (is_taken_row target) back) st.live
   all-so st sound = Each-weaker IsGoing (EndsSo asks (is_taken_row target) back) taken-so st.live (all-going st sound)
@@ -74,23 +74,23 @@ module _ (by target : ℕ) where
 asked-rows : (by target : ℕ) (ps : List Pending) → map (asked_row target by) (map row ps) ≡ map row (map (ask (Unlinks by target)) ps)
 asked-rows by target [] = refl
 asked-rows by target (p ∷ ps) =
-    λ i. row_of p.submit (option_or p.unlinker (cond (by_id-row p.submit p.unlinker i && (p.submit.request.number == target)) (Some by) None)) ∷ asked-rows by target ps i
+    λ i. row_of p.submit (option_or p.unlinker (cond (by_id-row p.submit p.unlinker i && (p.submit.request.seqnum == target)) (Some by) None)) ∷ asked-rows by target ps i
 
 found-rows : (caps : Caps) (by target : ℕ) (ps : List Pending) → Each IsGoing ps → list_any (is_found_row caps target by) (map row ps) ≡ list_any (λ p. is_target target p || is_taken target p) ps
 found-rows caps by target [] h = refl
 found-rows caps by target (p ∷ ps) h =
-    λ i. ((by_id-row p.submit p.unlinker i && (p.submit.request.number == target) && is_none p.unlinker) || (stream-row p h.0 i && (p.submit.request.number == target))) || found-rows caps by target ps h.1 i
+    λ i. ((by_id-row p.submit p.unlinker i && (p.submit.request.seqnum == target) && is_none p.unlinker) || (stream-row p h.0 i && (p.submit.request.seqnum == target))) || found-rows caps by target ps h.1 i
 
 cancelled-rows : (caps : Caps) (by target : ℕ) (ps : List Pending) → flat_map (cancel_row caps target) (map row ps) ≡ flat_map (sent_packet_bytes caps) (map cancel (filter (cancels (Unlinks by target)) ps))
 cancelled-rows caps by target [] = refl
 cancelled-rows caps by target (p ∷ ps) =
-    (λ i. cond (wire-row p.submit.verdict p.submit.request.transfer.ep i && (by_id-row p.submit p.unlinker i && (p.submit.request.number == target) && is_none p.unlinker)) (sent_packet_bytes caps (p.submit.id, Plain plain.Cancel)) [] ++ cancelled-rows caps by target ps i)
+    (λ i. cond (wire-row p.submit.verdict p.submit.request.transfer.ep i && (by_id-row p.submit p.unlinker i && (p.submit.request.seqnum == target) && is_none p.unlinker)) (sent_packet_bytes caps (p.submit.id, Plain plain.Cancel)) [] ++ cancelled-rows caps by target ps i)
     ∙ elim (cancels (Unlinks by target) p) as (λ b. cond b (sent_packet_bytes caps (p.submit.id, Plain plain.Cancel)) [] ++ flat_map (sent_packet_bytes caps) (map cancel (filter (cancels (Unlinks by target)) ps))
     ≡ flat_map (sent_packet_bytes caps) (map cancel (cond b (p ∷ filter (cancels (Unlinks by target)) ps) (filter (cancels (Unlinks by target)) ps)))) [ true ↦ refl | false ↦ refl ]
 
 pub one-numbered : (t : Kept) (st : State) (target : ℕ) → Holds t st → IsSound st → length (filter (has_number target) t.lives.live) ≤ 1
 one-numbered t st target h sound =
-    let here : List Pending = filter (λ p. p.submit.request.number == target) st.live in
+    let here : List Pending = filter (λ p. p.submit.request.seqnum == target) st.live in
     let a : length (filter (has_number target) t.lives.live) ≡ length here =
     ap (λ (ls : List Live). length (filter (has_number target) ls)) h.live ∙ ap length (filter-map (has_number target) row st.live) ∙ length-map here row in
     let b : length (filter (is_number target) (submits st)) ≡ length here =

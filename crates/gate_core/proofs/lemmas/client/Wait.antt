@@ -95,10 +95,10 @@ module _ (st : State) (sound : IsSound st) (r : Request) (kept : EpRow) (packets
   fills : (t : Submission) → own_end e t ≡ packets_end r.transfer.ep (fillings kept.max_packet (waiters r.transfer.ep (present st e)) packets) t
   fills t = ap (λ (x : Fill). packets_end r.transfer.ep x.fillings t) filled
 
-  all : (rows : List Live) → rows ≡ map row st.live → list_any (has_number r.number) rows ≡ false → FillsAll kept.max_packet r.transfer.ep (present st e) packets
+  all : (rows : List Live) → rows ≡ map row st.live → list_any (has_number r.seqnum) rows ≡ false → FillsAll kept.max_packet r.transfer.ep (present st e) packets
   all rows is free =
       fills-all kept.max_packet r.transfer.ep (present st e) packets (Each-append IsGoing st.live (fresh s ∷ []) (all-going st sound) (refl, tt))
-      (differ-more st.live (fresh s) (all-differ st.live sound.numbers) (none-has r.number st.live (sym (ap (list_any (has_number r.number)) is) ∙ free)))
+      (differ-more st.live (fresh s) (all-differ st.live sound.numbers) (none-has r.seqnum st.live (sym (ap (list_any (has_number r.seqnum)) is) ∙ free)))
 
   rows-are : (rows : List Live) → rows ≡ map row st.live → rows ++ row (fresh s) ∷ [] ≡ map row (present st e)
   rows-are rows is = ap (λ (ls : List Live). ls ++ row (fresh s) ∷ []) is ∙ sym (map-append row st.live (fresh s ∷ []))
@@ -112,11 +112,11 @@ accepts-up st r told up at =
     ∙ ap (λ (o : Option Up). Waits (submission st r (Stream up.row) []) (fill up.row.max_packet (waiting st r.transfer.ep ++ r ∷ []) (held_of o))) at
 
 pub does-join : (st : State) (sound : IsSound st) (r : Request) (told : EpRow) (up up_new : Up) (old emptied mid new : Kept) (out out_new : Outputs) → Holds old st → IsKept old →
-    list_any (has_number r.number) old.lives.live ≡ false → stream_at old.streams r.transfer.ep ≡ Some up →
+    list_any (has_number r.seqnum) old.lives.live ≡ false → stream_at old.streams r.transfer.ep ≡ Some up →
     emptied ≡ record old { streams = slice_set old.streams (endpoint_index r.transfer.ep) None } →
     HasJoined up up_new r emptied mid →
     new ≡ record mid { streams = slice_set mid.streams (endpoint_index r.transfer.ep) (Some up_new) } →
-    out_new ≡ with_answers out (up_bytes r.transfer.ep up (emptied.lives.live ++ joining_row up r ∷ [])) (note.Submitted r.number 0 ∷ filled_notes (up_fill r.transfer.ep up (emptied.lives.live ++ joining_row up r ∷ []))) →
+    out_new ≡ with_answers out (up_bytes r.transfer.ep up (emptied.lives.live ++ joining_row up r ∷ [])) (note.Submitted r.seqnum 0 ∷ filled_notes (up_fill r.transfer.ep up (emptied.lives.live ++ joining_row up r ∷ []))) →
     Does st (mark_as st (accepts st r (Stream told)) None) old new out out_new
 does-join st sound r told up up_new old emptied mid new out out_new h k free at emptied-is joined is gives =
     let there : stream_at st.streams r.transfer.ep ≡ Some up = ap (λ (ups : List (Option Up)). stream_at ups r.transfer.ep) (sym h.streams) ∙ at in
@@ -159,10 +159,10 @@ raised-empty ups up none at =
 
 nothing : (max_packet : ℕ) (rs : List Request) → fill max_packet rs [] ≡ none_filled []
 nothing max_packet [] = refl
-nothing max_packet (r ∷ rs) = ap (λ cut. filled_by r.number [] cut (fill max_packet rs)) (nothing-cut max_packet r)
+nothing max_packet (r ∷ rs) = ap (λ cut. filled_by r.seqnum [] cut (fill max_packet rs)) (nothing-cut max_packet r)
 
 pub does-start : (st : State) (sound : IsSound st) (r : Request) (told : EpRow) (old new : Kept) (stream_ids_new : StreamIds) (last_new : ℕ) (out : Outputs) (host_new : List ℕ) (notes_new : List Note) → Holds old st → IsKept old →
-    list_any (has_number r.number) old.lives.live ≡ false → stream_at old.streams r.transfer.ep ≡ None →
+    list_any (has_number r.seqnum) old.lives.live ≡ false → stream_at old.streams r.transfer.ep ≡ None →
     new ≡ record old {
       lives = record { live = old.lives.live ++ row_for r (live_kind.Stream r.transfer.ep told.interface) 0 ∷ []; abandoned = old.lives.abandoned };
       streams = raise (record { ep = r.transfer.ep; row = told; held = [] }) old.streams;
@@ -172,7 +172,7 @@ pub does-start : (st : State) (sound : IsSound st) (r : Request) (told : EpRow) 
     stream_ids_new ≡ stream_ids_after (zip (next_ids st (length (starts (stream_at st.streams r.transfer.ep) r.transfer.ep told))) (starts (stream_at st.streams r.transfer.ep) r.transfer.ep told)) old.stream_ids →
     last_new ≡ last_of old.last (next_ids st (length (starts (stream_at st.streams r.transfer.ep) r.transfer.ep told))) →
     host_new ≡ out.to_host ++ flat_map (sent_packet_bytes st.agreed) (zip (next_ids st (length (starts (stream_at st.streams r.transfer.ep) r.transfer.ep told))) (starts (stream_at st.streams r.transfer.ep) r.transfer.ep told)) →
-    notes_new ≡ out.notes ++ note.Submitted r.number 0 ∷ [] →
+    notes_new ≡ out.notes ++ note.Submitted r.seqnum 0 ∷ [] →
     Does st (mark_as st (accepts st r (Stream told)) None) old new out (record out { to_host = host_new; notes = notes_new })
 does-start st sound r told old new stream_ids_new last_new out host_new notes_new h k free at is stream_ids-is last-is host notes =
     let there : stream_at st.streams r.transfer.ep ≡ None = ap (λ (ups : List (Option Up)). stream_at ups r.transfer.ep) (sym h.streams) ∙ at in
@@ -193,4 +193,4 @@ does-start st sound r told old new stream_ids_new last_new out host_new notes_ne
     }))
     (sym (append-nil out.to_client) ∙ ap (λ (bs : List ℕ). out.to_client ++ bs) (sym (nothing-sent told.max_packet (waiting_rows r.transfer.ep rows))))
     host
-    (notes ∙ ap (λ (x : Fill). out.notes ++ note.Submitted r.number 0 ∷ filled_notes x) (sym none)))
+    (notes ∙ ap (λ (x : Fill). out.notes ++ note.Submitted r.seqnum 0 ∷ filled_notes x) (sym none)))

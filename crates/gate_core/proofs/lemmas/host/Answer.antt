@@ -198,7 +198,7 @@ module _ (st : State) (id : ℕ) (o : Outcome) where
   sent ps = map Urb (flat_map (λ p. answers_by p.submit o p.unlinker) ps)
 
   abbrev pub told_of : List Pending → List Note
-  told_of ps = map (λ p. note.Answered p.submit.request.number) ps
+  told_of ps = map (λ p. note.Answered p.submit.request.seqnum) ps
 
   pub does-answer : (old new : Kept) (rows left : List Live) (found : List Pending) (out out_new : Outputs) → Holds old st → old.dropped ≤ 2 ^ 64 - 1 →
       filter (pending_has_id id) st.live ≡ found →

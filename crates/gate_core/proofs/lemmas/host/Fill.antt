@@ -50,7 +50,7 @@ kept-filled t n test lives answered k is fits =
 -- ---- of those that wait, whose numbers differ
 
 abbrev pub number : Pending → ℕ
-number p = p.submit.request.number
+number p = p.submit.request.seqnum
 
 -- no two have the same number
 abbrev pub Differ : List Pending → Type 0
@@ -77,19 +77,19 @@ none-sent : (ps : List Pending) → all-packets [] ps ≡ []
 none-sent ps = flat_map-none ps
 
 -- another's filling is no end of these
-others : (f : Filling) (fs : List Filling) (ps : List Pending) → Each (λ q. (f.number == number q) ≡ false) ps → Each (λ q. end-by (f ∷ fs) q ≡ end-by fs q) ps
+others : (f : Filling) (fs : List Filling) (ps : List Pending) → Each (λ q. (f.seqnum == number q) ≡ false) ps → Each (λ q. end-by (f ∷ fs) q ≡ end-by fs q) ps
 others f fs ps h =
-    Each-weaker (λ q. (f.number == number q) ≡ false) (λ q. end-by (f ∷ fs) q ≡ end-by fs q)
+    Each-weaker (λ q. (f.seqnum == number q) ≡ false) (λ q. end-by (f ∷ fs) q ≡ end-by fs q)
     (λ q e. ap (λ (b : Bool). option_map ByPackets (cond b (Some f.given) (given_to fs (number q)))) e) ps h
 
-own-end : (p : Pending) (g : Given) (fs : List Filling) → end-by (record { number = number p; given = g } ∷ fs) p ≡ Some (ByPackets g)
+own-end : (p : Pending) (g : Given) (fs : List Filling) → end-by (record { seqnum = number p; given = g } ∷ fs) p ≡ Some (ByPackets g)
 own-end p g fs = ap (λ (b : Bool). option_map ByPackets (cond b (Some g) (given_to fs (number p)))) (own (number p))
 
 -- the packets that answer the first, and then the others
 sent-next : (p : Pending) (ps : List Pending) (g : Given) (fs : List Filling) → Each (λ q. (number p == number q) ≡ false) ps
-    → all-packets (record { number = number p; given = g } ∷ fs) (p ∷ ps) ≡ with_given p.submit.request g ∷ all-packets fs ps
+    → all-packets (record { seqnum = number p; given = g } ∷ fs) (p ∷ ps) ≡ with_given p.submit.request g ∷ all-packets fs ps
 sent-next p ps g fs h =
-    let f : Filling = record { number = number p; given = g } in
+    let f : Filling = record { seqnum = number p; given = g } in
     (λ i. answers_at p.submit p.unlinker (own-end p g fs i) ++ flat_map-same (packets-by (f ∷ fs)) (packets-by fs) ps
     (Each-weaker (λ q. end-by (f ∷ fs) q ≡ end-by fs q) (λ q. packets-by (f ∷ fs) q ≡ packets-by fs q) (λ q e. ap (answers_at q.submit q.unlinker) e) ps (others f fs ps h)) i)
 
@@ -142,16 +142,16 @@ rows-requests max_packet (p ∷ ps) packets = by (cut_of max_packet p.submit.req
 -- ---- what is told and counted
 
 first-told : (p : Pending) (ps : List Pending) (g : Given) (fs : List Filling) → Each (λ q. (number p == number q) ≡ false) ps
-    → filter (λ q. is_by_answer (end-by (record { number = number p; given = g } ∷ fs) q)) (p ∷ ps) ≡ p ∷ filter (λ q. is_by_answer (end-by fs q)) ps
+    → filter (λ q. is_by_answer (end-by (record { seqnum = number p; given = g } ∷ fs) q)) (p ∷ ps) ≡ p ∷ filter (λ q. is_by_answer (end-by fs q)) ps
 first-told p ps g fs h =
-    let f : Filling = record { number = number p; given = g } in
+    let f : Filling = record { seqnum = number p; given = g } in
     λ i. cond (is_by_answer (own-end p g fs i)) (p ∷ tail f i) (tail f i)
   where
-    tail : (f : Filling) → filter (λ q. is_by_answer (end-by (record { number = number p; given = g } ∷ fs) q)) ps ≡ filter (λ q. is_by_answer (end-by fs q)) ps
+    tail : (f : Filling) → filter (λ q. is_by_answer (end-by (record { seqnum = number p; given = g } ∷ fs) q)) ps ≡ filter (λ q. is_by_answer (end-by fs q)) ps
     tail f =
-        filter-same (λ q. is_by_answer (end-by (record { number = number p; given = g } ∷ fs) q)) (λ q. is_by_answer (end-by fs q)) ps
-        (Each-weaker (λ q. end-by (record { number = number p; given = g } ∷ fs) q ≡ end-by fs q) (λ q. is_by_answer (end-by (record { number = number p; given = g } ∷ fs) q) ≡ is_by_answer (end-by fs q)) (λ q e. ap is_by_answer e) ps
-        (others (record { number = number p; given = g }) fs ps h))
+        filter-same (λ q. is_by_answer (end-by (record { seqnum = number p; given = g } ∷ fs) q)) (λ q. is_by_answer (end-by fs q)) ps
+        (Each-weaker (λ q. end-by (record { seqnum = number p; given = g } ∷ fs) q ≡ end-by fs q) (λ q. is_by_answer (end-by (record { seqnum = number p; given = g } ∷ fs) q) ≡ is_by_answer (end-by fs q)) (λ q e. ap is_by_answer e) ps
+        (others (record { seqnum = number p; given = g }) fs ps h))
 
 abbrev notes-of : List Pending → List Note
 notes-of ps = map (λ (p : Pending). note.Answered (number p)) ps
@@ -245,7 +245,7 @@ all-go max_packet (p ∷ ps) packets d = by (cut_of max_packet p.submit.request 
         FirstsGo (λ q. is_none (end-by (filled_by (number p) packets cut (fill max_packet (requests ps))).fillings q)) (length (filled_by (number p) packets cut (fill max_packet (requests ps))).fillings) (p ∷ ps)
     by None rest = every (λ q. is_none (end-by [] q) ≡ true) (λ q. refl) (p ∷ ps)
     by (Some cut) rest =
-        let f : Filling = record { number = number p; given = cut.gives } in
+        let f : Filling = record { seqnum = number p; given = cut.gives } in
         let fs = fillings max_packet ps cut.leaves in (
           ap is_none (own-end p cut.gives fs),
           same (λ q. is_none (end-by fs q)) (λ q. is_none (end-by (f ∷ fs) q)) (length fs) ps

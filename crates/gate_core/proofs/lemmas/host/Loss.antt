@@ -99,7 +99,7 @@ module _ (st : State) (e : Effect) (told : Option Fact) (over : is_quiet e ≡ f
   lost-dropped = ap (map (λ (p : Pending). p.submit)) (none-pass (λ p. is_by_client (ends e p.submit)) (λ p. ap is_by_client (ended p)) (present st e))
 
   pub lost-notes : answer_notes st e ≡ []
-  lost-notes = ap (map (λ (p : Pending). note.Answered p.submit.request.number)) (none-pass (λ p. is_by_answer (ends e p.submit)) (λ p. ap is_by_answer (ended p)) (present st e))
+  lost-notes = ap (map (λ (p : Pending). note.Answered p.submit.request.seqnum)) (none-pass (λ p. is_by_answer (ends e p.submit)) (λ p. ap is_by_answer (ended p)) (present st e))
 
   pub lost-cancels : map cancel (filter (cancels e) st.live) ≡ []
   lost-cancels = ap (map cancel) (none-pass (cancels e) no-cancel st.live)

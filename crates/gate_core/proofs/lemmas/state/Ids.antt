@@ -132,4 +132,4 @@ change-rows (p ∷ ps) = λ i. change-row p.submit.verdict p.submit.request.tran
 
 pub number-rows : (n : ℕ) (ps : List Pending) → list_any (has_number_row n) (map row ps) ≡ list_any (is_number n) (map (λ (p : Pending). p.submit) ps)
 number-rows n [] = refl
-number-rows n (p ∷ ps) = ap (λ (b : Bool). (p.submit.request.number == n) || b) (number-rows n ps)
+number-rows n (p ∷ ps) = ap (λ (b : Bool). (p.submit.request.seqnum == n) || b) (number-rows n ps)

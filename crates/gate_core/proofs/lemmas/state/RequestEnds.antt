@@ -122,7 +122,7 @@ module _ (st : State) (e : Effect) (test : Live → Bool) (packet : Live → Urb
       does-silent st e quiet s old new rows done won out_old out_new h dropped_fits is
       (rows-are ∙ ap (λ (ps : List Pending). map row (map (ask e) (filter (λ p. is_none (ends e p.submit)) ps))) (sym here))
       (sym done-is ∙ ap (λ (ps : List ClientPacket). length (filter is_ret_submit ps)) (sym ending-sent)) (sym won-is ∙ ap (λ (ps : List ClientPacket). length (filter is_won_unlink ps)) (sym ending-sent))
-      (ap (map (λ (p : Pending). note.Answered p.submit.request.number)) (ap (filter (λ p. is_by_answer (ends e p.submit))) here ∙ none-told e test packet st.live so))
+      (ap (map (λ (p : Pending). note.Answered p.submit.request.seqnum)) (ap (filter (λ p. is_by_answer (ends e p.submit))) here ∙ none-told e test packet st.live so))
       (ap (map (λ (p : Pending). p.submit)) (ap (filter (λ p. is_by_client (ends e p.submit))) here ∙ none-dropped e test packet st.live so))
       (client ∙ ap (λ (bs : List ℕ). out_old.to_client ++ bs)
       ((λ i. flat_map client_spelling (replies st e) ++ flat_map (λ l. cond (test l) (spelling (packet l)) []) (h.live i))

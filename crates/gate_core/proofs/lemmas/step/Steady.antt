@@ -54,7 +54,7 @@ module _ (st : State) (e : Effect) (quiet : is_quiet e ≡ true) (s : IsSilent s
       (is ∙ (λ i. record (moved_alone e lives 0 0 old) { answered = capped-same old.answered answered_fits i; unlinked = capped-same old.unlinked unlinked_fits i }))
       (asked ∙ ap (λ (ps : List Pending). map row (map (ask e) ps)) (sym (by_test is_none true refl ∙ filter-all st.live)))
       (ap (λ (ps : List ClientPacket). length (filter is_ret_submit ps)) (sym unanswered)) (ap (λ (ps : List ClientPacket). length (filter is_won_unlink ps)) (sym unanswered))
-      (ap (map (λ (p : Pending). note.Answered p.submit.request.number)) (by_test is_by_answer false refl ∙ filter-none st.live))
+      (ap (map (λ (p : Pending). note.Answered p.submit.request.seqnum)) (by_test is_by_answer false refl ∙ filter-none st.live))
       (ap (map (λ (p : Pending). p.submit)) (by_test is_by_client false refl ∙ filter-none st.live))
       (client ∙ ap (λ (ps : List ClientPacket). out_old.to_client ++ flat_map client_spelling ps) (sym (append-nil (replies st e)) ∙ (λ i. replies st e ++ sym unanswered i)))
       host notes

@@ -35,7 +35,7 @@ use Rattle.gate_history.proofs.lemmas.client.Ends.{end-at, ended-is}
 -- ---- a number that is accepted isn't live
 
 abbrev IsNew : List Mark → Effect → Type 0
-IsNew ms e = Each (λ s. list_any (is_number s.request.number) (live ms) ≡ false) (opened e)
+IsNew ms e = Each (λ s. list_any (is_number s.request.seqnum) (live ms) ≡ false) (opened e)
 
 abbrev AreNew : List Mark → Type 0
 AreNew [] = Unit {0}
@@ -43,8 +43,8 @@ AreNew (m ∷ ms) = IsNew ms m.what × AreNew ms
 
 new-meaning : (first : ℕ) (ms : List Mark) (x : Item) → IsNew ms (meaning (state_of first ms) x)
 new-meaning first ms x =
-    Each-weaker (λ s. has_number (state_of first ms) s.request.number ≡ false) (λ s. list_any (is_number s.request.number) (live ms) ≡ false)
-    (λ s h. ap (list_any (is_number s.request.number)) (sym (submits-is ms (live ms))) ∙ h)
+    Each-weaker (λ s. has_number (state_of first ms) s.request.seqnum ≡ false) (λ s. list_any (is_number s.request.seqnum) (live ms) ≡ false)
+    (λ s h. ap (list_any (is_number s.request.seqnum)) (sym (submits-is ms (live ms))) ∙ h)
     (opened (meaning (state_of first ms) x)) (opening-meaning (state_of first ms) x).new
 
 new-past : (first : ℕ) (xs : List Item) → AreNew (past first xs)
@@ -108,12 +108,12 @@ begun-one n l ts s true e free g =
     subst (λ (k : List Submission). Goes (k ++ s ∷ []) (Begin ∷ ts)) (sym empty) (record { one = tt; turns = subst (λ (k : List Submission). Alternate (some_in k) ts) empty g.turns })
 begun-one n l ts s false e free g = subst (λ (k : List Submission). Goes k ts) (sym (append-nil l)) g
 
-begun : (ms : List Mark) (n : ℕ) (ts : List Turn) (os : List Submission) → AtMostOne os → Each (λ s. list_any (is_number s.request.number) (live ms) ≡ false) os → Goes (of ms n) ts →
+begun : (ms : List Mark) (n : ℕ) (ts : List Turn) (os : List Submission) → AtMostOne os → Each (λ s. list_any (is_number s.request.seqnum) (live ms) ≡ false) os → Goes (of ms n) ts →
     Goes (of ms n ++ filter (is_number n) os) (map (λ s. Begin) (filter (is_number n) os) ++ ts)
 begun ms n ts [] one new g = subst (λ (k : List Submission). Goes k ts) (sym (append-nil (of ms n))) g
 begun ms n ts (s ∷ []) one new g =
     begun-one n (of ms n) ts s (is_number n s) refl
-    (λ e. none_of (of ms n) (subst (λ (k : ℕ). some_in (of ms k) ≡ false) (eqb-true s.request.number n e) (sym (any-some_in (is_number s.request.number) (live ms)) ∙ new.0))) g
+    (λ e. none_of (of ms n) (subst (λ (k : ℕ). some_in (of ms k) ≡ false) (eqb-true s.request.seqnum n e) (sym (any-some_in (is_number s.request.seqnum) (live ms)) ∙ new.0))) g
 begun ms n ts (s ∷ t ∷ ss) one new g = absurd one
 
 -- and the one that there is may end
@@ -185,7 +185,7 @@ one-answer s None (Some ByLoss) = refl
 one-answer s (Some by) (Some ByLoss) = refl
 one-answer s None (Some (ByAnswer o)) = refl
 one-answer s (Some by) (Some (ByAnswer o)) =
-    elim (is_wire s.verdict && is_cancelled o.status) as (λ b. said (map Urb (cond b (ret_unlink by ECONNRESET ∷ []) (with_outcome s.request o ∷ ret_unlink by (pos 0) ∷ []))) ≡ cond b (Unlinked by) (Completed s.request.number) ∷ [])
+    elim (is_wire s.verdict && is_cancelled o.status) as (λ b. said (map Urb (cond b (ret_unlink by ECONNRESET ∷ []) (with_outcome s.request o ∷ ret_unlink by (pos 0) ∷ []))) ≡ cond b (Unlinked by) (Completed s.request.seqnum) ∷ [])
     [ true ↦ refl | false ↦ refl ]
 one-answer s by (Some (ByUnlink other)) = refl
 one-answer s None (Some (ByPackets (Transferred o))) = refl
@@ -261,7 +261,7 @@ have-ended (m ∷ ms) =
 
 -- what asks a submit back doesn't end it, and what takes it back doesn't ask for it
 unasked : (e : Effect) (s : Submission) → is_counted (ends e s) ≡ true → asks e s ≡ None
-unasked (Unlinks by target) s h = of s.verdict (s.request.number == target) h
+unasked (Unlinks by target) s h = of s.verdict (s.request.seqnum == target) h
   where
     of : (v : Verdict) (b : Bool) → is_counted (cond (is_waiting v && b) (Some (ByUnlink by)) None) ≡ true → cond (goes_by_id v && b) (Some by) None ≡ None
     of (Wire pipe) b h = absurd (false≢true h)

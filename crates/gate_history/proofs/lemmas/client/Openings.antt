@@ -130,7 +130,7 @@ WaitsWell _ = Unit {0}
 pub record IsOpening (st : State) (e : Effect) : Type 0 where
   -- a client that has imported accepts, a number that isn't live is accepted, and an import finds nothing abandoned
   pub imported : Each (λ s. st.imported ≡ true) (opened e)
-  pub new : Each (λ s. has_number st s.request.number ≡ false) (opened e)
+  pub new : Each (λ s. has_number st s.request.seqnum ≡ false) (opened e)
   pub alone : imports e ≡ true → st.abandoned ≡ []
   -- one that lives on finds room, and its id was drawn
   pub room : Each (λ s. is_none (ends e s) ≡ true → length st.live < MAX_LIVE) (opened e)
@@ -143,7 +143,7 @@ pub record IsOpening (st : State) (e : Effect) : Type 0 where
 none : (st : State) (e : Effect) → opened e ≡ [] → imports e ≡ false → WaitsWell e → IsOpening st e
 none st e nil k well = record {
   imported = subst (Each (λ s. st.imported ≡ true)) (sym nil) tt;
-  new = subst (Each (λ s. has_number st s.request.number ≡ false)) (sym nil) tt;
+  new = subst (Each (λ s. has_number st s.request.seqnum ≡ false)) (sym nil) tt;
   alone = λ h. absurd (false≢true (sym k ∙ h));
   room = subst (Each (λ s. is_none (ends e s) ≡ true → length st.live < MAX_LIVE)) (sym nil) tt;
   drawn = subst (Each (λ s. is_none (ends e s) ≡ true → goes_by_id s.verdict ≡ true → s.id ≡ last_of 0 (drawn_for st s.request s.verdict))) (sym nil) tt;
@@ -187,12 +187,12 @@ own n = grind arith
 lives-on : (s : Submission) → is_none (ends (Opens s) s) ≡ true → is_none (at_once s.verdict) ≡ true
 lives-on s h = sym (ap (λ (b : Bool). is_none (cond b (at_once s.verdict) (cond (is_touched s.verdict s.verdict) (Some (ByStatus ESHUTDOWN)) None))) (own s.place)) ∙ h
 
-module _ (st : State) (r : Request) (in_session : st.imported ≡ true) (new : has_number st r.number ≡ false) where
+module _ (st : State) (r : Request) (in_session : st.imported ≡ true) (new : has_number st r.seqnum ≡ false) where
   opening-now : (s : Submission) → s.request ≡ r → (is_none (at_once s.verdict) ≡ true → length st.live < MAX_LIVE) → HasRoute s.verdict →
       (goes_by_id s.verdict ≡ true → s.id ≡ last_of 0 (drawn_for st s.request s.verdict)) → IsOpening st (Opens s)
   opening-now s is room sends drawn = record {
     imported = (in_session, tt);
-    new = (ap (λ (q : Request). has_number st q.number) is ∙ new, tt);
+    new = (ap (λ (q : Request). has_number st q.seqnum) is ∙ new, tt);
     alone = λ k. absurd (false≢true k);
     room = (λ k. room (lives-on s k), tt);
     drawn = (λ k by. drawn by, tt);

@@ -81,7 +81,7 @@ fill-few max_packet [] packets = omega arith
 fill-few max_packet (r ∷ rs) packets = by (λ ps. fill-few max_packet rs ps) (cut_of max_packet r packets) (cut-few max_packet r packets)
   where
     by : ((ps : List StreamPacket) → length (fill max_packet rs ps).left ≤ length ps) → (o : Option (Cut Given)) → CutFew packets o →
-        length (filled_by r.number packets o (fill max_packet rs)).left ≤ length packets
+        length (filled_by r.seqnum packets o (fill max_packet rs)).left ≤ length packets
     by rest None h = omega arith
     by rest (Some cut) h = omega (arith, rest cut.leaves, h)
 

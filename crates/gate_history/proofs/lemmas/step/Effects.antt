@@ -52,10 +52,10 @@ module _ (st : State) (e : Effect) (opens : opened e ≡ []) where
       ∙ sym (flat_map-filter says gone st.live))
 
   -- and noted
-  pub noted-for : (gone : Pending → Bool) → ((p : Pending) → is_by_answer (ends e p.submit) ≡ gone p) → answer_notes st e ≡ map (λ p. note.Answered p.submit.request.number) (filter gone st.live)
+  pub noted-for : (gone : Pending → Bool) → ((p : Pending) → is_by_answer (ends e p.submit) ≡ gone p) → answer_notes st e ≡ map (λ p. note.Answered p.submit.request.seqnum) (filter gone st.live)
   noted-for gone one =
-      ap (λ (ps : List Pending). map (λ (p : Pending). note.Answered p.submit.request.number) (filter (λ p. is_by_answer (ends e p.submit)) ps)) here
-      ∙ ap (map (λ (p : Pending). note.Answered p.submit.request.number)) (filter-same (λ p. is_by_answer (ends e p.submit)) gone st.live (every (λ p. is_by_answer (ends e p.submit) ≡ gone p) one st.live))
+      ap (λ (ps : List Pending). map (λ (p : Pending). note.Answered p.submit.request.seqnum) (filter (λ p. is_by_answer (ends e p.submit)) ps)) here
+      ∙ ap (map (λ (p : Pending). note.Answered p.submit.request.seqnum)) (filter-same (λ p. is_by_answer (ends e p.submit)) gone st.live (every (λ p. is_by_answer (ends e p.submit) ≡ gone p) one st.live))
 
 -- it drops none where it ends none by its client
 pub none-dropped : (st : State) (e : Effect) → ((p : Pending) → is_by_client (ends e p.submit) ≡ false) → dropped st (mark_as st e None) ≡ []
@@ -78,7 +78,7 @@ module _ (st : State) (id : ℕ) (o : Outcome) where
       answered-for st (Answers id o) refl has (λ p. answers_by p.submit o p.unlinker)
       (λ p. elim (has p) as (λ b. answers_at p.submit p.unlinker (cond b (Some (ByAnswer o)) None) ≡ cond b (answers_by p.submit o p.unlinker) []) [ true ↦ refl | false ↦ refl ])
 
-  pub answer-noted : answer_notes st (Answers id o) ≡ map (λ p. note.Answered p.submit.request.number) (filter (λ p. has_id id p.submit) st.live)
+  pub answer-noted : answer_notes st (Answers id o) ≡ map (λ p. note.Answered p.submit.request.seqnum) (filter (λ p. has_id id p.submit) st.live)
   answer-noted = noted-for st (Answers id o) refl has (λ p. elim (has p) as (λ b. is_by_answer (cond b (Some (ByAnswer o)) None) ≡ b) [ true ↦ refl | false ↦ refl ])
 
   pub answer-dropped : dropped st (mark_as st (Answers id o) None) ≡ []
@@ -104,8 +104,8 @@ module _ (st : State) (e : Effect) (ep : ℕ) (fs : List Filling) (fills : (s : 
       filter-same (λ p. test (ends e p.submit)) (λ p. test (packets_end ep fs p.submit)) (present st e)
       (every (λ p. test (ends e p.submit) ≡ test (packets_end ep fs p.submit)) (λ p. ap test (fills p.submit)) (present st e))
 
-  pub filled-noted : answer_notes st e ≡ map (λ p. note.Answered p.submit.request.number) (filter (λ p. is_by_answer (packets_end ep fs p.submit)) (present st e))
-  filled-noted = ap (map (λ (p : Pending). note.Answered p.submit.request.number)) (by-packets is_by_answer)
+  pub filled-noted : answer_notes st e ≡ map (λ p. note.Answered p.submit.request.seqnum) (filter (λ p. is_by_answer (packets_end ep fs p.submit)) (present st e))
+  filled-noted = ap (map (λ (p : Pending). note.Answered p.submit.request.seqnum)) (by-packets is_by_answer)
 
   pub filled-dropped : dropped st (mark_as st e None) ≡ map (λ p. p.submit) (filter (λ p. is_by_client (packets_end ep fs p.submit)) (present st e))
   filled-dropped = ap (map (λ (p : Pending). p.submit)) (by-packets is_by_client)
@@ -140,7 +140,7 @@ module _ (st : State) (s : Submission) (others : Each (λ p. ends (Opens s) p.su
       ∙ append-nil (answers_at s None (at_once s.verdict)))
 
   pub opening-noted : is_by_answer (at_once s.verdict) ≡ false → answer_notes st (Opens s) ≡ []
-  opening-noted by_answer = ap (map (λ (p : Pending). note.Answered p.submit.request.number)) (none-so is_by_answer refl by_answer)
+  opening-noted by_answer = ap (map (λ (p : Pending). note.Answered p.submit.request.seqnum)) (none-so is_by_answer refl by_answer)
 
   pub opening-dropped : is_by_client (at_once s.verdict) ≡ false → dropped st (mark_as st (Opens s) None) ≡ []
   opening-dropped by_client = ap (map (λ (p : Pending). p.submit)) (none-so is_by_client refl by_client)
@@ -166,7 +166,7 @@ module _ (st : State) (s : Submission) (gone : Pending → Bool) (x : End) (othe
       ∙ (λ i. ended-by is_none not refl refl i ++ cond (is_none (own i)) (fresh s ∷ []) [])
 
   pub change-noted : is_by_answer (Some x) ≡ false → answer_notes st (Opens s) ≡ []
-  change-noted by_answer = ap (map (λ (p : Pending). note.Answered p.submit.request.number)) (none-ended is_by_answer by_answer refl)
+  change-noted by_answer = ap (map (λ (p : Pending). note.Answered p.submit.request.seqnum)) (none-ended is_by_answer by_answer refl)
 
   pub change-dropped : is_by_client (Some x) ≡ false → dropped st (mark_as st (Opens s) None) ≡ []
   change-dropped by_client = ap (map (λ (p : Pending). p.submit)) (none-ended is_by_client by_client refl)
@@ -191,7 +191,7 @@ module _ (st : State) (e : Effect) (gone : leaves e ≡ true) where
       ∙ flat_map-none (present st e))
 
   pub leaving-noted : answer_notes st e ≡ []
-  leaving-noted = ap (map (λ (p : Pending). note.Answered p.submit.request.number)) (no-pass (λ p. is_by_answer (ends e p.submit)) (λ p. ap is_by_answer (by-client p)) (present st e))
+  leaving-noted = ap (map (λ (p : Pending). note.Answered p.submit.request.seqnum)) (no-pass (λ p. is_by_answer (ends e p.submit)) (λ p. ap is_by_answer (by-client p)) (present st e))
 
   pub leaving-dropped : dropped st (mark_as st e None) ≡ map (λ p. p.submit) (present st e)
   leaving-dropped =

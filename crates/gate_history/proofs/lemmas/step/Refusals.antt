@@ -143,7 +143,7 @@ refusals-of st m =
     let left = when (leaves m.what && not st.client_over) note.ClientGone in
     let none = both (first ++ answers ++ gone) left
     (both (first ++ answers) gone (both first answers (told-first m.what)
-    (none-mapped (λ (p : Pending). note.Answered p.submit.request.number) (λ p. refl) (filter (λ p. is_by_answer (ends m.what p.submit)) (present st m.what))))
+    (none-mapped (λ (p : Pending). note.Answered p.submit.request.seqnum) (λ p. refl) (filter (λ p. is_by_answer (ends m.what p.submit)) (present st m.what))))
     (none-when (is_loss m.what && st.imported && not st.lost) note.DeviceGone refl))
     (none-when (leaves m.what && not st.client_over) note.ClientGone refl) in
     joined (first ++ answers ++ gone ++ left) (refusal_notes (refused_at m.what)) none ∙ own-refusal (refused_at m.what)

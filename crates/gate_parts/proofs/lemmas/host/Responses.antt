@@ -44,7 +44,7 @@ use Rattle.gate_parts.proofs.lemmas.state.Rows.{by-verdict, wire-row}
 
 pub row-is : (s : Submission) (by : Option ℕ) (l : Live) → row_of s by ≡ l → IsRowOf s l
 row-is s by l e =
-    subst (IsRowOf s) e (record { number = refl; is_in = refl; flags = refl; packets = refl; descs = refl; wanted = refl; wire = wire-row s.verdict s.request.transfer.ep })
+    subst (IsRowOf s) e (record { seqnum = refl; is_in = refl; flags = refl; packets = refl; descs = refl; wanted = refl; wire = wire-row s.verdict s.request.transfer.ep })
 
 row-answer : (v : Verdict) (ep : ℕ) → row_answer (kind_of v ep) ≡ answer_kind v
 row-answer (Now status) ep = refl

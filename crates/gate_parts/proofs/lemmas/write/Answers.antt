@@ -28,7 +28,7 @@ answered-of r = record r { transfer = record { ep = 0; setup = None; wanted = r.
 
 row-answered : (s : Submission) (l : Live) → IsRowOf s l → row_request l ≡ answered-of s.request
 row-answered s l row = λ i. record {
-  number = row.number i;
+  seqnum = row.seqnum i;
   is_in = row.is_in i;
   flags = row.flags i;
   packets = row.packets i;

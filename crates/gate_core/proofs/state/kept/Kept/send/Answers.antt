@@ -39,4 +39,4 @@ returns-clause-ok c st h sound =
     (sym (append-nil c.args.out.now.to_client))
     (c.in_ok-move_data.ensures.ok ∙ (λ i. c.args.out.now.to_host ++ sent_packet_bytes old.caps (id i, c.wire_packet-packet.ensures i))
     ∙ ap (λ (bs : List ℕ). c.args.out.now.to_host ++ bs) (sym (append-nil (sent_packet_bytes old.caps (draw (greatest (wide_ids st.agreed)) (flying st) st.last, wire_packet c.args.pipe r.transfer)))))
-    (c.in_ok-push.ensures.ok ∙ ap (λ (n : ℕ). c.args.out.now.notes ++ note.Submitted r.number n ∷ []) id)
+    (c.in_ok-push.ensures.ok ∙ ap (λ (n : ℕ). c.args.out.now.notes ++ note.Submitted r.seqnum n ∷ []) id)

@@ -58,7 +58,7 @@ returns-in_err-last-clause-err c = on-err c.from_residual-in_err-last.result _ (
   same = refl;
   client = record { more = []; is = sym (append-nil c.args.out.now.to_client) };
   host = begins-after c.args.out.now.to_host c.write_start.new.to_host c.write_packets.new.to_host _ c.in_ok-started.ensures.sent c.in_err-last.ensures.err;
-  notes = record { more = note.Submitted c.args.request.now.number 0 ∷ []; is = c.in_ok-push.ensures.ok };
+  notes = record { more = note.Submitted c.args.request.now.seqnum 0 ∷ []; is = c.in_ok-push.ensures.ok };
 })
 
 pub returns-in_err-write_all_sent-clause-err : goal.returns-in_err-write_all_sent-clause-err
@@ -66,5 +66,5 @@ returns-in_err-write_all_sent-clause-err c = on-err c.from_residual-in_err-write
   same = refl;
   client = record { more = []; is = c.in_err-write_all_sent.ensures.err ∙ sym (append-nil c.args.out.now.to_client) };
   host = begins-after c.args.out.now.to_host c.write_start.new.to_host c.write_packets.new.to_host _ c.in_ok-started.ensures.sent (record { more = bytes_of c.args.self.now c.unwrap_or-before.result (iso_packets c.args.request.now); is = c.in_ok-last.ensures.sent });
-  notes = record { more = note.Submitted c.args.request.now.number 0 ∷ []; is = c.in_ok-push.ensures.ok };
+  notes = record { more = note.Submitted c.args.request.now.seqnum 0 ∷ []; is = c.in_ok-push.ensures.ok };
 })

@@ -86,7 +86,7 @@ returns-clause-ok c st h sound =
     (c.in_ok-id.ensures.sent ∙ (λ i. c.in_ok-sent_ids.ensures.sent i ++ bytes_of old (stopped i).last asks)
     ∙ append_assoc c.args.out.now.to_host (bytes_of old old.last before) (bytes_of old (after_stops old (sent_ids_of old) before).last asks)
     ∙ ap (λ (bs : List ℕ). c.args.out.now.to_host ++ bs) (sym (bytes-more old old.last before asks) ∙ ap (flat_map (sent_packet_bytes old.caps)) asked))
-    (c.in_ok-push.ensures.ok ∙ ap (λ (n : ℕ). c.args.out.now.notes ++ note.Submitted r.number n ∷ []) id)
+    (c.in_ok-push.ensures.ok ∙ ap (λ (n : ℕ). c.args.out.now.notes ++ note.Submitted r.seqnum n ∷ []) id)
 
 pub returns-in_err-write_ends-clause-err : goal.returns-in_err-write_ends-clause-err
 returns-in_err-write_ends-clause-err c = on-err c.from_residual.result _ (leaves-client c.args.self.now c.args.self.now c.args.out.now c.write_ends.new.to_client refl c.in_err-write_ends.ensures.err)

@@ -64,5 +64,5 @@ returns-in_err-started-clause-err c = on-err c.from_residual-in_err-started.resu
   same = refl;
   client = record { more = []; is = sym (append-nil c.args.out.now.to_client) };
   host = record { more = []; is = c.in_err-started.ensures.err ∙ sym (append-nil c.args.out.now.to_host) };
-  notes = record { more = note.Submitted c.args.request.number 0 ∷ []; is = c.in_ok-push.ensures.ok };
+  notes = record { more = note.Submitted c.args.request.seqnum 0 ∷ []; is = c.in_ok-push.ensures.ok };
 })
