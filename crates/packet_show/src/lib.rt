@@ -12,4 +12,4 @@ pub use client::show_client;
 pub use number::read_number;
 pub use redir::show_redir;
 pub use tape::{LineError, ModelLine, ReplayLine, TAPE_LIMIT};
-pub use urb::show_urb;
+pub use urb::{show_submit, show_unlink, show_urb};

@@ -2,8 +2,9 @@
 
 ghost use Rattle.std.specs.Prelude.{◌≡◌, ◌++◌, ◌∷◌, IfOk, map, string_bytes};
 ghost use Rattle.usb_base.specs.Writes.{Appends, AppendsSome};
+ghost use Rattle.usbip_urb.specs.declared.packet.UrbPacket.TheVariants.{Submit as SubmitPacket, Unlink as UnlinkPacket};
 ghost use Rattle.packet_show.specs.Line.{decimal, numbers, spaced_words};
-ghost use Rattle.packet_show.specs.Urb.{IsShown, urb_line, urb_words, submit_words, unlink_words, desc_word};
+ghost use Rattle.packet_show.specs.Urb.{IsShown, urb_line, submit_words, unlink_words, desc_word};
 
 use crate::line::{end_line, push_begin, push_bytes, push_numbers, push_word};
 use std::alloc::Global;
@@ -12,7 +13,6 @@ use usbip_urb::{Head, IsoDesc, Submit, Unlink, UrbPacket};
 
 /// Appends the line of a request, whose first byte stands at `place` of its stream. For want of memory `out`
 /// stands.
-#[tactic(auto, using(crate::proofs::Words::line_spaced))]
 pub fn show_urb(
     alloc: Global,
     place: u64,
@@ -22,26 +22,39 @@ pub fn show_urb(
     requires { IsShown packet.now }
     ensures { Appends result out.old out.new (urb_line place packet.now) }
 {
+    match packet {
+        UrbPacket::Submit(submit) => show_submit(alloc, place, submit, out),
+        UrbPacket::Unlink(unlink) => show_unlink(alloc, place, unlink, out),
+        UrbPacket::RetSubmit(_) | UrbPacket::RetUnlink(_) => unreachable!(),
+    }
+}
+
+/// Appends the line of a submit, as `show_urb` does.
+pub fn show_submit(
+    alloc: Global,
+    place: u64,
+    submit: &Submit,
+    out: &mut Bytes,
+) -> Result<(), Memory>
+    ensures { Appends result out.old out.new (urb_line place (SubmitPacket submit.now)) }
+{
     let from = out.len();
-    let begun = push_request(alloc, place, packet, out);
+    let begun = push_submit(alloc, place, submit, out);
     end_line(begun, from, out)
 }
 
-#[tactic(auto, using(crate::proofs::Words::spacing))]
-fn push_request(
+/// Appends the line of an unlink, as `show_urb` does.
+pub fn show_unlink(
     alloc: Global,
     place: u64,
-    packet: &UrbPacket,
+    unlink: &Unlink,
     out: &mut Bytes,
 ) -> Result<(), Memory>
-    requires { IsShown packet.now }
-    ensures { AppendsSome result out.old out.new (decimal place ++ spaced_words (urb_words packet.now)) }
+    ensures { Appends result out.old out.new (urb_line place (UnlinkPacket unlink.now)) }
 {
-    match packet {
-        UrbPacket::Submit(submit) => push_submit(alloc, place, submit, out),
-        UrbPacket::Unlink(unlink) => push_unlink(alloc, place, unlink, out),
-        UrbPacket::RetSubmit(_) | UrbPacket::RetUnlink(_) => unreachable!(),
-    }
+    let from = out.len();
+    let begun = push_unlink(alloc, place, unlink, out);
+    end_line(begun, from, out)
 }
 
 #[tactic(auto, using(crate::proofs::Words::spacing))]

@@ -3,11 +3,11 @@
 
 use crate::output::Output;
 use crate::replies::{push_device, push_devices, push_ret_submit, push_ret_unlink};
-use packet_show::{show_client, show_redir, show_urb};
+use packet_show::{show_client, show_redir, show_submit, show_unlink, show_urb};
 use redir_data::RedirPacket;
 use redir_wire::Header;
 use usbip_op::OpPacket;
-use usbip_urb::UrbPacket;
+use usbip_urb::{UrbCommand, UrbPacket, UrbRequest};
 
 /// Appends the line of a list or import packet.
 pub fn push_op(place: u64, packet: &OpPacket, out: &mut Output) {
@@ -46,6 +46,15 @@ pub fn push_urb(place: u64, packet: &UrbPacket, out: &mut Output) {
         UrbPacket::RetSubmit(answer) => push_ret_submit(place, answer, out),
         UrbPacket::RetUnlink(answer) => push_ret_unlink(place, answer, out),
     }
+}
+
+/// Appends the line of a client's URB request.
+pub fn push_request(place: u64, request: &UrbRequest, out: &mut Output) {
+    let shown = match request.command() {
+        UrbCommand::Submit(submit) => show_submit(out.alloc, place, submit, &mut out.bytes),
+        UrbCommand::Unlink(unlink) => show_unlink(out.alloc, place, unlink, &mut out.bytes),
+    };
+    out.note(shown);
 }
 
 /// Appends the line of a usbredir packet.

@@ -1,7 +1,10 @@
 //! A client's requests, as few bytes as they have.
 
-ghost use Rattle.std.specs.Prelude.{◌≡◌};
+ghost use Rattle.std.specs.Prelude.{◌≡◌, ℕ};
 ghost use Rattle.usbip_op.specs.declared.packet.OpPacket.TheVariants.{ReqDevlist, ReqImport};
+ghost use Rattle.usbip_op.specs.declared.packet.OpWay.TheVariants.{Request};
+ghost use Rattle.usbip_op.specs.Ranges.{way_of};
+ghost use Rattle.usbip_op.specs.Asked.{request_of};
 
 use crate::code::BUS_ID_SIZE;
 use crate::packet::OpPacket;
@@ -18,7 +21,7 @@ pub struct OpRequest {
 
 impl Model for OpRequest {
     ghost use Rattle.usbip_op.specs.declared.packet.OpPacket.{OpPacket};
-    ghost use Rattle.usbip_op.specs.inner.Request.{request_of};
+    ghost use Rattle.usbip_op.specs.Asked.{request_of};
 
     ghost Value = { OpPacket };
 
@@ -46,9 +49,17 @@ impl OpRequest {
         }
     }
 
+    /// The device that an import asks for, and None of a list request.
+    pub fn busid(&self) -> Option<[u8; BUS_ID_SIZE]>
+        ensures { (status : ℕ) × (self.now ≡ request_of status result) }
+    {
+        self.busid
+    }
+
     /// The same as a packet.
     pub fn packet(&self) -> OpPacket
-        ensures { result ≡ self.now }
+        ensures same { result ≡ self.now }
+        ensures request { way_of result ≡ Request }
     {
         let status = self.status;
         match self.busid {

@@ -8,5 +8,6 @@ pub mod Answers
 pub mod Heap
 pub mod Buffers
 pub mod Errors
+pub mod Commands
 pub mod ClientPackets
 pub mod Sound

@@ -7,8 +7,8 @@ ghost use Rattle.usbip_urb.specs.declared.client.ClientPacket.{ClientPacket as P
 ghost use Rattle.usbip_urb.specs.ClientPackets.{is_op, client_packets, client_spelling, IsClientPacket, takes_memory};
 ghost use Rattle.usbip_urb.specs.Sound.ClientPackets.{client_packets_sound};
 
+use crate::command::UrbRequest;
 use crate::next::next_client;
-use crate::packet::UrbPacket;
 use crate::request::take_urb;
 use packet_stream::{PacketFormat, Read, ReadError};
 use std::alloc::Global;
@@ -21,7 +21,7 @@ pub enum ClientPacket {
     /// A list or an import request.
     Op(OpRequest),
     /// A URB request.
-    Urb(UrbPacket),
+    Urb(UrbRequest),
 }
 
 /// A law: what is read as a client's packet is spelled so, and what is spelled so is read.
@@ -61,7 +61,7 @@ fn take_packet<B: PacketBytes>(
         return take_op_packet(bytes);
     }
     match take_urb(alloc, bytes)? {
-        Read::Whole(packet, size) => Ok(Read::Whole(ClientPacket::Urb(packet), size)),
+        Read::Whole(request, size) => Ok(Read::Whole(ClientPacket::Urb(request), size)),
         Read::Short => Ok(Read::Short),
     }
 }

@@ -7,6 +7,7 @@ mod buffer;
 mod check;
 mod client;
 mod code;
+mod command;
 mod field;
 mod next;
 mod packet;
@@ -24,6 +25,7 @@ pub use code::{
     URB_SHORT_NOT_OK, USBIP_CMD_SUBMIT, USBIP_CMD_UNLINK, USBIP_DIR_IN, USBIP_DIR_OUT,
     USBIP_RET_SUBMIT, USBIP_RET_UNLINK, protocol_numbers,
 };
+pub use command::{UrbCommand, UrbRequest};
 pub use next::{next_client, next_urb};
 pub use packet::{
     Descs, Head, IsoDesc, RetSubmit, RetUnlink, Submit, Unlink, UrbError, UrbPacket, UrbRead,

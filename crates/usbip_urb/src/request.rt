@@ -15,9 +15,11 @@ ghost use Rattle.usbip_urb.specs.Heap.{takes_memory};
 
 use crate::check::wrong_request;
 use crate::code::{HEAD_SIZE, USBIP_CMD_SUBMIT, USBIP_DIR_OUT};
+use crate::command::UrbRequest;
 use crate::field::{head_at, unlink_at};
-use crate::packet::{Descs, Submit, UrbError, UrbPacket, UrbRead};
+use crate::packet::{Descs, Submit, UrbError, UrbRead};
 use crate::payload::{descs_place, descs_size, read_descs};
+use packet_stream::Read;
 use std::alloc::Global;
 use usb_base::{Bytes, PacketBytes, array_at, be_u32_at};
 
@@ -40,11 +42,17 @@ pub fn read_urb(alloc: Global, bytes: &[u8]) -> Result<UrbRead, UrbError>
     ensures exact { Answers takes_memory result (reading requests bytes.now) }
 {
     let mut bytes = bytes;
-    take_urb(alloc, &mut bytes)
+    match take_urb(alloc, &mut bytes)? {
+        Read::Whole(request, size) => Ok(UrbRead::Whole(request.into_packet(), size)),
+        Read::Short => Ok(UrbRead::Short),
+    }
 }
 
 /// Takes the request at the front of the bytes off them.
-pub(crate) fn take_urb<B: PacketBytes>(alloc: Global, bytes: &mut B) -> Result<UrbRead, UrbError>
+pub(crate) fn take_urb<B: PacketBytes>(
+    alloc: Global,
+    bytes: &mut B,
+) -> Result<Read<UrbRequest>, UrbError>
     ensures exact { Answers takes_memory result (reading requests (B.contents bytes.old)) }
     ensures left { B.contents bytes.new ≡ bytes_left result (B.contents bytes.old) }
 {
@@ -53,17 +61,17 @@ pub(crate) fn take_urb<B: PacketBytes>(alloc: Global, bytes: &mut B) -> Result<U
         return Err(UrbError::Refused { place, reason });
     }
     if front.len() < HEAD_SIZE {
-        return Ok(UrbRead::Short);
+        return Ok(Read::Short);
     }
     if be_u32_at(front, 0) == USBIP_CMD_SUBMIT {
         return take_submit(alloc, bytes);
     }
     let unlink = unlink_at(front);
     bytes.advance(HEAD_SIZE);
-    Ok(UrbRead::Whole(UrbPacket::Unlink(unlink), HEAD_SIZE))
+    Ok(Read::Whole(UrbRequest::unlink(unlink), HEAD_SIZE))
 }
 
-fn take_submit<B: PacketBytes>(alloc: Global, bytes: &mut B) -> Result<UrbRead, UrbError>
+fn take_submit<B: PacketBytes>(alloc: Global, bytes: &mut B) -> Result<Read<UrbRequest>, UrbError>
     requires submit { be_at w32 0 (B.contents bytes.old) ≡ USBIP_CMD_SUBMIT }
     requires head { HEAD_SIZE ≤ length (B.contents bytes.old) }
     ensures exact { Answers takes_memory result (reading_by requests (B.contents bytes.old) None) }
@@ -73,12 +81,12 @@ fn take_submit<B: PacketBytes>(alloc: Global, bytes: &mut B) -> Result<UrbRead, 
     let place = descs_place(be_u32_at(front, 12) == USBIP_DIR_OUT, front);
     let size = place + descs_size(front);
     if front.len() < size {
-        return Ok(UrbRead::Short);
+        return Ok(Read::Short);
     }
     let descs = read_descs(alloc, &front[place..size])?;
     let mut submit = submit_with(front, Bytes::new(alloc), descs);
     submit.body = bytes.take_part(alloc, HEAD_SIZE, place - HEAD_SIZE, size)?;
-    Ok(UrbRead::Whole(UrbPacket::Submit(submit), size))
+    Ok(Read::Whole(UrbRequest::submit(submit), size))
 }
 
 fn submit_with(bytes: &[u8], body: Bytes, descs: Descs) -> Submit

@@ -32,12 +32,9 @@ impl Kept {
             → OnOk result (Does st (mark_as st (asked_meaning st at (Op request.now)) None) self.old self.new out.old out.new) }
         ensures err { OnErr result (StopsShort self.old self.new out.old out.new) }
     {
-        match request.packet() {
-            OpPacket::ReqDevlist { .. } => self.answer_list(place, out),
-            OpPacket::ReqImport { busid, .. } => self.answer_import(place, &busid, out),
-            // No client sends these.
-            OpPacket::RepDevlist { .. } => Ok(()),
-            OpPacket::RepImport { .. } => Ok(()),
+        match request.busid() {
+            None => self.answer_list(place, out),
+            Some(busid) => self.answer_import(place, &busid, out),
         }
     }
 

@@ -17,7 +17,7 @@ use redir_data::RedirPacket;
 use std::alloc::Global;
 use std::marker::Model;
 use usb_base::Memory;
-use usbip_urb::{ClientPacket, UrbPacket};
+use usbip_urb::{ClientPacket, UrbCommand};
 
 /// What becomes of the items of both streams.
 #[derive(Drop)]
@@ -67,15 +67,10 @@ impl Translator {
         let taken = match item {
             Item::Asked { place, packet } => match packet {
                 ClientPacket::Op(request) => self.kept.answer_op(place, &request, out),
-                ClientPacket::Urb(UrbPacket::Submit(submit)) => {
-                    self.kept.submit(place, submit, out)
-                }
-                ClientPacket::Urb(UrbPacket::Unlink(unlink)) => {
-                    self.kept.unlink(place, &unlink, out)
-                }
-                // No client sends these.
-                ClientPacket::Urb(UrbPacket::RetSubmit(_reply)) => Ok(()),
-                ClientPacket::Urb(UrbPacket::RetUnlink(_reply)) => Ok(()),
+                ClientPacket::Urb(request) => match request.into_command() {
+                    UrbCommand::Submit(submit) => self.kept.submit(place, submit, out),
+                    UrbCommand::Unlink(unlink) => self.kept.unlink(place, &unlink, out),
+                },
             },
             Item::ClientWrong { place, reason } => {
                 self.kept.refuse_client(client_refusal(place, reason), out)

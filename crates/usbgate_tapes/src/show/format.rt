@@ -11,14 +11,13 @@ ghost use Rattle.usbgate_tapes.specs.inner.show.Shown.{HasNone, clients_none, ho
 ghost use Rattle.usbgate_tapes.specs.inner.show.Part.{IsPart};
 
 use gate_history::Event;
-use packet_show::{show_client, show_redir, show_urb};
+use packet_show::{show_client, show_redir, show_submit, show_unlink};
 use packet_stream::PacketFormat;
 use redir_data::{FromHost, RedirPacket, RedirState};
 use redir_wire::Header;
 use std::alloc::Global;
 use usb_base::{Bytes, Memory, Side};
-use usbip_op::OpPacket;
-use usbip_urb::{ClientFormat, ClientPacket, UrbPacket};
+use usbip_urb::{ClientFormat, ClientPacket, UrbCommand};
 
 /// What an event is to a side's stream.
 #[derive(Clone, Copy)]
@@ -101,18 +100,10 @@ impl ShownFormat for ClientFormat {
         text: &mut Bytes,
     ) -> Result<(), Memory> {
         match packet {
-            ClientPacket::Op(request) => {
-                let op = request.packet();
-                match op {
-                    OpPacket::ReqDevlist { .. } | OpPacket::ReqImport { .. } => {
-                        show_client(alloc, place, &op, text)
-                    }
-                    OpPacket::RepDevlist { .. } | OpPacket::RepImport { .. } => Ok(()),
-                }
-            }
-            ClientPacket::Urb(urb) => match urb {
-                UrbPacket::Submit(_) | UrbPacket::Unlink(_) => show_urb(alloc, place, urb, text),
-                UrbPacket::RetSubmit(_) | UrbPacket::RetUnlink(_) => Ok(()),
+            ClientPacket::Op(request) => { show_client(alloc, place, &request.packet(), text) }
+            ClientPacket::Urb(request) => match request.command() {
+                UrbCommand::Submit(submit) => show_submit(alloc, place, submit, text),
+                UrbCommand::Unlink(unlink) => show_unlink(alloc, place, unlink, text),
             },
         }
     }

@@ -6,6 +6,7 @@ use Rattle.usb_base.specs.Number.{capped}
 use Rattle.usbip_urb.specs.declared.client.ClientPacket.{ClientPacket}
 use Rattle.usbip_urb.specs.declared.client.ClientPacket.TheVariants.{Op, Urb}
 use Rattle.usbip_urb.specs.declared.packet.UrbPacket.TheVariants as urb
+use Rattle.usbip_urb.specs.Commands.{packet_of}
 use Rattle.redir_data.specs.declared.packet.RedirPacket.TheVariants.{Plain, Carrying}
 use Rattle.gate_history.specs.declared.item.Item.{Item}
 use Rattle.gate_history.specs.declared.item.Item.TheVariants.{Asked, ClientWrong, ClientLeft, Told, HostWrong, HostLeft}
@@ -22,7 +23,7 @@ use Rattle.gate_core.specs.declared.state.kept.Kept.{Kept}
 use Rattle.gate_core.specs.inner.state.Holds.{Holds, Does}
 use Rattle.gate_core.proofs.lemmas.write.Gives.{asked-gives, refusal-gives}
 use Rattle.gate_core.proofs.lemmas.write.InTurn.{on-err}
-use Rattle.gate_core.proofs.step.translator.Translator.take.Goals.{in-Asked+in-Op, in-Asked+in-Urb-Submit, in-Asked+in-Urb-Unlink, in-Asked+in-Urb-RetSubmit, in-Asked+in-Urb-RetUnlink, in-ClientWrong, in-ClientLeft, in-Told+in-Plain, in-Told+in-Carrying, in-HostWrong, in-HostLeft, Joined-item}
+use Rattle.gate_core.proofs.step.translator.Translator.take.Goals.{in-Asked+in-Op, in-Asked+in-Urb+in-Submit, in-Asked+in-Urb+in-Unlink, in-ClientWrong, in-ClientLeft, in-Told+in-Plain, in-Told+in-Carrying, in-HostWrong, in-HostLeft, Joined-item}
 use Rattle.gate_core.proofs.step.translator.Translator.take.Goals as goal
 
 -- what the function that knows its kind does with an item
@@ -71,14 +72,12 @@ took c =
           rw (w.taken-is, self-is, w.out-is)
           (took-asked item old out w.answer_op.result w.answer_op.new.self w.answer_op.new.out w.in-Asked.place (Op w.in-Op.request)
           (w.in-Asked.is ∙ ap (Asked w.in-Asked.place) w.in-Op.is) fits (λ st n e h sound over. w.answer_op.ensures.ok st n e h over))
-      | in-Asked+in-Urb-Submit w ↦ rw (w.taken-is, w.self-is, w.out-is)
-          (took-asked item old out w.submit.result w.submit.new.self w.submit.new.out w.in-Asked.place (Urb (urb.Submit w.in-Urb-Submit.submit))
-          (w.in-Asked.is ∙ ap (Asked w.in-Asked.place) (w.in-Urb-Submit.is ∙ ap Urb w.in-Urb-Submit.field-0-is)) fits w.submit.ensures.ok)
-      | in-Asked+in-Urb-Unlink w ↦ rw (w.taken-is, w.self-is, w.out-is)
-          (took-asked item old out w.unlink.result w.unlink.new.self w.unlink.new.out w.in-Asked.place (Urb (urb.Unlink w.in-Urb-Unlink.unlink))
-          (w.in-Asked.is ∙ ap (Asked w.in-Asked.place) (w.in-Urb-Unlink.is ∙ ap Urb w.in-Urb-Unlink.field-0-is)) fits w.unlink.ensures.ok)
-      | in-Asked+in-Urb-RetSubmit w ↦ absurd (subst (λ (r : Item). ItemFits old.caps r) (w.in-Asked.is ∙ ap (Asked w.in-Asked.place) (w.in-Urb-RetSubmit.is ∙ ap Urb w.in-Urb-RetSubmit.field-0-is)) fits)
-      | in-Asked+in-Urb-RetUnlink w ↦ absurd (subst (λ (r : Item). ItemFits old.caps r) (w.in-Asked.is ∙ ap (Asked w.in-Asked.place) (w.in-Urb-RetUnlink.is ∙ ap Urb w.in-Urb-RetUnlink.field-0-is)) fits)
+      | in-Asked+in-Urb+in-Submit w ↦ rw (w.taken-is, w.self-is, w.out-is)
+          (took-asked item old out w.submit.result w.submit.new.self w.submit.new.out w.in-Asked.place (Urb (urb.Submit w.in-Submit.submit))
+          (w.in-Asked.is ∙ ap (Asked w.in-Asked.place) (w.in-Urb.is ∙ ap Urb (w.into_command.ensures ∙ ap packet_of w.in-Submit.is))) fits w.submit.ensures.ok)
+      | in-Asked+in-Urb+in-Unlink w ↦ rw (w.taken-is, w.self-is, w.out-is)
+          (took-asked item old out w.unlink.result w.unlink.new.self w.unlink.new.out w.in-Asked.place (Urb (urb.Unlink w.in-Unlink.unlink))
+          (w.in-Asked.is ∙ ap (Asked w.in-Asked.place) (w.in-Urb.is ∙ ap Urb (w.into_command.ensures ∙ ap packet_of w.in-Unlink.is))) fits w.unlink.ensures.ok)
       | in-ClientWrong w ↦
           let reason = w.in-ClientWrong.reason in
           let call = w.refuse_client-taken in

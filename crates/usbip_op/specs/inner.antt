@@ -1,2 +1,0 @@
--- What a request keeps.
-pub mod Request
