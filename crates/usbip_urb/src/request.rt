@@ -49,10 +49,7 @@ pub fn read_urb(alloc: Global, bytes: &[u8]) -> Result<UrbRead, UrbError>
 }
 
 /// Takes the request at the front of the bytes off them.
-pub(crate) fn take_urb<B: PacketBytes>(
-    alloc: Global,
-    bytes: &mut B,
-) -> Result<Read<UrbRequest>, UrbError>
+pub fn take_urb<B: PacketBytes>(alloc: Global, bytes: &mut B) -> Result<Read<UrbRequest>, UrbError>
     ensures exact { Answers takes_memory result (reading requests (B.contents bytes.old)) }
     ensures left { B.contents bytes.new ≡ bytes_left result (B.contents bytes.old) }
 {
