@@ -6,7 +6,7 @@ use Rattle.usb_base.specs.declared.reason.Reason.{Reason}
 use Rattle.packet_stream.specs.declared.read.ReadError.{ReadError}
 use Rattle.packet_stream.specs.declared.read.ReadError.TheVariants.{Refused, Memory}
 use Rattle.packet_stream.specs.Streams.{StreamView, after_piece, Nexts, Puts, Changes}
-use Rattle.packet_stream.specs.Takers.{Taking, TakenStream, TakesAnswer, Took, TakesOne, TakesMany, Reaches, TakesPiece}
+use Rattle.packet_stream.specs.Takers.{Taking, TakenStream, TakesAnswer, Took, TakesOne, TakesMany, CanTakeWhole, CanTakePiece, TakesWhole, Reaches, TakesPiece}
 
 -- how much is left to be read
 abbrev pub left_of : {S : Type 0} → StreamView S → ℕ
@@ -21,14 +21,24 @@ took-answer {P = P} k result old answered taker given answer is changes nexts ta
   takes = subst (λ (x : Result (Option (ℕ × P)) ReadError). TakesAnswer k x result old.taker taker) (sym is) takes;
 }
 
-pub reaches-more : {S P T : Type 0} (k : Taking S P T) (old mid new : TakenStream S T) (piece : List ℕ) → Reaches k old piece mid → TakesOne k mid new → Reaches k old piece new
-reaches-more k old mid new piece r one = record { stream = r.stream; is = r.is; puts = r.puts; count = suc r.count; takes = (mid, (r.takes, one)) }
-
 -- memory ran out for what came next
-pub stops-there : {S P T : Type 0} {memory : NoMemory} (k : Taking S P T) (result : Result (Unit {0}) NoMemory) (old last new : TakenStream S T) (piece : List ℕ) → IsErrAnd result (λ y. y ≡ memory) →
-    Reaches k old piece last → Took k (Err memory) last new.stream new.taker → TakesPiece k result old piece new
-stops-there k (Ok v) old last new piece is reaches took = absurd is
-stops-there k (Err y) old last new piece is reaches took = inr (last, (reaches, subst (λ (m : NoMemory). Took k (Err m) last new.stream new.taker) (sym is) took))
+pub stops-there : {S P T : Type 0} {memory : NoMemory} (k : Taking S P T) (result : Result (Unit {0}) NoMemory) (n : ℕ) (old last new : TakenStream S T) → IsErrAnd result (λ y. y ≡ memory) →
+    TakesMany k n old last → Took k (Err memory) last new.stream new.taker → TakesWhole k result old new
+stops-there k (Ok v) n old last new is many took = absurd is
+stops-there k (Err y) n old last new is many took = (n, (last, (many, subst (λ (m : NoMemory). Took k (Err m) last new.stream new.taker) (sym is) took)))
+
+-- ---- a piece has come
+
+-- with it each packet that is whole can be taken
+pub can-take-whole : {S P T : Type 0} (k : Taking S P T) (CanTake : T → ℕ → P → Type 0) (old : TakenStream S T) (stream : StreamView S) (piece : List ℕ) → stream ≡ after_piece old.stream piece → Puts k.reader piece old.stream stream →
+    CanTakePiece k CanTake old piece → CanTakeWhole k CanTake (record { stream = stream; taker = old.taker })
+can-take-whole k CanTake old stream piece is puts can n now many = can now (record { stream = stream; is = is; puts = puts; count = n; takes = many })
+
+-- all that are whole with it were taken, or memory ran out for what was next
+pub takes-piece : {S P T : Type 0} (k : Taking S P T) (result : Result (Unit {0}) NoMemory) (old : TakenStream S T) (stream : StreamView S) (new : TakenStream S T) (piece : List ℕ) → stream ≡ after_piece old.stream piece → Puts k.reader piece old.stream stream →
+    TakesWhole k result (record { stream = stream; taker = old.taker }) new → TakesPiece k result old piece new
+takes-piece k (Ok v) old stream new piece is puts w = (w.1.0, (record { stream = stream; is = is; puts = puts; count = w.0; takes = w.1.1.0 }, w.1.1.1))
+takes-piece k (Err memory) old stream new piece is puts w = inr (w.1.0, (record { stream = stream; is = is; puts = puts; count = w.0; takes = w.1.1.0 }, w.1.1.1))
 
 -- ---- what holds within a piece
 

@@ -116,14 +116,8 @@ after_piece_by kept piece true = kept
 abbrev pub after_piece : {S : Type 0} → StreamView S → List ℕ → StreamView S
 after_piece kept piece = after_piece_by kept piece kept.over
 
--- a piece has come with which no packet is whole, nor anything wrong
-pub record Keeps {S P : Type 0} (r : Reader S P Reason) (takes : P → Bool) (piece : List ℕ) (old new : StreamView S) : Type 0 where
-  pub stream : new ≡ after_piece old piece
-  pub puts : Puts r piece old new
-  pub passed : new ≡ passed new
-  pub none : Nexts r takes (Ok None) new new
-
--- it has, or nothing came
-pub record KeepsWhat {S P : Type 0} (r : Reader S P Reason) (takes : P → Bool) (count : ℕ) (piece : List ℕ) (old new : StreamView S) : Type 0 where
-  pub some : 0 < count → Keeps r takes piece old new
+-- this piece has come straight into what is kept, or nothing came
+pub record Receives {S P : Type 0} (r : Reader S P Reason) (count : ℕ) (piece : List ℕ) (old new : StreamView S) : Type 0 where
+  pub stream : 0 < count → new ≡ after_piece old piece
+  pub puts : 0 < count → Puts r piece old new
   pub nothing : count ≡ 0 → new ≡ old

@@ -1,5 +1,7 @@
 -- What becomes of a piece of a stream whose packets a taker takes one by one.
-use Rattle.std.specs.Prelude.{◌≡◌, ◌⊎◌, ◌<◌, ℕ, zero, suc, Bool, true, false, if◌then◌else◌, List, length, Option, Some, None, Result, Ok, Err}
+use Rattle.std.specs.Prelude.{◌≡◌, ◌⊎◌, ◌<◌, ℕ, zero, suc, Bool, true, false, if◌then◌else◌, List, length, take, Option, Some, None, Result, Ok, Err}
+use Rattle.usb_base.specs.Number.{AreBytes}
+use Rattle.usb_base.specs.Incoming.{HasCome}
 use Rattle.usb_base.specs.declared.memory.Memory.{Memory as NoMemory}
 use Rattle.usb_base.specs.declared.reason.Reason.{Reason}
 use Rattle.packet_stream.specs.declared.read.ReadError.{ReadError}
@@ -71,6 +73,15 @@ abbrev pub TakesMany : {S P T : Type 0} → Taking S P T → ℕ → TakenStream
 TakesMany k zero old new = new ≡ old
 TakesMany {S = S} {T = T} k (suc n) old new = (mid : TakenStream S T) × (TakesMany k n old mid × TakesOne k mid new)
 
+-- whatever is taken, the packet that comes next can be
+abbrev pub CanTakeWhole : {S P T : Type 0} → Taking S P T → (T → ℕ → P → Type 0) → TakenStream S T → Type 0
+CanTakeWhole {S = S} {T = T} k CanTake old = (n : ℕ) (now : TakenStream S T) → TakesMany k n old now → CanTakeNext k CanTake now
+
+-- all that is whole was taken, or memory ran out for what was next
+abbrev pub TakesWhole : {S P T : Type 0} → Taking S P T → Result (Unit {0}) NoMemory → TakenStream S T → TakenStream S T → Type 0
+TakesWhole {S = S} {T = T} k (Ok v) old new = (n : ℕ) × ((last : TakenStream S T) × (TakesMany k n old last × Finishes k last new))
+TakesWhole {S = S} {T = T} k (Err memory) old new = (n : ℕ) × ((last : TakenStream S T) × (TakesMany k n old last × Took k (Err memory) last new.stream new.taker))
+
 -- the piece has come, and some were taken
 pub record Reaches {S P T : Type 0} (k : Taking S P T) (old : TakenStream S T) (piece : List ℕ) (new : TakenStream S T) : Type 0 where
   pub stream : StreamView S
@@ -92,3 +103,16 @@ pub record IsUnput {S T : Type 0} (old new : TakenStream S T) (piece : List ℕ)
 abbrev pub TakesPiece : {S P T : Type 0} → Taking S P T → Result (Unit {0}) NoMemory → TakenStream S T → List ℕ → TakenStream S T → Type 0
 TakesPiece {S = S} {T = T} k (Ok v) old piece new = (last : TakenStream S T) × (Reaches k old piece last × Finishes k last new)
 TakesPiece {S = S} {T = T} k (Err memory) old piece new = IsUnput old new piece ⊎ ((last : TakenStream S T) × (Reaches k old piece last × Took k (Err memory) last new.stream new.taker))
+
+-- ---- what comes straight into the stream's memory
+
+-- whatever comes can be taken
+abbrev pub CanTakeAny : {S P T : Type 0} → Taking S P T → (T → ℕ → P → Type 0) → TakenStream S T → Type 0
+CanTakeAny k CanTake old = (piece : List ℕ) → AreBytes piece → CanTakePiece k CanTake old piece
+
+-- so many bytes came, and were taken as a piece; where none came nothing has changed
+pub record TakesCome {S P T I : Type 0} (k : Taking S P T) (gives : I → ℕ → List ℕ → I → Type 0) (limit : ℕ) (result : Result (Unit {0}) NoMemory) (old : TakenStream S T) (from : I) (new : TakenStream S T) (left : I) : Type 0 where
+  pub count : ℕ
+  pub came : HasCome gives limit count from left
+  pub some : 0 < count → TakesPiece k result old (take count came.room) new
+  pub nothing : count ≡ 0 → (result ≡ Ok tt) × (new ≡ old)

@@ -12,5 +12,5 @@ pub use format::PacketFormat;
 pub use read::{Read, ReadError};
 pub use splitting::splits_well;
 pub use stream::Stream;
-pub use taker::{PacketTaker, take_piece};
+pub use taker::{PacketTaker, take_piece, take_piece_from};
 pub use usb_base::PacketBytes;

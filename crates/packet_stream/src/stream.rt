@@ -4,7 +4,7 @@ ghost use Rattle.std.specs.Prelude.{◌≡◌, ◌<◌, ◌^◌, [], length, tak
 ghost use Rattle.usb_base.specs.Incoming.{HasCome};
 ghost use Rattle.packet_stream.specs.Split.{reads};
 ghost use Rattle.packet_stream.specs.Awaited.{StaysShort};
-ghost use Rattle.packet_stream.specs.Streams.{StreamView, passed, ended, after_piece, Follows, Puts, Nexts, Changes, KeepsWhat};
+ghost use Rattle.packet_stream.specs.Streams.{StreamView, passed, ended, after_piece, Follows, Puts, Nexts, Changes, Receives};
 
 use crate::format::PacketFormat;
 use crate::read::{Read, ReadError};
@@ -119,18 +119,17 @@ impl<F: PacketFormat> Stream<F> {
         put
     }
 
-    /// Has the next bytes come straight into its memory, at most `limit` of them, where it awaits more than that: no
-    /// packet is whole with them. It says how many came. `None` where it doesn't await so many, or has no memory for
-    /// them yet: nothing was asked for any then.
+    /// Has the next bytes come straight into its memory, at most `limit` of them, and says how many came: they are a
+    /// piece of it then. `None` where it is over, or has no memory for so many: nothing was asked for any then.
     pub fn receive_from<I: Incoming>(&mut self, limit: usize, incoming: &mut I) -> Option<usize>
         requires { I.can_read incoming.old limit }
-        ensures came { IfSome result (λ count. (came : HasCome I.read_gives limit count incoming.old incoming.new) × KeepsWhat (reads F.format F.after) F.takes_memory count (take count came.room) self.old self.new) }
+        ensures came { IfSome result (λ count. (came : HasCome I.read_gives limit count incoming.old incoming.new) × Receives (reads F.format F.after) count (take count came.room) self.old self.new) }
         ensures none { IsNone result → (self.new ≡ self.old) × (incoming.new ≡ incoming.old) }
     {
-        if self.over || self.awaited.saturating_sub(self.bytes.len()) <= limit {
+        if self.over {
             return None;
         }
-        let count = self.bytes.receive_from(limit, incoming)?;
+        let count = self.bytes.receive_from(limit, self.awaited, incoming)?;
         if count > 0 {
             self.given = given_from(self.place, &self.bytes);
         }

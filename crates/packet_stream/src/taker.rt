@@ -1,15 +1,15 @@
 //! What takes the packets of a stream, and the loop that hands them to it.
 
-ghost use Rattle.std.specs.Prelude.{◌≡◌, ℕ, Bool, Result, Ok, Err};
+ghost use Rattle.std.specs.Prelude.{◌≡◌, ℕ, Bool, Result, Ok, Err, IfSome, IsNone};
 ghost use Rattle.usb_base.specs.declared.memory.Memory.{Memory as NoMemory};
 ghost use Rattle.usb_base.specs.declared.reason.Reason.{Reason as Why};
-ghost use Rattle.packet_stream.specs.Takers.{taken_by, ended_if, CanTakeNext, CanTakePiece, TakesNext, TakesPiece};
+ghost use Rattle.packet_stream.specs.Takers.{taken_by, ended_if, CanTakeNext, CanTakeWhole, CanTakePiece, CanTakeAny, TakesNext, TakesWhole, TakesPiece, TakesCome};
 
 use crate::format::PacketFormat;
 use crate::read::ReadError;
 use crate::stream::Stream;
 use std::alloc::Global;
-use usb_base::{Memory, Reason};
+use usb_base::{Incoming, Memory, Reason};
 
 /// Takes the packets of a stream one by one, each with its place in the stream.
 pub trait PacketTaker<F: PacketFormat> {
@@ -47,6 +47,38 @@ pub fn take_piece<F: PacketFormat, T: PacketTaker<F>>(
     ensures { TakesPiece (taken_by F.format F.after F.takes_memory T.Takes T.over_in) result (record { stream = stream.old; taker = taker.old }) piece.now (record { stream = stream.new; taker = taker.new }) }
 {
     stream.put(piece)?;
+    take_whole(alloc, stream, taker)
+}
+
+/// Has the next piece of a stream come straight into its memory, at most `limit` bytes, and hands on the packets that
+/// are whole with it. `None` where nothing was asked for any: the stream is over, or has no memory for so many.
+pub fn take_piece_from<F: PacketFormat, T: PacketTaker<F>, I: Incoming>(
+    alloc: Global,
+    stream: &mut Stream<F>,
+    limit: usize,
+    incoming: &mut I,
+    taker: &mut T,
+) -> Option<Result<(), Memory>>
+    requires ready { I.can_read incoming.old limit }
+    requires takes { CanTakeAny (taken_by F.format F.after F.takes_memory T.Takes T.over_in) T.CanTake (record { stream = stream.old; taker = taker.old }) }
+    ensures came { IfSome result (λ taken. TakesCome (taken_by F.format F.after F.takes_memory T.Takes T.over_in) I.read_gives limit taken (record { stream = stream.old; taker = taker.old }) incoming.old (record { stream = stream.new; taker = taker.new }) incoming.new) }
+    ensures none { IsNone result → (stream.new ≡ stream.old) × (taker.new ≡ taker.old) × (incoming.new ≡ incoming.old) }
+{
+    if stream.receive_from(limit, incoming)? == 0 {
+        return Some(Ok(()));
+    }
+    Some(take_whole(alloc, stream, taker))
+}
+
+/// Hands on the packets that are whole.
+fn take_whole<F: PacketFormat, T: PacketTaker<F>>(
+    alloc: Global,
+    stream: &mut Stream<F>,
+    taker: &mut T,
+) -> Result<(), Memory>
+    requires { CanTakeWhole (taken_by F.format F.after F.takes_memory T.Takes T.over_in) T.CanTake (record { stream = stream.old; taker = taker.old }) }
+    ensures { TakesWhole (taken_by F.format F.after F.takes_memory T.Takes T.over_in) result (record { stream = stream.old; taker = taker.old }) (record { stream = stream.new; taker = taker.new }) }
+{
     'packets: while take_next(alloc, stream, taker)? {}
     Ok(())
 }

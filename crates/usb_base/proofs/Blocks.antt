@@ -2,6 +2,7 @@
 use Rattle.std.proofs.Common.{◌≡◌, ◌≤◌, ◌+◌, ◌-◌, ◌++◌, ℕ, List, take, drop, length, refl, subst, ap, sym, ◌∙◌, arith}
 use Rattle.std.proofs.Math.Seq.{take-append-add}
 use Rattle.std.proofs.lemmas.List.{take-append-le, length-take-le, drop-append-le, drop_at, take_at, take-take, drop-take, drop-drop}
+use borrow.Rule.Slice.PartMut.{put_mid}
 use Rattle.usb_base.specs.Number.{AreBytes}
 use Rattle.usb_base.proofs.Numbers.{AreBytes-take, AreBytes-drop}
 
@@ -36,7 +37,7 @@ part-of xs front end from len within =
     ∙ ap (take len) (sym (drop-take n k xs) ∙ ap (λ (m : ℕ). drop n (take m xs)) whole ∙ sym (drop-drop from front (take end xs)))
 
 -- the bytes from `front` to `end`, cut out of a block
-pub cut-out : (xs : List ℕ) (front end : ℕ) → front ≤ end → take (end - front) (drop front xs) ≡ drop front (take end xs)
+pub cut-out : {X : Type 0} (xs : List X) (front end : ℕ) → front ≤ end → take (end - front) (drop front xs) ≡ drop front (take end xs)
 cut-out xs front end before =
     let whole : front + (end - front) ≡ end = omega (arith, before) in
     sym (drop-take front (end - front) xs) ∙ ap (λ (m : ℕ). drop front (take m xs)) whole
@@ -45,3 +46,16 @@ cut-out xs front end before =
 pub put-bytes : (xs put rest : List ℕ) (place : ℕ) → place ≤ length xs → AreBytes (take place xs ++ (put ++ rest)) → AreBytes put
 put-bytes xs put rest place there bytes =
     subst AreBytes (take_at put rest (length put) refl) (AreBytes-take (length put) (put ++ rest) (subst AreBytes (drop_at (take place xs) (put ++ rest) place (length-take-le place xs there)) (AreBytes-drop place (take place xs ++ (put ++ rest)) bytes)))
+
+-- what is put right before what stands as far as `end` stands before it
+pub put-before : (xs ys : List ℕ) (place k end : ℕ) → length ys ≡ k → place + k ≤ end → end ≤ length xs → drop place (take end (put_mid place k xs ys)) ≡ ys ++ drop (place + k) (take end xs)
+put-before xs ys place k end count within there =
+    let behind = end - (place + k) in
+    let whole : place + (length ys + behind) ≡ end = omega (arith, count, within) in
+    let back : place + k + behind ≡ end = omega (arith, within) in
+    ap (λ (m : ℕ). drop place (take m (put_mid place k xs ys))) (sym whole)
+    ∙ drop-take place (length ys + behind) (put_mid place k xs ys)
+    ∙ ap (take (length ys + behind)) (drop_at (take place xs) _ place (length-take-le place xs (omega (arith, within, there))))
+    ∙ take-append-add ys _ behind
+    ∙ ap (λ zs. ys ++ take behind zs) (drop-drop k place xs)
+    ∙ ap (λ zs. ys ++ zs) (sym (drop-take (place + k) behind xs) ∙ ap (λ (m : ℕ). drop (place + k) (take m xs)) back)

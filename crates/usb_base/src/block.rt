@@ -1,6 +1,6 @@
 //! Blocks of memory, of whose bytes some count for nothing.
 
-ghost use Rattle.std.specs.Prelude.{◌≡◌, ◌+◌, ◌-◌, ◌++◌, ◌≤◌, length, take, drop, IsTrue, OnOk, OnErr};
+ghost use Rattle.std.specs.Prelude.{◌≡◌, ◌+◌, ◌-◌, ◌++◌, ◌≤◌, ◌<◌, length, take, drop, IsTrue, OnOk, OnErr};
 ghost use Rattle.usb_base.specs.Incoming.{HasCome};
 
 use crate::incoming::Incoming;
@@ -12,6 +12,7 @@ pub fn put_at(block: &mut Vec<u8>, place: usize, piece: &[u8]) -> Result<(), Mem
     ensures ok { OnOk result (take (place + length piece.now) block.new.items ≡ take place block.old.items ++ piece.now) }
     ensures len { OnOk result (place + length piece.now ≤ length block.new.items) }
     ensures err { OnErr result (block.new.items ≡ block.old.items) }
+    ensures wants { OnErr result (0 < length piece.now) }
 {
     let over = piece.len().min(block.len() - place);
     block.extend_from_slice(&piece[over..])?;

@@ -2,6 +2,7 @@
 
 ghost use Rattle.std.specs.Prelude.{◌≡◌, ◌++◌, ◌∷◌, [], ◌≤◌, ◌<◌, length, take, drop, IsTrue, ◌↔◌, OnOk, OnErr, IfOk};
 
+use crate::block::{move_to, put_at};
 use crate::memory::Memory;
 use std::alloc::Global;
 use std::marker::Model;
@@ -10,22 +11,23 @@ use std::marker::Model;
 #[derive(Drop)]
 pub struct List<T> {
     pub(crate) items: Vec<T>,
-    /// How many of them, at the front, are no more of the list: their room is kept for what may be put before the
-    /// others.
+    /// The list stands in them from `front` to `end`. What stands before and behind counts for nothing: its room is kept
+    /// for what may be put there.
     pub(crate) front: usize,
+    pub(crate) end: usize,
 }
 
 /// Bytes, as they come from a peer or go to one.
 pub type Bytes = List<u8>;
 
 impl<T> Model for List<T> {
-    ghost use Rattle.std.specs.Prelude.{List as Items, drop, length, ◌≤◌};
+    ghost use Rattle.std.specs.Prelude.{List as Items, take, drop, length, ◌≤◌};
 
     ghost Value = { Items T };
 
-    ghost view = { λ list. drop list.front list.items.items };
+    ghost view = { λ list. drop list.front (take list.end list.items.items) };
 
-    ghost invariant = { λ list. list.front ≤ length list.items.items };
+    ghost invariant = { λ list. (list.front ≤ list.end) × (list.end ≤ length list.items.items) };
 }
 
 impl<T> List<T> {
@@ -36,6 +38,7 @@ impl<T> List<T> {
         List {
             items: Vec::new(alloc),
             front: 0,
+            end: 0,
         }
     }
 
@@ -43,15 +46,14 @@ impl<T> List<T> {
     pub fn as_slice(&self) -> &[T]
         ensures { result.now ≡ self.now }
     {
-        let (_, items) = self.items.as_slice().split_at(self.front);
-        items
+        &self.items[self.front..self.end]
     }
 
     /// How many items it has.
     pub fn len(&self) -> usize
         ensures { result ≡ length self.now }
     {
-        self.items.len() - self.front
+        self.end - self.front
     }
 
     /// How many items it has memory for, with the room in front.
@@ -73,7 +75,12 @@ impl<T: Drop> List<T> {
         ensures ok { OnOk result (self.new ≡ self.old ++ item ∷ []) }
         ensures err { OnErr result (self.new ≡ self.old) }
     {
-        self.items.push(item)?;
+        if self.end < self.items.len() {
+            self.items[self.end] = item;
+        } else {
+            self.items.push(item)?;
+        }
+        self.end += 1;
         Ok(())
     }
 
@@ -82,7 +89,8 @@ impl<T: Drop> List<T> {
         ensures stands { self.new ≡ self.old }
         ensures wants { OnErr result (0 < more) }
     {
-        self.items.reserve(more)?;
+        let room = self.items.len() - self.end;
+        self.items.reserve(more.saturating_sub(room))?;
         Ok(())
     }
 
@@ -92,6 +100,7 @@ impl<T: Drop> List<T> {
         ensures { self.new ≡ take len self.old }
     {
         self.items.truncate(self.front + len);
+        self.end = self.front + len;
     }
 
     /// After a call that puts items behind the first `len`: where it gave an error, what it has put there is dropped.
@@ -114,6 +123,7 @@ impl<T: Drop> List<T> {
     {
         self.items.clear();
         self.front = 0;
+        self.end = 0;
     }
 }
 
@@ -137,14 +147,23 @@ impl List<u8> {
         let mut items = Vec::with_capacity(alloc, ROOM + piece.len())?;
         items.extend_from_slice(&[0; ROOM])?;
         items.extend_from_slice(piece)?;
-        Ok(List { items, front: ROOM })
+        Ok(List::between(items, ROOM, ROOM + piece.len()))
     }
 
     /// These bytes, which are not copied.
     pub fn of(items: Vec<u8>) -> Self
         ensures { result ≡ items.items }
     {
-        List { items, front: 0 }
+        let end = items.len();
+        List::between(items, 0, end)
+    }
+
+    /// Those of these bytes from `front` to `end`, which are not copied. What stands before and behind them is room.
+    pub(crate) fn between(items: Vec<u8>, front: usize, end: usize) -> Self
+        requires { (front ≤ end) × (end ≤ length items.items) }
+        ensures { result ≡ drop front (take end items.items) }
+    {
+        List { items, front, end }
     }
 
     /// Puts a piece at the end.
@@ -153,7 +172,8 @@ impl List<u8> {
         ensures err { OnErr result (self.new ≡ self.old) }
         ensures wants { OnErr result (0 < length piece.now) }
     {
-        self.items.extend_from_slice(piece)?;
+        put_at(&mut self.items, self.end, piece)?;
+        self.end += piece.len();
         Ok(())
     }
 
@@ -181,8 +201,8 @@ impl List<u8> {
         requires { count ≤ length self.old }
         ensures { self.new ≡ drop count self.old }
     {
-        self.items.copy_within(self.front + count.., self.front);
-        self.items.truncate(self.items.len() - count);
+        move_to(&mut self.items, self.front + count, self.end, self.front);
+        self.end -= count;
     }
 
     /// Drops the first `count` bytes and moves none: their room is kept.

@@ -87,26 +87,26 @@ impl ReceiveBuffer {
         if piece.is_empty() {
             return Ok(());
         }
-        let missing = awaited.saturating_sub(self.len()).max(piece.len());
-        self.move_to_spare(missing)?;
-        self.settle(missing)?;
-        self.reserve(missing)?;
+        self.make_room(piece.len(), awaited)?;
         put_at(&mut self.block, self.end, piece)?;
         self.end += piece.len();
         Ok(())
     }
 
-    /// Has the next bytes come straight into its memory, at most `limit` of them, and says how many did. `None` where
-    /// it has no memory for so many behind its bytes: nothing was asked for any then.
-    pub fn receive_from<I: Incoming>(&mut self, limit: usize, incoming: &mut I) -> Option<usize>
+    /// Has the next bytes come straight into its memory, at most `limit` of them, and says how many did. There is room
+    /// for those that are awaited, as where a piece is put. `None` for want of memory: nothing was asked for any then.
+    pub fn receive_from<I: Incoming>(
+        &mut self,
+        limit: usize,
+        awaited: usize,
+        incoming: &mut I,
+    ) -> Option<usize>
         requires { I.can_read incoming.old limit }
         ensures came { IfSome result (λ count. (came : HasCome I.read_gives limit count incoming.old incoming.new) × (self.new ≡ self.old ++ take count came.room)) }
         ensures none { IsNone result → (self.new ≡ self.old) × (incoming.new ≡ incoming.old) }
     {
-        let room = self.end.saturating_add(limit);
-        if self.block.capacity() < room || lengthen(&mut self.block, room).is_err() {
-            return None;
-        }
+        self.make_room(limit, awaited).ok()?;
+        lengthen(&mut self.block, self.end.saturating_add(limit)).ok()?;
         let count = read_at(&mut self.block, self.end, limit, incoming);
         self.end += count;
         Some(count)
@@ -123,9 +123,20 @@ impl ReceiveBuffer {
         }
         if empty.capacity() > LONG.max(self.spare.capacity()) {
             empty.front = 0;
+            empty.end = 0;
             mem::swap(&mut self.spare, &mut empty.items);
         }
         empty.clear();
+    }
+
+    /// Makes room for so many bytes more, and for all that are awaited.
+    fn make_room(&mut self, more: usize, awaited: usize) -> Result<(), Memory>
+        ensures { self.new ≡ self.old }
+    {
+        let missing = awaited.saturating_sub(self.len()).max(more);
+        self.move_to_spare(missing)?;
+        self.settle(missing)?;
+        self.reserve(missing)
     }
 
     /// Makes room for so many bytes behind those that are there.
@@ -219,9 +230,7 @@ impl PacketBytes for ReceiveBuffer {
         let mut rest = self.in_spare(alloc);
         rest.receive(&self.as_slice()[size..], 0)?;
         let taken = mem::replace(self, rest);
-        let mut part = Bytes::of(taken.block);
-        part.advance(taken.front + from);
-        part.cut(len);
-        Ok(part)
+        let front = taken.front + from;
+        Ok(Bytes::between(taken.block, front, front + len))
     }
 }

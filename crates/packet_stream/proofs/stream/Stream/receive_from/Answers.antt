@@ -1,10 +1,9 @@
-use Rattle.std.proofs.Common.{◌≡◌, ◌<◌, ◌++◌, length, take, ap, ◌∙◌, refl, arith, length-append, length-take}
+use Rattle.std.proofs.Common.{◌≡◌, take, ◌∙◌, arith}
 use Rattle.usb_base.proofs.Numbers.{AreBytes-take}
-use Rattle.packet_stream.specs.Format.{Short, reading}
 use Rattle.packet_stream.specs.Split.{reads}
 use Rattle.packet_stream.specs.Streams.{StreamView, after_piece}
 use Rattle.packet_stream.proofs.Laws.{reads_steady}
-use Rattle.packet_stream.proofs.Following.{follows-put, follows-short, after-going}
+use Rattle.packet_stream.proofs.Following.{follows-put, after-going}
 use Rattle.packet_stream.proofs.stream.Stream.receive_from.Goals as goal
 
 pub returns-then-count-gt0-clause-came : goal.returns-then-count-gt0-clause-came
@@ -18,18 +17,11 @@ returns-then-count-gt0-clause-came g c =
     let last = c.given_from.ensures in
     let new : StreamView g.row.F-State.Denot = record { state = own.state; rest = c.receive_from.new.self; place = own.place; held = c.given_from.result.bytes.value; at = c.given_from.result.place; over = own.over } in
     let held = last.bytes ∙ rest in
-    let stream : new ≡ after_piece c.args.self.now piece = after-going _ c.args.self.now new piece c.self.view_is c.if-self.false (λ t. record { state = own.state; rest = rest t; place = own.place; held = held t; at = last.place t; over = own.over }) in
-    let less : length (own.bytes ++ piece) < own.awaited = omega (arith, length-append own.bytes piece, length-take c.in_ok-count.count came.room, came.within, came.long, c.if-saturating_sub-limit.false, c.saturating_sub.ensures, c.len.ensures) in
-    let short : reading (g.F.PacketFormat.format own.state) c.receive_from.new.self ≡ Short = ap (reading (g.F.PacketFormat.format own.state)) rest ∙ c.self.invariant.2 piece less in
-    let again : new ≡ record new { held = new.rest; at = new.place } = λ t. record { state = own.state; rest = c.receive_from.new.self; place = own.place; held = last.bytes t; at = last.place t; over = own.over } in (
+    let stream : new ≡ after_piece c.args.self.now piece = after-going _ c.args.self.now new piece c.self.view_is c.if-self.false (λ t. record { state = own.state; rest = rest t; place = own.place; held = held t; at = last.place t; over = own.over }) in (
       came,
       record {
-        some = λ more. record {
-          stream = stream;
-          puts = λ start bytes given f. follows-put r steady start c.args.self.now new bytes piece given (AreBytes-take c.in_ok-count.count came.room came.bytes) stream f;
-          passed = again;
-          none = λ start bytes given f runs. follows-short r steady start new new new bytes given refl c.if-self.false short again f;
-        };
+        stream = λ more. stream;
+        puts = λ more start bytes given f. follows-put r steady start c.args.self.now new bytes piece given (AreBytes-take c.in_ok-count.count came.room came.bytes) stream f;
         nothing = λ none. absurd (omega (arith, none, c.if-count-gt0.true));
       },
     )

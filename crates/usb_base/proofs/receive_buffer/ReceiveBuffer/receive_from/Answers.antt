@@ -14,5 +14,5 @@ returns-clause-came g c =
       came,
       ap (λ (b : List ℕ). drop own.front (take (own.end + c.read_at-count.result) b)) (with_items_is longer now (omega (arith, c.read_at-count.auto.block, c.deref_mut.ensures.len)))
           ∙ put-on own.block.items now put own.front own.end c.read_at-count.result c.self.invariant.0 c.self.invariant.1 (c.read_at-count.ensures.1 ∙ ap (λ (b : List ℕ). b ++ put) (ap (take own.end) c.deref_mut.ensures.value ∙ same))
-          ∙ ap (λ (b : List ℕ). b ++ put) c.self.view_is,
+          ∙ ap (λ (b : List ℕ). b ++ put) (c.self.view_is ∙ c.make_room.ensures),
     )
