@@ -54,13 +54,14 @@ impl Served for Gateway {
         push_refusals(&notes, &mut sent.refusals)
     }
 
-    fn receive_from<I: Incoming>(
+    fn take_from<I: Incoming>(
         &mut self,
-        side: Side,
-        limit: usize,
-        incoming: &mut I,
-    ) -> Option<usize> {
-        self.gate.receive_from(side, limit, incoming)
+        _side: Side,
+        _limit: usize,
+        _incoming: &mut I,
+        _sent: &mut Sent,
+    ) -> Option<Result<(), Memory>> {
+        None
     }
 }
 

@@ -1,25 +1,21 @@
 -- What an event of a gate sends, by what its gate has gained.
-use Rattle.std.proofs.Common.{◌≡◌, ℕ, ◌||◌, Bool, false, List, [], ◌∷◌, ◌++◌, Option, Some, refl, sym, ap, subst, ◌∙◌}
+use Rattle.std.proofs.Common.{◌≡◌, ℕ, ◌||◌, Bool, false, List, ◌∷◌, ◌++◌, Option, Some, sym, ap, ◌∙◌}
 use Rattle.std.specs.List.{cons_option, flat_map, list_any}
 use Rattle.std.proofs.lemmas.Grind.{flat_map-append}
 use Rattle.usb_base.specs.declared.refusal.Refusal.{Refusal}
-use Rattle.usb_base.specs.declared.side.Side.{Side}
-use Rattle.usb_base.specs.declared.side.Side.TheVariants.{Client, Host}
 use Rattle.gate_history.specs.declared.note.Note.{Note}
 use Rattle.gate_history.specs.step.Events.{Event as GateEvent}
 use Rattle.gate_history.specs.Headline.{client_output, host_output, notes as told_notes, Gains}
 use Rattle.gate_core.specs.state.Kept.{GateKept}
-use Rattle.gate_core.specs.step.Stands.{GateStands, TakesEvent, piece_of}
+use Rattle.gate_core.specs.step.Stands.{TakesEvent}
 use Rattle.bridge_run.specs.declared.served.after_loss.AfterLoss.{AfterLoss}
 use Rattle.bridge_run.specs.declared.served.after_loss.AfterLoss.TheVariants.{Keep, Close}
-use Rattle.bridge_run.specs.declared.served.gate.Gateway.{Gateway}
 use Rattle.bridge_run.specs.declared.events.sent.Sent.{Sent}
-use Rattle.bridge_run.specs.events.Events.{LinkEvent, SidePiece}
+use Rattle.bridge_run.specs.events.Events.{LinkEvent}
 use Rattle.gate_history.specs.write.Refusals.{refusal_in}
 use Rattle.bridge_run.specs.served.Gate.{gate_event, gate_events, gate_notes, gate_sends, is_loss, lets_go}
 use Rattle.bridge_run.specs.events.Prescribed.{gained}
-use Rattle.bridge_run.specs.inner.Polling.{Stores}
-use Rattle.bridge_run.specs.inner.Sends.{SendsAll, nothing}
+use Rattle.bridge_run.specs.inner.Sends.{SendsAll}
 use Rattle.bridge_run.proofs.lemmas.served.Acts.{gained-is}
 
 -- of an output that has gained as much
@@ -48,15 +44,3 @@ gate-sends setting was first past e ge kept old client host refusals gone notes 
       lets_go = ap (λ (b : Bool). old.lets_go || b) (let-go setting was first past e notes gone told_is keep close same);
       grows = refused ∙ ap (λ (l : List Refusal). p.refusals past ++ l) (sym refused_is);
     }
-
-piece-is : (side : Side) (piece : List ℕ) → gate_event (SidePiece side piece) ≡ Some (piece_of side piece)
-piece-is Client piece = refl
-piece-is Host piece = refl
-
--- a piece that the gate has taken straight from a link
-pub gate-stores : (setting : AfterLoss) (first : ℕ) (past : List LinkEvent) (side : Side) (piece : List ℕ) (new : Gateway) → new.after_loss ≡ setting → TakesEvent first new.gate (gate_events past) (piece_of side piece) [] [] [] [] []
-    → Stores (λ (gateway : Gateway) (events : List LinkEvent). (gateway.after_loss ≡ setting) × GateStands first gateway.gate (gate_events events)) (gate_sends setting first) new past side piece
-gate-stores setting first past side piece new same t = record {
-  stands_for = (same, subst (GateStands first new.gate) (sym (ap (λ (o : Option GateEvent). cons_option o (gate_events past)) (piece-is side piece))) t.stands);
-  sends = gate-sends setting new.after_loss first past (SidePiece side piece) (piece_of side piece) new.gate nothing [] [] [] false [] (piece-is side piece) t refl (λ _. refl) (λ _. refl) same;
-}
