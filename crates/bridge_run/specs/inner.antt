@@ -2,6 +2,7 @@
 pub mod Sends
 pub mod Taking
 pub mod Coming
+pub mod Gated
 pub mod Polling
 pub mod Recording
 pub mod Links

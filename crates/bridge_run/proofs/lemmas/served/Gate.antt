@@ -1,5 +1,6 @@
 -- What an event of a gate sends, by what its gate has gained.
-use Rattle.std.proofs.Common.{◌≡◌, ℕ, ◌||◌, Bool, false, List, ◌∷◌, ◌++◌, Option, Some, sym, ap, ◌∙◌}
+use Rattle.std.proofs.Common.{◌≡◌, ℕ, ◌||◌, Bool, false, List, ◌∷◌, ◌++◌, Option, Some, Result, Ok, Err, sym, ap, subst, refl, ◌∙◌}
+use Rattle.std.specs.Result.{IfOk, OnErr}
 use Rattle.std.specs.List.{cons_option, flat_map, list_any}
 use Rattle.std.proofs.lemmas.Grind.{flat_map-append}
 use Rattle.usb_base.specs.declared.refusal.Refusal.{Refusal}
@@ -7,7 +8,7 @@ use Rattle.gate_history.specs.declared.note.Note.{Note}
 use Rattle.gate_history.specs.step.Events.{Event as GateEvent}
 use Rattle.gate_history.specs.Headline.{client_output, host_output, notes as told_notes, Gains}
 use Rattle.gate_core.specs.state.Kept.{GateKept}
-use Rattle.gate_core.specs.step.Stands.{TakesEvent}
+use Rattle.gate_core.specs.step.Stands.{GateStands, TakesEvent, StopsInEvent}
 use Rattle.bridge_run.specs.declared.served.after_loss.AfterLoss.{AfterLoss}
 use Rattle.bridge_run.specs.declared.served.after_loss.AfterLoss.TheVariants.{Keep, Close}
 use Rattle.bridge_run.specs.declared.events.sent.Sent.{Sent}
@@ -15,6 +16,8 @@ use Rattle.bridge_run.specs.events.Events.{LinkEvent}
 use Rattle.gate_history.specs.write.Refusals.{refusal_in}
 use Rattle.bridge_run.specs.served.Gate.{gate_event, gate_events, gate_notes, gate_sends, is_loss, lets_go}
 use Rattle.bridge_run.specs.events.Prescribed.{gained}
+use Rattle.bridge_run.specs.inner.Gated.{GateTakes}
+use Rattle.bridge_run.specs.inner.Taking.{TakesAll}
 use Rattle.bridge_run.specs.inner.Sends.{SendsAll}
 use Rattle.bridge_run.proofs.lemmas.served.Acts.{gained-is}
 
@@ -44,3 +47,20 @@ gate-sends setting was first past e ge kept old client host refusals gone notes 
       lets_go = ap (λ (b : Bool). old.lets_go || b) (let-go setting was first past e notes gone told_is keep close same);
       grows = refused ∙ ap (λ (l : List Refusal). p.refusals past ++ l) (sym refused_is);
     }
+
+-- and the gate stands for it
+pub gate-takes : (setting : AfterLoss) (first : ℕ) (past : List LinkEvent) (e : LinkEvent) (ge : GateEvent) (kept : GateKept) (old : Sent) (client host : List ℕ) (refusals : List Refusal) (gone : Bool) (notes : List Note)
+    → gate_event e ≡ Some ge → TakesEvent first kept (gate_events past) ge old.to_client client old.to_host host notes → refusals ≡ old.refusals ++ flat_map refusal_in notes → (setting ≡ Keep → gone ≡ false) → (setting ≡ Close → gone ≡ list_any is_loss notes)
+    → TakesAll (λ events. GateStands first kept (gate_events events)) (gate_sends setting first) past e old (record { to_client = client; to_host = host; refusals = refusals; lets_go = old.lets_go || gone })
+gate-takes setting first past e ge kept old client host refusals gone notes is t pushed keep close = record {
+  stands_for = subst (GateStands first kept) (sym (ap (λ (o : Option GateEvent). cons_option o (gate_events past)) is)) t.stands;
+  sends = gate-sends setting setting first past e ge kept old client host refusals gone notes is t pushed keep close refl;
+}
+
+-- whether all of an event was taken or not
+pub taken-by : {E : Type 0} (kept now : GateKept) (e : GateEvent) (client client' host host' : List ℕ) (taken : Result (List Note) E)
+    → IfOk taken (λ notes. (first : ℕ) (past : List GateEvent) → GateStands first kept past → TakesEvent first now past e client client' host host' notes)
+    → OnErr taken ((first : ℕ) (past : List GateEvent) → GateStands first kept past → StopsInEvent first now past e client client' host host')
+    → (first : ℕ) (past : List GateEvent) → GateStands first kept past → GateTakes taken first now past e client client' host host'
+taken-by kept now e client client' host host' (Ok notes) takes stops first past at = takes first past at
+taken-by kept now e client client' host host' (Err x) takes stops first past at = stops first past at
