@@ -64,7 +64,7 @@ impl<C: Served + Drop> Session<C> {
         }
     }
 
-    /// Has the event taken, and keeps what that sends.
+    /// Has the event taken, and keeps what that sends, and the lines of its refusals.
     fn prepare(&mut self, coming: Coming) -> Result<(), Memory>
         ensures stands { OnOk result ((first : C.First) (piece : List ℕ) (past : List PastEvent) → StandsAt (C.stands first) (C.runs_out first) (C.sends first) piece coming.entry self.old.core self.old.sent past → C.stands first self.new.core (event_with piece coming.entry ∷ past)) }
         ensures prepared { OnOk result ((first : C.First) (piece : List ℕ) (past : List PastEvent) → StandsAt (C.stands first) (C.runs_out first) (C.sends first) piece coming.entry self.old.core self.old.sent past → Prepared (C.sends first) past (event_with piece coming.entry) self.new.sent self.new.lines) }
@@ -79,7 +79,7 @@ impl<C: Served + Drop> Session<C> {
         self.sent.push_lines(self.alloc, &mut self.lines)
     }
 
-    /// Has the event taken, where it still is to be.
+    /// Has the event taken, unless what is served has taken it as it came: then what that sends is kept already.
     fn take(&mut self, coming: Coming) -> Result<(), Memory>
         ensures stands { OnOk result ((first : C.First) (piece : List ℕ) (past : List PastEvent) → StandsAt (C.stands first) (C.runs_out first) (C.sends first) piece coming.entry self.old.core self.old.sent past → C.stands first self.new.core (event_with piece coming.entry ∷ past)) }
         ensures sends { OnOk result ((first : C.First) (piece : List ℕ) (past : List PastEvent) → StandsAt (C.stands first) (C.runs_out first) (C.sends first) piece coming.entry self.old.core self.old.sent past → SendsAll (C.sends first) past (event_with piece coming.entry) nothing self.new.sent) }
@@ -225,12 +225,8 @@ impl<C: Served + Drop> Session<C> {
         if !ends_next(coming, dropped) {
             return self.rounds.settle();
         }
-        self.put(
-            Coming::Event(LinkEvent::SideEnd(Side::Client)),
-            doors,
-            out,
-            tape,
-        )?;
+        let end = LinkEvent::SideEnd(Side::Client);
+        self.put(Coming::Event(end), doors, out, tape)?;
         self.rounds.settle()
     }
 
@@ -326,25 +322,17 @@ impl<C: Served + Drop> Session<C> {
             return Ok(());
         }
         self.sent.clear();
-        let came = poll(
-            &mut self.core,
-            side,
-            buf,
-            doors,
-            tape.is_made(),
-            &mut self.sent,
-        );
+        let taped = tape.is_made();
+        let came = poll(&mut self.core, side, buf, doors, taped, &mut self.sent);
         match came.polled {
             Polled::Took(n) => {
                 self.rounds.take(n);
                 match came.taken {
                     Some(taken) => self.happen(Coming::Taken(side, taken), doors, out, tape),
-                    None => self.happen(
-                        Coming::Event(LinkEvent::SidePiece(side, &buf[..n])),
-                        doors,
-                        out,
-                        tape,
-                    ),
+                    None => {
+                        let event = LinkEvent::SidePiece(side, &buf[..n]);
+                        self.happen(Coming::Event(event), doors, out, tape)
+                    }
                 }
             }
             Polled::NotYet => self.be_quiet(side, doors, out, tape),

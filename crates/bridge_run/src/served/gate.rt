@@ -67,7 +67,8 @@ impl Served for Gateway {
 }
 
 impl Gateway {
-    /// Whether the client is let go behind an event, and which sides that refuses, where these are the gate's notes of it.
+    /// Adds to what is sent which sides an event refuses, and whether it lets the client go, as the gate's notes of it
+    /// tell. Where memory ran out within the event nothing is added.
     fn tell(&self, taken: Result<Notes, Memory>, sent: &mut Sent) -> Result<(), Memory>
         ensures takes { OnOk result ((first : ℕ) (past : List PastEvent) (e : PastEvent) (told : Told) (client host : List ℕ) → gate_event e ≡ Some told
             → GateTakes taken first self.now.gate (gate_events past) told client sent.old.to_client host sent.old.to_host
