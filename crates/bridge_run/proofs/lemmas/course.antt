@@ -5,6 +5,6 @@ pub mod Asked
 pub mod Open
 pub mod Idle
 pub mod Settle
-pub mod Stored
 pub mod Rest
 pub mod Examples
+pub mod Taken

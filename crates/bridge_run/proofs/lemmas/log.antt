@@ -7,4 +7,4 @@ pub mod Resting
 pub mod Rounds
 pub mod Opening
 pub mod Shared
-pub mod Stored
+pub mod Taken

@@ -1,12 +1,13 @@
 //! Polling a side's link.
 
-ghost use Rattle.std.specs.Prelude.{◌≡◌, ℕ, List, length, IsTrue};
+ghost use Rattle.std.specs.Prelude.{◌≡◌, ℕ, List, [], length, IsTrue};
 ghost use Rattle.bridge_run.specs.declared.course.polling.TheConstants.{POLL_LIMIT as LIMIT};
 ghost use Rattle.bridge_run.specs.inner.Polling.{IsPolled, Brings};
 
+use crate::events::sent::Sent;
 use crate::served::any::Served;
 use gate_outside::{Doors, Polled, Side};
-use usb_base::Incoming;
+use usb_base::{Incoming, Memory};
 
 /// How many bytes a poll takes at most.
 pub const POLL_LIMIT: usize = 65_536;
@@ -15,36 +16,38 @@ pub const POLL_LIMIT: usize = 65_536;
 #[derive(Clone, Copy)]
 pub struct Came {
     pub polled: Polled,
-    /// What is served has taken the bytes: they stand in no buffer.
-    pub stored: bool,
+    /// What became of the bytes where what is served has taken them: then they stand in no buffer.
+    pub taken: Option<Result<(), Memory>>,
 }
 
-/// Polls the side's link: straight into the memory of what is served, where nothing is recorded and that would only
-/// keep the bytes; else into the buffer.
+/// Polls the side's link. Where nothing is recorded, what is served takes the bytes as they come, straight into its
+/// memory, and what that sends is put to `sent`; else, or where it can't, they come into the buffer.
 pub fn poll<C: Served, D: Doors>(
     core: &mut C,
     side: Side,
     buf: &mut [u8],
     doors: &mut D,
     taped: bool,
+    sent: &mut Sent,
 ) -> Came
+    requires sent { sent.old.to_client ≡ [] }
     requires up { IsTrue (D.link doors.old side).up }
     requires room { length buf.old ≡ LIMIT }
     ensures { (room : List ℕ) × IsPolled D.link D.door D.call_gives side LIMIT result.polled room doors.old doors.new
-        × Brings C.stands C.sends side taped result.polled result.stored room buf.new core.old core.new }
+        × Brings C.stands C.runs_out C.sends side taped result.polled result.taken room buf.new core.old core.new sent.old sent.new }
 {
     if !taped {
         let mut link = LinkReader::new(doors, side);
-        if let Some(_) = core.receive_from(side, POLL_LIMIT, &mut link) {
+        if let Some(taken) = core.take_from(side, POLL_LIMIT, &mut link, sent) {
             return Came {
                 polled: link.polled,
-                stored: true,
+                taken: Some(taken),
             };
         }
     }
     Came {
         polled: doors.poll(side, buf),
-        stored: false,
+        taken: None,
     }
 }
 

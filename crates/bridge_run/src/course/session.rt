@@ -1,7 +1,8 @@
 //! Serving, once both sides can come.
 
 ghost use Rattle.std.specs.Prelude.{◌≡◌, ℕ, ◌<◌, ◌||◌, List, [], ◌∷◌, not, true, false, Option, OnOk, OnErr, IfOk, IfErr, length};
-ghost use Rattle.bridge_run.specs.events.Events.{LinkEvent as PastEvent, event_of, is_quiet};
+ghost use Rattle.bridge_run.specs.events.Events.{LinkEvent as PastEvent, is_quiet};
+ghost use Rattle.bridge_run.specs.inner.Coming.{CanRecord, StandsAt, event_with};
 ghost use Rattle.bridge_run.specs.course.Course.{Course, Next, AtDoor, AtClient, Takes};
 ghost use Rattle.bridge_run.specs.course.Calls.{Goes, put, quiet};
 ghost use Rattle.bridge_run.specs.declared.course.polling.TheConstants.{POLL_LIMIT};
@@ -13,7 +14,7 @@ ghost use Rattle.bridge_run.specs.inner.Follows.{Prepared, IsServing, HasFaults,
 ghost use Rattle.bridge_run.specs.log.Asks.{Ask};
 ghost use Rattle.bridge_run.specs.log.Log.{Terms, Told, Logged};
 ghost use Rattle.bridge_run.specs.inner.Logging.{IsTaking, IsResting, IsAsking, PutLogs, HappenLogs, Logs};
-ghost use Rattle.bridge_run.specs.inner.Sends.{IsPart};
+ghost use Rattle.bridge_run.specs.inner.Sends.{IsPart, SendsAll, SendsPart, nothing};
 ghost use Rattle.bridge_run.specs.inner.Stopping.{AreUp, IsStopping, StopLogs};
 ghost use Rattle.bridge_run.specs.inner.Idling.{NotIdle, IdledOnce, EndsWithin, RoundIdles};
 ghost use Rattle.usb_base.specs.declared.side.Side.TheVariants.{Client, Host};
@@ -22,11 +23,12 @@ ghost use Rattle.gate_outside.specs.Link.{other};
 use crate::course::polling::poll;
 use crate::course::rounds::Rounds;
 use crate::course::serve_end::ServeEnd;
-use crate::events::event::{LinkEvent, ends_next};
+use crate::events::coming::{Coming, ends_next};
+use crate::events::event::LinkEvent;
 use crate::events::sent::Sent;
 use crate::served::any::Served;
 use crate::written::link::{close_link, write_link};
-use crate::written::recording::{record_event, write_waiting};
+use crate::written::recording::{record_coming, write_waiting};
 use gate_outside::{Doors, Polled, Side, Sink, write_all};
 use session_tape::Tape;
 use std::alloc::Global;
@@ -62,20 +64,38 @@ impl<C: Served + Drop> Session<C> {
         }
     }
 
-    /// Has the event taken, and keeps what that sends.
-    fn prepare(&mut self, event: LinkEvent) -> Result<(), Memory>
-        ensures stands { OnOk result ((first : C.First) (past : List PastEvent) → C.stands first self.old.core past → C.stands first self.new.core (event_of event.entry ∷ past)) }
-        ensures prepared { OnOk result ((first : C.First) (past : List PastEvent) → C.stands first self.old.core past → Prepared (C.sends first) past (event_of event.entry) self.new.sent self.new.lines) }
-        ensures stops { OnErr result ((first : C.First) (past : List PastEvent) → C.stands first self.old.core past → IsPart (C.runs_out first) (C.sends first) past (event_of event.entry) self.new.sent.to_client self.new.sent.to_host) }
-        ensures quiet { OnOk result (is_quiet (event_of event.entry) ≡ true → self.new.sent.refusals ≡ []) }
-        ensures stays { OnOk result (is_quiet (event_of event.entry) ≡ true → self.new.sent.lets_go ≡ false) }
+    /// Has the event taken, and keeps what that sends, and the lines of its refusals.
+    fn prepare(&mut self, coming: Coming) -> Result<(), Memory>
+        ensures stands { OnOk result ((first : C.First) (piece : List ℕ) (past : List PastEvent) → StandsAt (C.stands first) (C.runs_out first) (C.sends first) piece coming.entry self.old.core self.old.sent past → C.stands first self.new.core (event_with piece coming.entry ∷ past)) }
+        ensures prepared { OnOk result ((first : C.First) (piece : List ℕ) (past : List PastEvent) → StandsAt (C.stands first) (C.runs_out first) (C.sends first) piece coming.entry self.old.core self.old.sent past → Prepared (C.sends first) past (event_with piece coming.entry) self.new.sent self.new.lines) }
+        ensures stops { OnErr result ((first : C.First) (piece : List ℕ) (past : List PastEvent) → StandsAt (C.stands first) (C.runs_out first) (C.sends first) piece coming.entry self.old.core self.old.sent past → IsPart (C.runs_out first) (C.sends first) past (event_with piece coming.entry) self.new.sent.to_client self.new.sent.to_host) }
+        ensures quiet { OnOk result (is_quiet (event_with [] coming.entry) ≡ true → self.new.sent.refusals ≡ []) }
+        ensures stays { OnOk result (is_quiet (event_with [] coming.entry) ≡ true → self.new.sent.lets_go ≡ false) }
         ensures rounds { self.new.rounds ≡ self.old.rounds }
         ensures waiting { self.new.waiting ≡ self.old.waiting }
     {
-        self.sent.clear();
+        self.take(coming)?;
         self.lines.clear();
-        self.core.take(event, &mut self.sent)?;
         self.sent.push_lines(self.alloc, &mut self.lines)
+    }
+
+    /// Has the event taken, unless what is served has taken it as it came: then what that sends is kept already.
+    fn take(&mut self, coming: Coming) -> Result<(), Memory>
+        ensures stands { OnOk result ((first : C.First) (piece : List ℕ) (past : List PastEvent) → StandsAt (C.stands first) (C.runs_out first) (C.sends first) piece coming.entry self.old.core self.old.sent past → C.stands first self.new.core (event_with piece coming.entry ∷ past)) }
+        ensures sends { OnOk result ((first : C.First) (piece : List ℕ) (past : List PastEvent) → StandsAt (C.stands first) (C.runs_out first) (C.sends first) piece coming.entry self.old.core self.old.sent past → SendsAll (C.sends first) past (event_with piece coming.entry) nothing self.new.sent) }
+        ensures stops { OnErr result ((first : C.First) (piece : List ℕ) (past : List PastEvent) → StandsAt (C.stands first) (C.runs_out first) (C.sends first) piece coming.entry self.old.core self.old.sent past → SendsPart (C.runs_out first) (C.sends first) past (event_with piece coming.entry) nothing self.new.sent) }
+        ensures quiet { OnOk result (is_quiet (event_with [] coming.entry) ≡ true → self.new.sent.refusals ≡ []) }
+        ensures stays { OnOk result (is_quiet (event_with [] coming.entry) ≡ true → self.new.sent.lets_go ≡ false) }
+        ensures rounds { self.new.rounds ≡ self.old.rounds }
+        ensures waiting { self.new.waiting ≡ self.old.waiting }
+    {
+        match coming {
+            Coming::Event(event) => {
+                self.sent.clear();
+                self.core.take(event, &mut self.sent)
+            }
+            Coming::Taken(_, taken) => taken,
+        }
     }
 
     /// Whether the event's lines don't wait: it sends anything, or no more may come.
@@ -87,13 +107,14 @@ impl<C: Served + Drop> Session<C> {
 
     /// Memory ran out as the event was taken. If it had sent bytes by then, its line is recorded, behind those that
     /// wait, and they are written to each side whose link is up. None of its refusals is told. Says how serving ends.
-    fn stop<D: Doors, T: Tape>(&mut self, event: LinkEvent, doors: &mut D, tape: &mut T) -> ServeEnd
-        requires { Agrees self.old.rounds (outside (D.link doors.old) (D.door doors.old)) }
-        ensures course { (first : C.First) (begun told : Option (List ℕ)) (c : Course) → IsPart (C.runs_out first) (C.sends first) c.events (event_of event.entry) self.old.sent.to_client self.old.sent.to_host → AreUp self.old.rounds c
+    fn stop<D: Doors, T: Tape>(&mut self, coming: Coming, doors: &mut D, tape: &mut T) -> ServeEnd
+        requires agrees { Agrees self.old.rounds (outside (D.link doors.old) (D.door doors.old)) }
+        requires records { CanRecord coming (T.made tape.old) (T.contents tape.old) }
+        ensures course { (first : C.First) (piece : List ℕ) (begun told : Option (List ℕ)) (c : Course) → IsPart (C.runs_out first) (C.sends first) c.events (event_with piece coming.entry) self.old.sent.to_client self.old.sent.to_host → AreUp self.old.rounds c
             → Tells (outside (D.link doors.old) (D.door doors.old)) (gathering begun told (T.contents tape.old) self.old.waiting) c
-            → Cut (MayRunOut result (C.runs_out first) (C.sends first)) (outside (D.link doors.new) (D.door doors.new)) (gathering begun told (T.contents tape.new) self.new.waiting) c (put (C.sends first) (event_of event.entry) c) }
-        ensures log { (first : C.First) (terms : Terms) (events : List PastEvent) (begun : D) → terms.taped ≡ T.made tape.old → IsPart (C.runs_out first) (C.sends first) events (event_of event.entry) self.old.sent.to_client self.old.sent.to_host
-            → IsStopping D.call_gives terms (C.sends first) (event_of event.entry) events self.old.rounds begun doors.old → StopLogs result D.call_gives (C.runs_out first) terms (C.sends first) (event_of event.entry) events begun doors.new }
+            → Cut (MayRunOut result (C.runs_out first) (C.sends first)) (outside (D.link doors.new) (D.door doors.new)) (gathering begun told (T.contents tape.new) self.new.waiting) c (put (C.sends first) (event_with piece coming.entry) c) }
+        ensures log { (first : C.First) (piece : List ℕ) (terms : Terms) (events : List PastEvent) (begun : D) → terms.taped ≡ T.made tape.old → IsPart (C.runs_out first) (C.sends first) events (event_with piece coming.entry) self.old.sent.to_client self.old.sent.to_host
+            → IsStopping D.call_gives terms (C.sends first) (event_with piece coming.entry) events self.old.rounds begun doors.old → StopLogs result D.call_gives (C.runs_out first) terms (C.sends first) (event_with piece coming.entry) events begun doors.new }
         ensures faults { (sink : ℕ) → HasCause result (outside (D.link doors.old) (D.door doors.old)) (outside (D.link doors.new) (D.door doors.new)) (faults sink (T.counts tape.old)) (faults sink (T.counts tape.new)) }
         ensures cut { IsCutEnd result }
         ensures rounds { self.new.rounds ≡ self.old.rounds }
@@ -104,9 +125,9 @@ impl<C: Served + Drop> Session<C> {
         }
         self.sent.refusals.clear();
         let due = true;
-        if let Err(end) = record_event(
+        if let Err(end) = record_coming(
             self.alloc,
-            event,
+            coming,
             &self.sent,
             due,
             &mut self.waiting,
@@ -130,30 +151,31 @@ impl<C: Served + Drop> Session<C> {
     /// Says whether the client's link was closed. For want of memory it ends as `stop` says.
     fn put<D: Doors, K: Sink, T: Tape>(
         &mut self,
-        event: LinkEvent,
+        coming: Coming,
         doors: &mut D,
         out: &mut K,
         tape: &mut T,
     ) -> Result<bool, ServeEnd>
-        requires { Agrees self.old.rounds (outside (D.link doors.old) (D.door doors.old)) }
-        ensures course { (first : C.First) (begun : Option (List ℕ)) (c : Course) → IsServing (C.stands first self.old.core) (C.sends first) self.old.rounds (outside (D.link doors.old) (D.door doors.old)) (gathering begun (K.contents out.old) (T.contents tape.old) self.old.waiting) c
-            → Puts result (C.stands first self.new.core) (C.runs_out first) (C.sends first) (event_of event.entry) self.new.rounds (outside (D.link doors.new) (D.door doors.new)) (gathering begun (K.contents out.new) (T.contents tape.new) self.new.waiting) c }
-        ensures log { (first : C.First) (terms : Terms) (asks : List Ask) (begun : D) (begun_out : K) → terms.taped ≡ T.made tape.old → IsTaking D.call_gives (C.stands first self.old.core) (Told K.write_gives begun_out out.old) terms (C.sends first) asks (event_of event.entry) self.old.rounds begun doors.old
-            → PutLogs result D.call_gives (C.stands first self.new.core) (C.runs_out first) (Told K.write_gives begun_out out.new) terms (C.sends first) asks (event_of event.entry) self.new.rounds begun doors.new }
+        requires agrees { Agrees self.old.rounds (outside (D.link doors.old) (D.door doors.old)) }
+        requires records { CanRecord coming (T.made tape.old) (T.contents tape.old) }
+        ensures course { (first : C.First) (piece : List ℕ) (begun : Option (List ℕ)) (c : Course) → IsServing (StandsAt (C.stands first) (C.runs_out first) (C.sends first) piece coming.entry self.old.core self.old.sent) (C.sends first) self.old.rounds (outside (D.link doors.old) (D.door doors.old)) (gathering begun (K.contents out.old) (T.contents tape.old) self.old.waiting) c
+            → Puts result (C.stands first self.new.core) (C.runs_out first) (C.sends first) (event_with piece coming.entry) self.new.rounds (outside (D.link doors.new) (D.door doors.new)) (gathering begun (K.contents out.new) (T.contents tape.new) self.new.waiting) c }
+        ensures log { (first : C.First) (piece : List ℕ) (terms : Terms) (asks : List Ask) (begun : D) (begun_out : K) → terms.taped ≡ T.made tape.old → IsTaking D.call_gives (StandsAt (C.stands first) (C.runs_out first) (C.sends first) piece coming.entry self.old.core self.old.sent) (Told K.write_gives begun_out out.old) terms (C.sends first) asks (event_with piece coming.entry) self.old.rounds begun doors.old
+            → PutLogs result D.call_gives (C.stands first self.new.core) (C.runs_out first) (Told K.write_gives begun_out out.new) terms (C.sends first) asks (event_with piece coming.entry) self.new.rounds begun doors.new }
         ensures faults { HasFaults result (outside (D.link doors.old) (D.door doors.old)) (outside (D.link doors.new) (D.door doors.new)) (faults (K.faults out.old) (T.counts tape.old)) (faults (K.faults out.new) (T.counts tape.new)) }
         ensures cut { IfErr result IsCutEnd }
         ensures agrees { OnOk result (Agrees self.new.rounds (outside (D.link doors.new) (D.door doors.new))) }
         ensures wears { Wears self.old.rounds self.new.rounds }
         ensures made { T.made tape.new ≡ T.made tape.old }
         ensures left { self.new.rounds.left ≡ self.old.rounds.left }
-        ensures quiet { IfOk result (λ dropped. is_quiet (event_of event.entry) ≡ true → (dropped ≡ false) × (self.new.rounds ≡ self.old.rounds)) }
+        ensures quiet { IfOk result (λ dropped. is_quiet (event_with [] coming.entry) ≡ true → (dropped ≡ false) × (self.new.rounds ≡ self.old.rounds)) }
         ensures idles { OnOk result (NotIdle (outside (D.link doors.old) (D.door doors.old)) (outside (D.link doors.new) (D.door doors.new))) }
     {
-        if let Err(_) = self.prepare(event) {
-            return Err(self.stop(event, doors, tape));
+        if let Err(_) = self.prepare(coming) {
+            return Err(self.stop(coming, doors, tape));
         }
         let due = self.is_due();
-        record_event(self.alloc, event, &self.sent, due, &mut self.waiting, tape)?;
+        record_coming(self.alloc, coming, &self.sent, due, &mut self.waiting, tape)?;
         let Rounds {
             client_up,
             host_up,
@@ -179,30 +201,32 @@ impl<C: Served + Drop> Session<C> {
     /// Takes an event, and behind it the end of a client that it refuses or lets go.
     fn happen<D: Doors, K: Sink, T: Tape>(
         &mut self,
-        event: LinkEvent,
+        coming: Coming,
         doors: &mut D,
         out: &mut K,
         tape: &mut T,
     ) -> Result<(), ServeEnd>
-        requires { Agrees self.old.rounds (outside (D.link doors.old) (D.door doors.old)) }
-        ensures course { (first : C.First) (begun : Option (List ℕ)) (next : Next) (c : Course) → IsServing (C.stands first self.old.core) (C.sends first) self.old.rounds (outside (D.link doors.old) (D.door doors.old)) (gathering begun (K.contents out.old) (T.contents tape.old) self.old.waiting) c
-            → RunsOn result (C.stands first self.new.core) (C.runs_out first) (setting (C.sends first) self.old.rounds) self.new.rounds (outside (D.link doors.new) (D.door doors.new)) (gathering begun (K.contents out.new) (T.contents tape.new) self.new.waiting) (Goes (Takes (event_of event.entry) next) c) next }
-        ensures log { (first : C.First) (terms : Terms) (asks : List Ask) (begun : D) (begun_out : K) → terms.taped ≡ T.made tape.old → IsTaking D.call_gives (C.stands first self.old.core) (Told K.write_gives begun_out out.old) terms (C.sends first) asks (event_of event.entry) self.old.rounds begun doors.old
+        requires agrees { Agrees self.old.rounds (outside (D.link doors.old) (D.door doors.old)) }
+        requires records { CanRecord coming (T.made tape.old) (T.contents tape.old) }
+        ensures course { (first : C.First) (piece : List ℕ) (begun : Option (List ℕ)) (next : Next) (c : Course) → IsServing (StandsAt (C.stands first) (C.runs_out first) (C.sends first) piece coming.entry self.old.core self.old.sent) (C.sends first) self.old.rounds (outside (D.link doors.old) (D.door doors.old)) (gathering begun (K.contents out.old) (T.contents tape.old) self.old.waiting) c
+            → RunsOn result (C.stands first self.new.core) (C.runs_out first) (setting (C.sends first) self.old.rounds) self.new.rounds (outside (D.link doors.new) (D.door doors.new)) (gathering begun (K.contents out.new) (T.contents tape.new) self.new.waiting) (Goes (Takes (event_with piece coming.entry) next) c) next }
+        ensures log { (first : C.First) (piece : List ℕ) (terms : Terms) (asks : List Ask) (begun : D) (begun_out : K) → terms.taped ≡ T.made tape.old → IsTaking D.call_gives (StandsAt (C.stands first) (C.runs_out first) (C.sends first) piece coming.entry self.old.core self.old.sent) (Told K.write_gives begun_out out.old) terms (C.sends first) asks (event_with piece coming.entry) self.old.rounds begun doors.old
             → HappenLogs result D.call_gives (C.stands first self.new.core) (C.runs_out first) (Told K.write_gives begun_out out.new) terms (C.sends first) asks self.new.rounds begun doors.new }
         ensures faults { HasFaults result (outside (D.link doors.old) (D.door doors.old)) (outside (D.link doors.new) (D.door doors.new)) (faults (K.faults out.old) (T.counts tape.old)) (faults (K.faults out.new) (T.counts tape.new)) }
         ensures agrees { OnOk result (Agrees self.new.rounds (outside (D.link doors.new) (D.door doors.new))) }
         ensures wears { Wears self.old.rounds self.new.rounds }
         ensures made { T.made tape.new ≡ T.made tape.old }
         ensures left { OnOk result (0 < self.new.rounds.left) }
-        ensures quiet { OnOk result (is_quiet (event_of event.entry) ≡ true → self.new.rounds ≡ self.old.rounds) }
+        ensures quiet { OnOk result (is_quiet (event_with [] coming.entry) ≡ true → self.new.rounds ≡ self.old.rounds) }
         ensures idles { OnOk result (NotIdle (outside (D.link doors.old) (D.door doors.old)) (outside (D.link doors.new) (D.door doors.new))) }
         ensures within { EndsWithin result (outside (D.link doors.new) (D.door doors.new)) }
     {
-        let dropped = self.put(event, doors, out, tape)?;
-        if !ends_next(event, dropped) {
+        let dropped = self.put(coming, doors, out, tape)?;
+        if !ends_next(coming, dropped) {
             return self.rounds.settle();
         }
-        self.put(LinkEvent::SideEnd(Side::Client), doors, out, tape)?;
+        let end = LinkEvent::SideEnd(Side::Client);
+        self.put(Coming::Event(end), doors, out, tape)?;
         self.rounds.settle()
     }
 
@@ -234,7 +258,7 @@ impl<C: Served + Drop> Session<C> {
         match doors.accept() {
             Ok(true) => {
                 self.rounds.come();
-                self.happen(LinkEvent::ClientComes, doors, out, tape)
+                self.happen(Coming::Event(LinkEvent::ClientComes), doors, out, tape)
             }
             Ok(false) => Ok(()),
             Err(_) => Err(ServeEnd::LinkFault(Side::Client)),
@@ -264,7 +288,7 @@ impl<C: Served + Drop> Session<C> {
         ensures within { EndsWithin result (outside (D.link doors.new) (D.door doors.new)) }
     {
         match side {
-            Side::Client => self.happen(LinkEvent::ClientQuiet, doors, out, tape),
+            Side::Client => self.happen(Coming::Event(LinkEvent::ClientQuiet), doors, out, tape),
             Side::Host => Ok(()),
         }
     }
@@ -297,19 +321,24 @@ impl<C: Served + Drop> Session<C> {
         if !self.rounds.is_up(side) {
             return Ok(());
         }
-        let came = poll(&mut self.core, side, buf, doors, tape.is_made());
+        self.sent.clear();
+        let taped = tape.is_made();
+        let came = poll(&mut self.core, side, buf, doors, taped, &mut self.sent);
         match came.polled {
             Polled::Took(n) => {
                 self.rounds.take(n);
-                if came.stored {
-                    return self.rounds.settle();
+                match came.taken {
+                    Some(taken) => self.happen(Coming::Taken(side, taken), doors, out, tape),
+                    None => {
+                        let event = LinkEvent::SidePiece(side, &buf[..n]);
+                        self.happen(Coming::Event(event), doors, out, tape)
+                    }
                 }
-                self.happen(LinkEvent::SidePiece(side, &buf[..n]), doors, out, tape)
             }
             Polled::NotYet => self.be_quiet(side, doors, out, tape),
             Polled::Ended => {
                 self.rounds.end(side);
-                self.happen(LinkEvent::SideEnd(side), doors, out, tape)
+                self.happen(Coming::Event(LinkEvent::SideEnd(side)), doors, out, tape)
             }
             Polled::Failed => Err(ServeEnd::LinkFault(side)),
         }

@@ -1,10 +1,10 @@
 //! Whatever is served, as the course of serving uses it.
 
-ghost use Rattle.std.specs.Prelude.{◌≡◌, ◌<◌, ℕ, Bool, List, [], ◌∷◌, take, OnOk, OnErr, IfSome, IsNone, true};
+ghost use Rattle.std.specs.Prelude.{◌≡◌, ℕ, Bool, List, [], ◌∷◌, OnOk, OnErr, IfSome, IsNone, true};
 ghost use Rattle.usb_base.specs.Incoming.{HasCome};
 ghost use Rattle.bridge_run.specs.events.Events.{LinkEvent as PastEvent, event_of, is_quiet};
-ghost use Rattle.bridge_run.specs.inner.Polling.{Stores};
 ghost use Rattle.bridge_run.specs.inner.Sends.{SendsAll, SendsPart};
+ghost use Rattle.bridge_run.specs.inner.Taking.{TakesCome};
 
 use crate::events::event::LinkEvent;
 use crate::events::sent::Sent;
@@ -42,17 +42,18 @@ pub trait Served {
         ensures stays { OnOk result (is_quiet (event_of event.entry) ≡ true → sent.new.lets_go ≡ sent.old.lets_go) }
         ensures wants { OnErr result (takes_memory (event_of event.entry) ≡ true) };
 
-    /// Has the next bytes of a side come straight into its memory, at most `limit` of them, where it would only keep
-    /// them: an event that sends nothing. It says how many came. `None` where it can't: nothing was asked for any then.
-    fn receive_from<I: Incoming>(
+    /// Has the next piece of a side come straight into its memory, at most `limit` bytes, and takes it as `take` takes
+    /// an event. `None` where it can't: nothing was asked for any then.
+    fn take_from<I: Incoming>(
         &mut self,
         side: Side,
         limit: usize,
         incoming: &mut I,
-    ) -> Option<usize>
-        requires { I.can_read incoming.old limit }
-        ensures came { IfSome result (λ count. (came : HasCome I.read_gives limit count incoming.old incoming.new) × (0 < count → (first : First) (past : List PastEvent) → stands first self.old past
-            → Stores (stands first) (sends first) self.new past side (take count came.room))) }
-        ensures nothing { IfSome result (λ count. count ≡ 0 → self.new ≡ self.old) }
-        ensures none { IsNone result → (self.new ≡ self.old) × (incoming.new ≡ incoming.old) };
+        sent: &mut Sent,
+    ) -> Option<Result<(), Memory>>
+        requires ready { I.can_read incoming.old limit }
+        requires sent { sent.old.to_client ≡ [] }
+        ensures came { IfSome result (λ taken. (count : ℕ) × (came : HasCome I.read_gives limit count incoming.old incoming.new)
+            × TakesCome stands runs_out sends side taken count came.room self.old self.new sent.old sent.new) }
+        ensures none { IsNone result → (self.new ≡ self.old) × (incoming.new ≡ incoming.old) × (sent.new ≡ sent.old) };
 }

@@ -1,8 +1,15 @@
 //! The gate as what is served.
 
-ghost use Rattle.std.specs.Prelude.{◌≡◌, false};
+ghost use Rattle.std.specs.Prelude.{◌≡◌, ℕ, List, Some, false, OnOk, OnErr};
 ghost use Rattle.std.specs.List.{list_any};
-ghost use Rattle.bridge_run.specs.served.Gate.{is_loss};
+ghost use Rattle.gate_core.specs.step.Stands.{GateStands};
+ghost use Rattle.gate_history.specs.step.Events.{Event as Told};
+ghost use Rattle.bridge_run.specs.events.Events.{LinkEvent as PastEvent};
+ghost use Rattle.bridge_run.specs.served.Gate.{gate_event, gate_events, gate_sends, is_loss};
+ghost use Rattle.bridge_run.specs.served.GateStops.{gate_runs_out};
+ghost use Rattle.bridge_run.specs.inner.Gated.{GateTakes};
+ghost use Rattle.bridge_run.specs.inner.Sends.{SendsPart};
+ghost use Rattle.bridge_run.specs.inner.Taking.{TakesAll};
 
 use crate::events::event::LinkEvent;
 use crate::events::sent::Sent;
@@ -20,11 +27,8 @@ pub struct Gateway {
 }
 
 impl Served for Gateway {
-    ghost use Rattle.std.specs.Prelude.{ℕ, is_some};
+    ghost use Rattle.std.specs.Prelude.{is_some};
     ghost use Rattle.bridge_run.specs.declared.served.after_loss.AfterLoss.{AfterLoss as Setting};
-    ghost use Rattle.gate_core.specs.step.Stands.{GateStands};
-    ghost use Rattle.bridge_run.specs.served.Gate.{gate_event, gate_events, gate_sends};
-    ghost use Rattle.bridge_run.specs.served.GateStops.{gate_runs_out};
 
     // what becomes of such a client, and the first id
     ghost First = { Setting × ℕ };
@@ -47,20 +51,35 @@ impl Served for Gateway {
             LinkEvent::SideEnd(Side::Client) => GateEvent::ClientEnd,
             LinkEvent::SideEnd(Side::Host) => GateEvent::HostEnd,
         };
-        let notes = self
-            .gate
-            .take(told, &mut sent.to_client, &mut sent.to_host)?;
-        sent.lets_go |= lets_go(self.after_loss, &notes);
-        push_refusals(&notes, &mut sent.refusals)
+        let taken = self.gate.take(told, &mut sent.to_client, &mut sent.to_host);
+        self.tell(taken, sent)
     }
 
-    fn receive_from<I: Incoming>(
+    fn take_from<I: Incoming>(
         &mut self,
-        side: Side,
-        limit: usize,
-        incoming: &mut I,
-    ) -> Option<usize> {
-        self.gate.receive_from(side, limit, incoming)
+        _side: Side,
+        _limit: usize,
+        _incoming: &mut I,
+        _sent: &mut Sent,
+    ) -> Option<Result<(), Memory>> {
+        None
+    }
+}
+
+impl Gateway {
+    /// Adds to what is sent which sides an event refuses, and whether it lets the client go, as the gate's notes of it
+    /// tell. Where memory ran out within the event nothing is added.
+    fn tell(&self, taken: Result<Notes, Memory>, sent: &mut Sent) -> Result<(), Memory>
+        ensures takes { OnOk result ((first : ℕ) (past : List PastEvent) (e : PastEvent) (told : Told) (client host : List ℕ) → gate_event e ≡ Some told
+            → GateTakes taken first self.now.gate (gate_events past) told client sent.old.to_client host sent.old.to_host
+            → TakesAll (λ events. GateStands first self.now.gate (gate_events events)) (gate_sends self.now.after_loss first) past e (record sent.old { to_client = client; to_host = host }) sent.new) }
+        ensures stops { OnErr result ((first : ℕ) (past : List PastEvent) (e : PastEvent) (told : Told) (client host : List ℕ) → gate_event e ≡ Some told
+            → GateTakes taken first self.now.gate (gate_events past) told client sent.old.to_client host sent.old.to_host
+            → SendsPart (gate_runs_out first) (gate_sends self.now.after_loss first) past e (record sent.old { to_client = client; to_host = host }) sent.new) }
+    {
+        let notes = taken?;
+        sent.lets_go |= lets_go(self.after_loss, &notes);
+        push_refusals(&notes, &mut sent.refusals)
     }
 }
 

@@ -112,13 +112,14 @@ impl<G: Gadget> Served for Lent<G> {
         acted
     }
 
-    /// Behind each piece of a guest's the device is used: none is only kept.
-    fn receive_from<I: Incoming>(
+    /// The host of a device takes its bytes from a buffer.
+    fn take_from<I: Incoming>(
         &mut self,
         _side: Side,
         _limit: usize,
         _incoming: &mut I,
-    ) -> Option<usize> {
+        _sent: &mut Sent,
+    ) -> Option<Result<(), Memory>> {
         None
     }
 }

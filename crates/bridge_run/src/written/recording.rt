@@ -1,6 +1,6 @@
 //! What is recorded of an event.
 
-ghost use Rattle.std.specs.Prelude.{◌≡◌, ◌++◌, ◌||◌, true, OnOk, OnErr, IfErr, IfSome};
+ghost use Rattle.std.specs.Prelude.{◌≡◌, ◌++◌, ◌||◌, ℕ, List as ListOf, true, OnOk, OnErr, IfErr, IfSome};
 ghost use Rattle.std.specs.List.{flat_map};
 ghost use Rattle.std.specs.Io.KnownBytes.{append_known};
 ghost use Rattle.session_tape.specs.Lines.{refusal_comment};
@@ -8,10 +8,12 @@ ghost use Rattle.session_tape.specs.Tapes.{GrowsInPart};
 ghost use Rattle.bridge_run.specs.events.Events.{event_of};
 ghost use Rattle.bridge_run.specs.events.RanOut.{is_recorded};
 ghost use Rattle.bridge_run.specs.written.Recorded.{has_any, event_line, lines_of, is_full as are_full, written_if, waiting_if};
+ghost use Rattle.bridge_run.specs.inner.Coming.{CanRecord, event_with};
 ghost use Rattle.bridge_run.specs.inner.Follows.{IsCutEnd};
 ghost use Rattle.bridge_run.specs.inner.Recording.{TapeFaults};
 
 use crate::course::serve_end::ServeEnd;
+use crate::events::coming::Coming;
 use crate::events::event::LinkEvent;
 use crate::events::sent::Sent;
 use session_tape::{Tape, push_end, push_piece, push_refusal};
@@ -23,7 +25,7 @@ pub const WAITING_LIMIT: usize = 65_536;
 
 /// Puts the event's line behind those that wait, where the tape is made, and a comment for each refusal that it sends.
 /// Where they are due, or 64 KiB wait, all of them are written to the tape.
-pub fn record_event<T: Tape>(
+fn record_event<T: Tape>(
     alloc: Global,
     event: LinkEvent,
     sent: &Sent,
@@ -46,6 +48,30 @@ pub fn record_event<T: Tape>(
     push_refusals(alloc, &sent.refusals, waiting)?;
     let is_due = due || is_full(waiting);
     write_waiting(is_due, waiting, tape)
+}
+
+/// Records an event that comes, as `record_event` says. Where its bytes were taken no tape is made.
+pub fn record_coming<T: Tape>(
+    alloc: Global,
+    coming: Coming,
+    sent: &Sent,
+    due: bool,
+    waiting: &mut Bytes,
+    tape: &mut T,
+) -> Result<(), ServeEnd>
+    requires { CanRecord coming (T.made tape.old) (T.contents tape.old) }
+    ensures ok { OnOk result ((piece : ListOf ℕ) → T.contents tape.new ≡ append_known (T.contents tape.old) (written_if (due || are_full (waiting.old ++ lines_of (event_with piece coming.entry) sent.now.refusals)) (waiting.old ++ lines_of (event_with piece coming.entry) sent.now.refusals))) }
+    ensures waits { OnOk result ((piece : ListOf ℕ) → IfSome (T.contents tape.new) (λ held. waiting.new ≡ waiting_if (due || are_full (waiting.old ++ lines_of (event_with piece coming.entry) sent.now.refusals)) (waiting.old ++ lines_of (event_with piece coming.entry) sent.now.refusals))) }
+    ensures err { OnErr result ((piece : ListOf ℕ) → GrowsInPart (T.contents tape.old) (T.contents tape.new) (written_if (due || are_full (waiting.old ++ lines_of (event_with piece coming.entry) sent.now.refusals)) (waiting.old ++ lines_of (event_with piece coming.entry) sent.now.refusals))) }
+    ensures made { T.made tape.new ≡ T.made tape.old }
+    ensures cause { TapeFaults result (T.counts tape.old) (T.counts tape.new) }
+    ensures cut { IfErr result IsCutEnd }
+    ensures wants { IfErr result (λ end. (piece : ListOf ℕ) → end ≡ ServeEnd.Memory → (T.made tape.old ≡ true) × ((is_recorded (event_with piece coming.entry) || has_any sent.now.refusals) ≡ true)) }
+{
+    match coming {
+        Coming::Event(event) => record_event(alloc, event, sent, due, waiting, tape),
+        Coming::Taken(_, _) => Ok(()),
+    }
 }
 
 /// Writes the lines that wait to the tape, where they are due and it is made. Then none wait.

@@ -1,25 +1,24 @@
 -- What an event of a gate sends, by what its gate has gained.
-use Rattle.std.proofs.Common.{◌≡◌, ℕ, ◌||◌, Bool, false, List, [], ◌∷◌, ◌++◌, Option, Some, refl, sym, ap, subst, ◌∙◌}
+use Rattle.std.proofs.Common.{◌≡◌, ℕ, ◌||◌, Bool, false, List, ◌∷◌, ◌++◌, Option, Some, Result, Ok, Err, sym, ap, subst, refl, ◌∙◌}
+use Rattle.std.specs.Result.{IfOk, OnErr}
 use Rattle.std.specs.List.{cons_option, flat_map, list_any}
 use Rattle.std.proofs.lemmas.Grind.{flat_map-append}
 use Rattle.usb_base.specs.declared.refusal.Refusal.{Refusal}
-use Rattle.usb_base.specs.declared.side.Side.{Side}
-use Rattle.usb_base.specs.declared.side.Side.TheVariants.{Client, Host}
 use Rattle.gate_history.specs.declared.note.Note.{Note}
 use Rattle.gate_history.specs.step.Events.{Event as GateEvent}
 use Rattle.gate_history.specs.Headline.{client_output, host_output, notes as told_notes, Gains}
 use Rattle.gate_core.specs.state.Kept.{GateKept}
-use Rattle.gate_core.specs.step.Stands.{GateStands, TakesEvent, piece_of}
+use Rattle.gate_core.specs.step.Stands.{GateStands, TakesEvent, StopsInEvent}
 use Rattle.bridge_run.specs.declared.served.after_loss.AfterLoss.{AfterLoss}
 use Rattle.bridge_run.specs.declared.served.after_loss.AfterLoss.TheVariants.{Keep, Close}
-use Rattle.bridge_run.specs.declared.served.gate.Gateway.{Gateway}
 use Rattle.bridge_run.specs.declared.events.sent.Sent.{Sent}
-use Rattle.bridge_run.specs.events.Events.{LinkEvent, SidePiece}
+use Rattle.bridge_run.specs.events.Events.{LinkEvent}
 use Rattle.gate_history.specs.write.Refusals.{refusal_in}
 use Rattle.bridge_run.specs.served.Gate.{gate_event, gate_events, gate_notes, gate_sends, is_loss, lets_go}
 use Rattle.bridge_run.specs.events.Prescribed.{gained}
-use Rattle.bridge_run.specs.inner.Polling.{Stores}
-use Rattle.bridge_run.specs.inner.Sends.{SendsAll, nothing}
+use Rattle.bridge_run.specs.inner.Gated.{GateTakes}
+use Rattle.bridge_run.specs.inner.Taking.{TakesAll}
+use Rattle.bridge_run.specs.inner.Sends.{SendsAll}
 use Rattle.bridge_run.proofs.lemmas.served.Acts.{gained-is}
 
 -- of an output that has gained as much
@@ -49,14 +48,19 @@ gate-sends setting was first past e ge kept old client host refusals gone notes 
       grows = refused ∙ ap (λ (l : List Refusal). p.refusals past ++ l) (sym refused_is);
     }
 
-piece-is : (side : Side) (piece : List ℕ) → gate_event (SidePiece side piece) ≡ Some (piece_of side piece)
-piece-is Client piece = refl
-piece-is Host piece = refl
-
--- a piece that the gate has taken straight from a link
-pub gate-stores : (setting : AfterLoss) (first : ℕ) (past : List LinkEvent) (side : Side) (piece : List ℕ) (new : Gateway) → new.after_loss ≡ setting → TakesEvent first new.gate (gate_events past) (piece_of side piece) [] [] [] [] []
-    → Stores (λ (gateway : Gateway) (events : List LinkEvent). (gateway.after_loss ≡ setting) × GateStands first gateway.gate (gate_events events)) (gate_sends setting first) new past side piece
-gate-stores setting first past side piece new same t = record {
-  stands_for = (same, subst (GateStands first new.gate) (sym (ap (λ (o : Option GateEvent). cons_option o (gate_events past)) (piece-is side piece))) t.stands);
-  sends = gate-sends setting new.after_loss first past (SidePiece side piece) (piece_of side piece) new.gate nothing [] [] [] false [] (piece-is side piece) t refl (λ _. refl) (λ _. refl) same;
+-- and the gate stands for it
+pub gate-takes : (setting : AfterLoss) (first : ℕ) (past : List LinkEvent) (e : LinkEvent) (ge : GateEvent) (kept : GateKept) (old : Sent) (client host : List ℕ) (refusals : List Refusal) (gone : Bool) (notes : List Note)
+    → gate_event e ≡ Some ge → TakesEvent first kept (gate_events past) ge old.to_client client old.to_host host notes → refusals ≡ old.refusals ++ flat_map refusal_in notes → (setting ≡ Keep → gone ≡ false) → (setting ≡ Close → gone ≡ list_any is_loss notes)
+    → TakesAll (λ events. GateStands first kept (gate_events events)) (gate_sends setting first) past e old (record { to_client = client; to_host = host; refusals = refusals; lets_go = old.lets_go || gone })
+gate-takes setting first past e ge kept old client host refusals gone notes is t pushed keep close = record {
+  stands_for = subst (GateStands first kept) (sym (ap (λ (o : Option GateEvent). cons_option o (gate_events past)) is)) t.stands;
+  sends = gate-sends setting setting first past e ge kept old client host refusals gone notes is t pushed keep close refl;
 }
+
+-- whether all of an event was taken or not
+pub taken-by : {E : Type 0} (kept now : GateKept) (e : GateEvent) (client client' host host' : List ℕ) (taken : Result (List Note) E)
+    → IfOk taken (λ notes. (first : ℕ) (past : List GateEvent) → GateStands first kept past → TakesEvent first now past e client client' host host' notes)
+    → OnErr taken ((first : ℕ) (past : List GateEvent) → GateStands first kept past → StopsInEvent first now past e client client' host host')
+    → (first : ℕ) (past : List GateEvent) → GateStands first kept past → GateTakes taken first now past e client client' host host'
+taken-by kept now e client client' host host' (Ok notes) takes stops first past at = takes first past at
+taken-by kept now e client client' host host' (Err x) takes stops first past at = stops first past at

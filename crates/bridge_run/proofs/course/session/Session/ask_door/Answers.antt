@@ -1,4 +1,4 @@
-use Rattle.std.proofs.Common.{Bool, true, ◌∷◌, Ok, sym, ◌∙◌, ap, subst}
+use Rattle.std.proofs.Common.{Bool, true, [], ◌∷◌, Ok, sym, ◌∙◌, ap, subst}
 use Rattle.gate_outside.specs.declared.fault.Failed.{Failed as Fault}
 use Rattle.gate_outside.specs.Doors.{Accepts}
 use Rattle.bridge_run.specs.events.Events.{ClientComes}
@@ -33,7 +33,7 @@ returns-in-Ok-true-clause-course g c = λ first begun k f.
     let next = Takes ClientComes AtClient in
     runs-then c.happen.result stands2 (g.C.Served.runs_out first) s c.happen.new.self.rounds w2 out2 from next a.course AtClient
     (reaches-call s from AtDoor k (Goes next a.course) (reaches-none s from) (call-door s k down ∙ a.is))
-    (subst (λ (t : Setting). RunsOn c.happen.result stands2 (g.C.Served.runs_out first) t c.happen.new.self.rounds w2 out2 (Goes next a.course) AtClient) (ap (setting p) c.come.ensures) (c.happen.ensures.course first begun AtClient a.course a.follows))
+    (subst (λ (t : Setting). RunsOn c.happen.result stands2 (g.C.Served.runs_out first) t c.happen.new.self.rounds w2 out2 (Goes next a.course) AtClient) (ap (setting p) c.come.ensures) (c.happen.ensures.course first [] begun AtClient a.course a.follows))
 
 pub returns-in-Ok-false-clause-course : goal.returns-in-Ok-false-clause-course
 returns-in-Ok-false-clause-course g c = λ first begun k f.
@@ -74,7 +74,7 @@ returns-in-Ok-true-clause-log g c = λ first terms begun begun_out taped a.
     let p = g.C.Served.sends first in
     let k = c.args.self.now.rounds in
     let answered = subst (λ (b : Bool). gives c.args.doors.now (Accept (Ok b)) c.accept.new.self) c.in-Ok-true.field-0-test c.in-Ok-true.ensures.gives in
-    let h = c.happen.ensures.log first terms (ForClient (Ok true) ∷ a.asks) begun begun_out taped
+    let h = c.happen.ensures.log first [] terms (ForClient (Ok true) ∷ a.asks) begun begun_out taped
     (came-taking gives (g.C.Served.stands first c.args.self.now.core) (Told g.K.Sink.write_gives begun_out c.args.out.now) terms p k c.come.new.self begun c.args.doors.now c.accept.new.self c.if-self.false a answered c.come.ensures) in
     client-logs c.happen.result gives (g.C.Served.stands first c.happen.new.self.core) (g.C.Served.runs_out first) (Told g.K.Sink.write_gives begun_out c.happen.new.out) terms p a.asks k c.come.new.self c.happen.new.self.rounds begun c.happen.new.doors h a.patient
     (ap (λ (q : Rounds). q.busy) c.come.ensures) (ap (λ (q : Rounds). q.idle) c.come.ensures) (ap (λ (q : Rounds). q.waits) c.come.ensures) c.happen.ensures.wears
