@@ -1,7 +1,6 @@
 //! The gate: it translates between USB/IP clients, one after another, and a usbredir host.
 
-ghost use Rattle.std.specs.Prelude.{◌≡◌, ◌+◌, ◌-◌, ◌++◌, ◌<◌, ◌≤◌, [], List, length, take, ℕ, OnOk, OnErr, IfOk, IsErr, IfSome, IsNone};
-ghost use Rattle.usb_base.specs.Incoming.{HasCome};
+ghost use Rattle.std.specs.Prelude.{◌≡◌, ◌+◌, ◌-◌, ◌++◌, ◌≤◌, [], List, length, ℕ, OnOk, OnErr, IfOk, IsErr, IfSome, IsNone};
 ghost use Rattle.gate_history.specs.step.Events.{Event as PastEvent, event_of};
 ghost use Rattle.gate_history.specs.declared.item.Item.{Item as PastItem};
 ghost use Rattle.gate_history.specs.step.Past.{past};
@@ -10,7 +9,8 @@ ghost use Rattle.gate_history.specs.step.History.{rest_length};
 ghost use Rattle.gate_history.specs.write.All.{counts_of};
 ghost use Rattle.gate_history.specs.write.Bytes.{out_host};
 ghost use Rattle.usb_base.specs.declared.limits.TheConstants.{LONGEST_CLIENT_PACKET, LONGEST_HOST_PACKET};
-ghost use Rattle.gate_core.specs.step.Stands.{GateStands, StandsFor, TakesEvent, piece_of, StopsInEvent, GateHasFailed};
+ghost use Rattle.gate_core.specs.step.Stands.{GateStands, StandsFor, TakesEvent, StopsInEvent, GateHasFailed};
+ghost use Rattle.gate_core.specs.step.Incoming.{TakesIncoming};
 
 use crate::step::inner::Inner;
 use gate_history::{Counts, Event, Notes};
@@ -93,27 +93,39 @@ impl Gate {
         }
     }
 
-    /// Has the next bytes of a side's stream come straight into its memory, at most `limit` of them, where a packet is
-    /// awaited that has more still to come: an event that sends nothing. It says how many came. `None` where no such
-    /// packet is awaited, or the stream has no memory for so many of its bytes yet: nothing was asked for any then.
-    pub fn receive_from<I: Incoming>(
+    /// Has the next bytes of a side's stream come straight into its memory, at most `limit` of them, and takes them as
+    /// an event like the piece that they are. Where none come nothing changes. `None` where nothing was asked for any:
+    /// the gate has failed, the side is over, or its stream has no memory for so many.
+    pub fn take_from<I: Incoming>(
         &mut self,
         side: Side,
         limit: usize,
         incoming: &mut I,
-    ) -> Option<usize>
+        to_client: &mut Bytes,
+        to_host: &mut Bytes,
+    ) -> Option<Result<Notes, Memory>>
         requires { I.can_read incoming.old limit }
-        ensures came { IfSome result (λ count. (came : HasCome I.read_gives limit count incoming.old incoming.new) × (0 < count → (first : ℕ) (past : List PastEvent) → GateStands first self.old past
-            → TakesEvent first self.new past (piece_of side (take count came.room)) [] [] [] [] [])) }
-        ensures nothing { IfSome result (λ count. count ≡ 0 → self.new ≡ self.old) }
-        ensures none { IsNone result → (self.new ≡ self.old) × (incoming.new ≡ incoming.old) }
+        ensures came { IfSome result (λ taken. TakesIncoming I.read_gives side limit taken self.old incoming.old to_client.old to_host.old self.new incoming.new to_client.new to_host.new) }
+        ensures none { IsNone result → (self.new ≡ self.old) × (incoming.new ≡ incoming.old)
+            × (to_client.new ≡ to_client.old) × (to_host.new ≡ to_host.old) }
+        ensures failed { GateHasFailed self.old → IsNone result }
     {
         if self.inner.want.is_some() {
             return None;
         }
-        match side {
-            Side::Client => self.inner.client.receive_from(limit, incoming),
-            Side::Host => self.inner.host.receive_from(limit, incoming),
+        self.inner.keep_memory(to_client, to_host);
+        let mut out = Outputs::new(self.inner.alloc);
+        swap(to_client, &mut out.to_client);
+        swap(to_host, &mut out.to_host);
+        let taken = self.inner.take_from(side, limit, incoming, &mut out);
+        swap(to_client, &mut out.to_client);
+        swap(to_host, &mut out.to_host);
+        match taken? {
+            Ok(()) => Some(Ok(out.notes)),
+            Err(memory) => {
+                self.inner.want = Some(memory);
+                Some(Err(memory))
+            }
         }
     }
 

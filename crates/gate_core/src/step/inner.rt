@@ -1,18 +1,18 @@
 //! What the gate keeps, and how an event changes it.
 
-ghost use Rattle.std.specs.Prelude.{◌≡◌, ◌≤◌, [], IfOk};
+ghost use Rattle.std.specs.Prelude.{◌≡◌, ◌≤◌, [], IfOk, IfSome, IsNone};
 ghost use Rattle.gate_history.specs.step.Events.{ClientPiece, ClientEnd, HostPiece, HostEnd};
-ghost use Rattle.gate_core.specs.step.Stands.{HasPast, GateStands};
-ghost use Rattle.gate_core.specs.inner.step.Steps.{TakesOrStops, kept_of};
+ghost use Rattle.gate_core.specs.step.Stands.{HasPast, GateStands, piece_of};
+ghost use Rattle.gate_core.specs.inner.step.Steps.{TakesOrStops, TakesFrom, kept_of};
 
 use crate::step::taker::ItemTaker;
 use crate::step::translator::Translator;
 use gate_history::Item;
 use gate_parts::Outputs;
-use packet_stream::{Stream, take_piece};
+use packet_stream::{Stream, take_piece, take_piece_from};
 use redir_data::{FromHost, RedirState};
 use std::alloc::Global;
-use usb_base::{Bytes, Memory};
+use usb_base::{Bytes, Incoming, Memory, Side};
 use usbip_urb::ClientFormat;
 
 /// Both streams, and what is kept of their items.
@@ -65,6 +65,25 @@ impl Inner {
         take_piece(self.alloc, &mut self.client, piece, &mut taker)
     }
 
+    /// Takes what comes straight into the client's stream as a piece of it.
+    pub fn take_client_from<I: Incoming>(
+        &mut self,
+        limit: usize,
+        incoming: &mut I,
+        out: &mut Outputs,
+    ) -> Option<Result<(), Memory>>
+        requires past { HasPast (kept_of self.old) }
+        requires ready { I.can_read incoming.old limit }
+        ensures came { IfSome result (λ taken. TakesFrom ClientPiece I.read_gives limit taken self.old incoming.old out.old self.new incoming.new out.new) }
+        ensures none { IsNone result → (self.new ≡ self.old) × (incoming.new ≡ incoming.old) × (out.new ≡ out.old) }
+    {
+        let mut taker = ItemTaker {
+            translator: &mut self.translator,
+            out,
+        };
+        take_piece_from(self.alloc, &mut self.client, limit, incoming, &mut taker)
+    }
+
     /// Takes the client's end. The next client may come.
     pub fn change_client(&mut self, out: &mut Outputs) -> Result<(), Memory>
         requires { HasPast (kept_of self.old) }
@@ -85,6 +104,44 @@ impl Inner {
             out,
         };
         take_piece(self.alloc, &mut self.host, piece, &mut taker)
+    }
+
+    /// Takes what comes straight into the host's stream as a piece of it.
+    pub fn take_host_from<I: Incoming>(
+        &mut self,
+        limit: usize,
+        incoming: &mut I,
+        out: &mut Outputs,
+    ) -> Option<Result<(), Memory>>
+        requires past { HasPast (kept_of self.old) }
+        requires ready { I.can_read incoming.old limit }
+        ensures came { IfSome result (λ taken. TakesFrom HostPiece I.read_gives limit taken self.old incoming.old out.old self.new incoming.new out.new) }
+        ensures none { IsNone result → (self.new ≡ self.old) × (incoming.new ≡ incoming.old) × (out.new ≡ out.old) }
+    {
+        let mut taker = ItemTaker {
+            translator: &mut self.translator,
+            out,
+        };
+        take_piece_from(self.alloc, &mut self.host, limit, incoming, &mut taker)
+    }
+
+    /// Takes what comes straight into a side's stream as a piece of it.
+    pub fn take_from<I: Incoming>(
+        &mut self,
+        side: Side,
+        limit: usize,
+        incoming: &mut I,
+        out: &mut Outputs,
+    ) -> Option<Result<(), Memory>>
+        requires past { HasPast (kept_of self.old) }
+        requires ready { I.can_read incoming.old limit }
+        ensures came { IfSome result (λ taken. TakesFrom (piece_of side) I.read_gives limit taken self.old incoming.old out.old self.new incoming.new out.new) }
+        ensures none { IsNone result → (self.new ≡ self.old) × (incoming.new ≡ incoming.old) × (out.new ≡ out.old) }
+    {
+        match side {
+            Side::Client => self.take_client_from(limit, incoming, out),
+            Side::Host => self.take_host_from(limit, incoming, out),
+        }
     }
 
     /// Takes the host's end.

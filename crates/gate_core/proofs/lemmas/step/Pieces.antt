@@ -11,7 +11,7 @@ use Rattle.usb_base.proofs.Numbers.{AreBytes-append}
 use Rattle.packet_stream.specs.declared.read.ReadError.{ReadError}
 use Rattle.packet_stream.specs.declared.read.ReadError.TheVariants.{Refused, Memory as OutOfMemory}
 use Rattle.packet_stream.specs.Split.{Reader, split}
-use Rattle.packet_stream.specs.Streams.{StreamView, passed, after_piece, Follows, Nexts, Puts, Changes, Keeps}
+use Rattle.packet_stream.specs.Streams.{StreamView, passed, after_piece, Follows, Nexts, Puts, Changes}
 use Rattle.packet_stream.specs.Items.{added, onto}
 use Rattle.packet_stream.specs.Takers.{Taking as TakenBy, TakenStream, ended_if, TakesAnswer, Finishes, Reaches, TakesPiece as TakesBytes}
 use Rattle.packet_stream.proofs.Pieces.{packets, wrongs, items, onto-append}
@@ -369,16 +369,6 @@ pub takes-piece : {S P : Type 0} (s : TakenSide S P) (r : Result (Unit {0}) Memo
 takes-piece s r old new t piece out are is sends takes =
     subst (λ (x : Kept). TakesPiece r s.half old.stream new.stream old.taker.translator.now x piece old.taker.out.now out) (sym is)
     (subst (λ (o : Outputs). TakesPiece r s.half old.stream new.stream old.taker.translator.now new.taker.translator.now piece old.taker.out.now o) (sym sends) (takes-by s r old new piece are takes))
-
--- a piece that came straight into the stream, with which no item is there
-pub keeps-piece : {S P : Type 0} (s : TakenSide S P) (old new : StreamView S) (t : Kept) (piece : List ℕ) (out : Outputs) → AreBytes piece → Keeps s.reader s.takes piece old new →
-    TakesPiece (Ok tt) s.half old new t t piece out out
-keeps-piece {S = S} {P = P} s old new t piece out are kept first bytes before at =
-    let d = side_at s first in
-    let is = sym (s.laws first).reader in
-    finished-by first d s.takes new new t bytes piece before out out at.all.fits are kept.passed
-    (subst (λ (x : Reader S P Reason). Nexts {P = P} x s.takes (Ok None) new new) is kept.none)
-    (taking-first first d old new t bytes piece before out are at.all at.translates kept.stream (subst (λ (x : Reader S P Reason). Puts x piece old new) is kept.puts)) new.over refl
 
 -- ---- what is borrowed, which is the same at the end
 

@@ -1,5 +1,6 @@
 -- What the gate's own steps do.
-use Rattle.std.specs.Prelude.{◌∷◌, ℕ, List, is_some, Result, Ok, Err}
+use Rattle.std.specs.Prelude.{◌≡◌, ◌<◌, ◌∷◌, ℕ, List, take, is_some, Result, Ok, Err}
+use Rattle.usb_base.specs.Incoming.{HasCome}
 use Rattle.usb_base.specs.declared.memory.Memory.{Memory}
 use Rattle.redir_wire.specs.declared.packet.Header.{Header}
 use Rattle.redir_data.specs.declared.packet.RedirPacket.{RedirPacket}
@@ -42,3 +43,12 @@ TakesOrStops (Ok v) old new e out_old out_new =
     (first : ℕ) (events : List Event) → GateStands first (kept_of old) events → TakesOn first new events e out_old out_new
 TakesOrStops (Err memory) old new e out_old out_new =
     (first : ℕ) (events : List Event) → GateStands first (kept_of old) events → StopsInEvent first (kept_of new) events e out_old.to_client out_new.to_client out_old.to_host out_new.to_host
+
+-- what came straight into a side's stream was taken as this piece, or memory ran out; where nothing came nothing has
+-- changed
+pub record TakesFrom {I : Type 0} (piece : List ℕ → Event) (gives : I → ℕ → List ℕ → I → Type 0) (limit : ℕ) (result : Result (Unit {0}) Memory)
+    (old : Inner) (from : I) (out_old : Outputs) (new : Inner) (left : I) (out_new : Outputs) : Type 0 where
+  pub count : ℕ
+  pub came : HasCome gives limit count from left
+  pub some : 0 < count → TakesOrStops result old new (piece (take count came.room)) out_old out_new
+  pub nothing : count ≡ 0 → (result ≡ Ok tt) × (new ≡ old) × (out_new ≡ out_old)

@@ -1,8 +1,24 @@
-use Rattle.std.proofs.Common.{◌≡◌, ◌∙◌, ◌++◌, ◌∷◌, [], Some, ap, subst, sym, arith, ℕ}
+use Rattle.std.proofs.Common.{◌≡◌, ◌∙◌, ◌++◌, ◌∷◌, [], Some, refl, ap, subst, sym, arith, ℕ}
 use Rattle.std.proofs.lemmas.List.{get_or_default}
-use Rattle.slab.specs.Slab.{Updates, get}
+use Rattle.std.specs.BTreeMap.{BTreeMap}
+use Rattle.slab.specs.Slab.{Slab, Updates, get}
+use Rattle.redir_host.specs.declared.state.request.Request.{Request}
+use Rattle.redir_host.specs.declared.state.waiting.Waiting.{Waiting}
+use Rattle.redir_host.specs.inner.Waiting.{IsIndexed}
 use Rattle.redir_host.proofs.lemmas.state.Indexed.{indexed_back, indexed_put, numbered_back, numbered_put}
 use Rattle.redir_host.proofs.state.waiting.Waiting.put.Goals as goal
+
+-- memory that a slab has gained, or a map, is not seen
+roomier : (w : Waiting) (s : Slab Request) (o : BTreeMap ℕ ℕ) → s ≡ record w.requests { capacity = s.capacity } → o.entries ≡ w.order.entries → IsIndexed w → IsIndexed (record w { requests = s; order = o })
+roomier w s o is kept i =
+    subst (λ (x : Slab Request). IsIndexed (record w { requests = x; order = o })) (sym is)
+    (record { ordered = rw kept i.ordered; below = rw kept i.below; room = i.room; differ = rw kept i.differ; held = rw kept i.held; only = rw kept i.only; places = i.places; queues = rw kept i.queues })
+
+pub returns-in_err-reserve-clause-indexed : goal.returns-in_err-reserve-clause-indexed
+returns-in_err-reserve-clause-indexed c = roomier c.args.self.now c.reserve.new.self c.args.self.now.order c.reserve.ensures.rest_kept refl c.requires.indexed
+
+pub returns-in_err-insert-clause-indexed : goal.returns-in_err-insert-clause-indexed
+returns-in_err-insert-clause-indexed c = roomier c.args.self.now c.reserve.new.self c.insert.new.self c.reserve.ensures.rest_kept c.in_err-insert.ensures.err c.requires.indexed
 
 pub returns-in-Err-clause-err : goal.returns-in-Err-clause-err
 returns-in-Err-clause-err c =
