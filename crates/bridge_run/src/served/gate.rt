@@ -1,6 +1,6 @@
 //! The gate as what is served.
 
-ghost use Rattle.std.specs.Prelude.{◌≡◌, ℕ, List, Some, false, OnOk, OnErr};
+ghost use Rattle.std.specs.Prelude.{◌≡◌, ℕ, List, [], Some, Ok, false, OnOk, OnErr};
 ghost use Rattle.std.specs.List.{list_any};
 ghost use Rattle.gate_core.specs.step.Stands.{GateStands};
 ghost use Rattle.gate_history.specs.step.Events.{Event as Told};
@@ -57,12 +57,19 @@ impl Served for Gateway {
 
     fn take_from<I: Incoming>(
         &mut self,
-        _side: Side,
-        _limit: usize,
-        _incoming: &mut I,
-        _sent: &mut Sent,
+        side: Side,
+        limit: usize,
+        incoming: &mut I,
+        sent: &mut Sent,
     ) -> Option<Result<(), Memory>> {
-        None
+        let taken = self.gate.take_from(
+            side,
+            limit,
+            incoming,
+            &mut sent.to_client,
+            &mut sent.to_host,
+        )?;
+        Some(self.tell(taken, sent))
     }
 }
 
@@ -76,6 +83,7 @@ impl Gateway {
         ensures stops { OnErr result ((first : ℕ) (past : List PastEvent) (e : PastEvent) (told : Told) (client host : List ℕ) → gate_event e ≡ Some told
             → GateTakes taken first self.now.gate (gate_events past) told client sent.old.to_client host sent.old.to_host
             → SendsPart (gate_runs_out first) (gate_sends self.now.after_loss first) past e (record sent.old { to_client = client; to_host = host }) sent.new) }
+        ensures nothing { taken ≡ Ok [] → (result ≡ Ok tt) × (sent.new ≡ sent.old) }
     {
         let notes = taken?;
         sent.lets_go |= lets_go(self.after_loss, &notes);

@@ -1,24 +1,29 @@
 -- What an event of a gate sends, by what its gate has gained.
 use Rattle.std.proofs.Common.{◌≡◌, ℕ, ◌||◌, Bool, false, List, ◌∷◌, ◌++◌, Option, Some, Result, Ok, Err, sym, ap, subst, refl, ◌∙◌}
-use Rattle.std.specs.Result.{IfOk, OnErr}
+use Rattle.std.specs.Result.{IfOk, OnOk, OnErr}
 use Rattle.std.specs.List.{cons_option, flat_map, list_any}
 use Rattle.std.proofs.lemmas.Grind.{flat_map-append}
+use Rattle.usb_base.specs.declared.memory.Memory.{Memory}
 use Rattle.usb_base.specs.declared.refusal.Refusal.{Refusal}
+use Rattle.usb_base.specs.declared.side.Side.{Side}
+use Rattle.usb_base.specs.declared.side.Side.TheVariants.{Client, Host}
 use Rattle.gate_history.specs.declared.note.Note.{Note}
 use Rattle.gate_history.specs.step.Events.{Event as GateEvent}
 use Rattle.gate_history.specs.Headline.{client_output, host_output, notes as told_notes, Gains}
 use Rattle.gate_core.specs.state.Kept.{GateKept}
-use Rattle.gate_core.specs.step.Stands.{GateStands, TakesEvent, StopsInEvent}
+use Rattle.gate_core.specs.step.Stands.{GateStands, TakesEvent, StopsInEvent, piece_of}
+use Rattle.gate_core.specs.step.Incoming.{TakesOrFails}
 use Rattle.bridge_run.specs.declared.served.after_loss.AfterLoss.{AfterLoss}
 use Rattle.bridge_run.specs.declared.served.after_loss.AfterLoss.TheVariants.{Keep, Close}
 use Rattle.bridge_run.specs.declared.events.sent.Sent.{Sent}
-use Rattle.bridge_run.specs.events.Events.{LinkEvent}
+use Rattle.bridge_run.specs.events.Events.{LinkEvent, SidePiece}
 use Rattle.gate_history.specs.write.Refusals.{refusal_in}
 use Rattle.bridge_run.specs.served.Gate.{gate_event, gate_events, gate_notes, gate_sends, is_loss, lets_go}
 use Rattle.bridge_run.specs.events.Prescribed.{gained}
 use Rattle.bridge_run.specs.inner.Gated.{GateTakes}
-use Rattle.bridge_run.specs.inner.Taking.{TakesAll}
-use Rattle.bridge_run.specs.inner.Sends.{SendsAll}
+use Rattle.bridge_run.specs.inner.Taking.{TakesAll, IsTaken}
+use Rattle.bridge_run.specs.inner.Sends.{SendsAll, SendsPart}
+use Rattle.bridge_run.specs.served.GateStops.{gate_runs_out}
 use Rattle.bridge_run.proofs.lemmas.served.Acts.{gained-is}
 
 -- of an output that has gained as much
@@ -64,3 +69,24 @@ pub taken-by : {E : Type 0} (kept now : GateKept) (e : GateEvent) (client client
     → (first : ℕ) (past : List GateEvent) → GateStands first kept past → GateTakes taken first now past e client client' host host'
 taken-by kept now e client client' host host' (Ok notes) takes stops first past at = takes first past at
 taken-by kept now e client client' host host' (Err x) takes stops first past at = stops first past at
+
+-- ---- a piece that is taken as it comes
+
+pub piece-told : (side : Side) (piece : List ℕ) → gate_event (SidePiece side piece) ≡ Some (piece_of side piece)
+piece-told Client piece = refl
+piece-told Host piece = refl
+
+pub come-by : (kept now : GateKept) (e : GateEvent) (client client' host host' : List ℕ) (taken : Result (List Note) Memory) → TakesOrFails taken kept now e client client' host host'
+    → (first : ℕ) (past : List GateEvent) → GateStands first kept past → GateTakes taken first now past e client client' host host'
+come-by kept now e client client' host host' (Ok notes) t first past at = t first past at
+come-by kept now e client client' host host' (Err x) t first past at = t.1 first past at
+
+pub is-taken : (r : Result (Unit {0}) Memory) (was : AfterLoss) (first : AfterLoss × ℕ) (gate : GateKept) (past : List LinkEvent) (e : LinkEvent) (old new : Sent) → was ≡ first.0
+    → OnOk r (TakesAll (λ events. GateStands first.1 gate (gate_events events)) (gate_sends was first.1) past e old new)
+    → OnErr r (SendsPart (gate_runs_out first.1) (gate_sends was first.1) past e old new)
+    → IsTaken r (λ events. (was ≡ first.0) × GateStands first.1 gate (gate_events events)) (gate_runs_out first.1) (gate_sends first.0 first.1) past e old new
+is-taken (Ok v) was first gate past e old new same takes stops = record {
+  stands_for = (same, takes.stands_for);
+  sends = subst (λ (setting : AfterLoss). SendsAll (gate_sends setting first.1) past e old new) same takes.sends;
+}
+is-taken (Err x) was first gate past e old new same takes stops = subst (λ (setting : AfterLoss). SendsPart (gate_runs_out first.1) (gate_sends setting first.1) past e old new) same stops
