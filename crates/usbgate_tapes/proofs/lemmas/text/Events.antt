@@ -47,7 +47,7 @@ quiet-first : (e : Effect) → IsQuiet (came_notes e ++ submit_notes e)
 quiet-first (Imports reply) = refl
 quiet-first e = refl
 
-quiet-answer : (ps : List Pending) → IsQuiet (map (λ p. note.Answered p.submit.request.number) ps)
+quiet-answer : (ps : List Pending) → IsQuiet (map (λ p. note.Answered p.submit.request.seqnum) ps)
 quiet-answer [] = refl
 quiet-answer (p ∷ ps) = quiet-answer ps
 
