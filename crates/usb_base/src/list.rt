@@ -11,8 +11,8 @@ use std::marker::Model;
 #[derive(Drop)]
 pub struct List<T> {
     pub(crate) items: Vec<T>,
-    /// The list stands in them from `front` to `end`. What stands before and behind counts for nothing: its room is kept
-    /// for what may be put there.
+    /// The list stands in them from `front` to `end`. What stands before and behind counts for nothing: its room is
+    /// kept for what may be put there.
     pub(crate) front: usize,
     pub(crate) end: usize,
 }
