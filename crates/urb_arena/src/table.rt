@@ -9,8 +9,8 @@ use crate::cells::{Base, Block, Cell, Deed, Links, allocate, deallocate};
 use std::alloc::{AllocError, Global};
 use std_alloc::room::may_hold;
 
-/// A block of cells: the ends of the lanes' rings, then that of the free cells', and behind these as many cells as there
-/// is room for values. A value's place in the block is its key.
+/// A block of cells: the ends of the lanes' rings, then that of the free cells', and behind these as many cells as
+/// there is room for values. A value's place in the block is its key.
 pub struct Table<T> {
     pub(crate) base: Base<T>,
     pub(crate) block: Block<T>,

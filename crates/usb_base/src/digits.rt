@@ -9,7 +9,8 @@ use crate::memory::Memory;
 /// How many bytes' digits are made before they are appended. Their place is small enough to stay in the nearest cache.
 const AT_ONCE: usize = 256;
 
-/// Appends bytes in lower-case hexadecimal, two digits each. For want of memory the digits of a front of them are there.
+/// Appends bytes in lower-case hexadecimal, two digits each. For want of memory the digits of a front of them are
+/// there.
 pub fn push_hex(bytes: &[u8], text: &mut Bytes) -> Result<(), Memory>
     ensures ok { OnOk result (text.new ≡ text.old ++ encode_lower bytes.now) }
     ensures err { OnErr result ((count : ℕ) × (text.new ≡ text.old ++ encode_lower (take count bytes.now))) }
