@@ -17,7 +17,6 @@ use gate_history::{Counts, Event, Notes};
 use gate_parts::{Outputs, write_hello};
 use std::alloc::Global;
 use std::marker::Model;
-use std::mem::swap;
 use usb_base::{Bytes, Incoming, Memory, Side};
 
 /// The gate between the streams of clients and of a host.
@@ -74,23 +73,15 @@ impl Gate {
         }
         self.inner.keep_memory(to_client, to_host);
         let mut out = Outputs::new(self.inner.alloc);
-        swap(to_client, &mut out.to_client);
-        swap(to_host, &mut out.to_host);
+        out.exchange(to_client, to_host);
         let taken = match event {
-            Event::ClientPiece(piece) => self.inner.take_client(piece, &mut out),
+            Event::ClientPiece(piece) => self.inner.take(Side::Client, piece, &mut out),
             Event::ClientEnd => self.inner.change_client(&mut out),
-            Event::HostPiece(piece) => self.inner.take_host(piece, &mut out),
+            Event::HostPiece(piece) => self.inner.take(Side::Host, piece, &mut out),
             Event::HostEnd => self.inner.end_host(&mut out),
         };
-        swap(to_client, &mut out.to_client);
-        swap(to_host, &mut out.to_host);
-        match taken {
-            Ok(()) => Ok(out.notes),
-            Err(memory) => {
-                self.inner.want = Some(memory);
-                Err(memory)
-            }
-        }
+        out.exchange(to_client, to_host);
+        self.inner.tell(taken, out)
     }
 
     /// Has the next bytes of a side's stream come straight into its memory, at most `limit` of them, and takes them as
@@ -115,18 +106,10 @@ impl Gate {
         }
         self.inner.keep_memory(to_client, to_host);
         let mut out = Outputs::new(self.inner.alloc);
-        swap(to_client, &mut out.to_client);
-        swap(to_host, &mut out.to_host);
+        out.exchange(to_client, to_host);
         let taken = self.inner.take_from(side, limit, incoming, &mut out);
-        swap(to_client, &mut out.to_client);
-        swap(to_host, &mut out.to_host);
-        match taken? {
-            Ok(()) => Some(Ok(out.notes)),
-            Err(memory) => {
-                self.inner.want = Some(memory);
-                Some(Err(memory))
-            }
-        }
+        out.exchange(to_client, to_host);
+        Some(self.inner.tell(taken?, out))
     }
 
     /// What has been counted.

@@ -1,5 +1,5 @@
 //! What the gateway means: what the packets of USB/IP clients and of a usbredir host mean in the order in which they
-//! become whole, and what is sent to each side for them. No table, buffer or cursor is named here.
+//! become whole, and what is sent to each side for them. No table of requests and no stream's buffer is named here.
 #![tactic(auto)]
 
 mod event;

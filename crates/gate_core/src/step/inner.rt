@@ -1,13 +1,13 @@
 //! What the gate keeps, and how an event changes it.
 
 ghost use Rattle.std.specs.Prelude.{◌≡◌, ◌≤◌, [], IfOk, IfSome, IsNone};
-ghost use Rattle.gate_history.specs.step.Events.{ClientPiece, ClientEnd, HostPiece, HostEnd};
+ghost use Rattle.gate_history.specs.step.Events.{ClientEnd, HostEnd};
 ghost use Rattle.gate_core.specs.step.Stands.{HasPast, GateStands, piece_of};
-ghost use Rattle.gate_core.specs.inner.step.Steps.{TakesOrStops, TakesFrom, kept_of};
+ghost use Rattle.gate_core.specs.inner.step.Steps.{TakesOrStops, TakesFrom, kept_of, told, left_by};
 
 use crate::step::taker::ItemTaker;
 use crate::step::translator::Translator;
-use gate_history::Item;
+use gate_history::{Item, Notes};
 use gate_parts::Outputs;
 use packet_stream::{Stream, take_piece, take_piece_from};
 use redir_data::{FromHost, RedirState};
@@ -53,76 +53,19 @@ impl Inner {
         self.host.keep_memory(to_client);
     }
 
-    /// Takes a piece of the client's stream.
-    pub fn take_client(&mut self, piece: &[u8], out: &mut Outputs) -> Result<(), Memory>
+    /// Takes a piece of a side's stream.
+    pub fn take(&mut self, side: Side, piece: &[u8], out: &mut Outputs) -> Result<(), Memory>
         requires { HasPast (kept_of self.old) }
-        ensures { TakesOrStops result self.old self.new (ClientPiece piece.now) out.old out.new }
+        ensures { TakesOrStops result self.old self.new (piece_of side piece.now) out.old out.new }
     {
         let mut taker = ItemTaker {
             translator: &mut self.translator,
             out,
         };
-        take_piece(self.alloc, &mut self.client, piece, &mut taker)
-    }
-
-    /// Takes what comes straight into the client's stream as a piece of it.
-    pub fn take_client_from<I: Incoming>(
-        &mut self,
-        limit: usize,
-        incoming: &mut I,
-        out: &mut Outputs,
-    ) -> Option<Result<(), Memory>>
-        requires past { HasPast (kept_of self.old) }
-        requires ready { I.can_read incoming.old limit }
-        ensures came { IfSome result (λ taken. TakesFrom ClientPiece I.read_gives limit taken self.old incoming.old out.old self.new incoming.new out.new) }
-        ensures none { IsNone result → (self.new ≡ self.old) × (incoming.new ≡ incoming.old) × (out.new ≡ out.old) }
-    {
-        let mut taker = ItemTaker {
-            translator: &mut self.translator,
-            out,
-        };
-        take_piece_from(self.alloc, &mut self.client, limit, incoming, &mut taker)
-    }
-
-    /// Takes the client's end. The next client may come.
-    pub fn change_client(&mut self, out: &mut Outputs) -> Result<(), Memory>
-        requires { HasPast (kept_of self.old) }
-        ensures { TakesOrStops result self.old self.new ClientEnd out.old out.new }
-    {
-        self.translator.take(Item::ClientLeft, out)?;
-        self.client = Stream::new(self.alloc, ());
-        Ok(())
-    }
-
-    /// Takes a piece of the host's stream.
-    pub fn take_host(&mut self, piece: &[u8], out: &mut Outputs) -> Result<(), Memory>
-        requires { HasPast (kept_of self.old) }
-        ensures { TakesOrStops result self.old self.new (HostPiece piece.now) out.old out.new }
-    {
-        let mut taker = ItemTaker {
-            translator: &mut self.translator,
-            out,
-        };
-        take_piece(self.alloc, &mut self.host, piece, &mut taker)
-    }
-
-    /// Takes what comes straight into the host's stream as a piece of it.
-    pub fn take_host_from<I: Incoming>(
-        &mut self,
-        limit: usize,
-        incoming: &mut I,
-        out: &mut Outputs,
-    ) -> Option<Result<(), Memory>>
-        requires past { HasPast (kept_of self.old) }
-        requires ready { I.can_read incoming.old limit }
-        ensures came { IfSome result (λ taken. TakesFrom HostPiece I.read_gives limit taken self.old incoming.old out.old self.new incoming.new out.new) }
-        ensures none { IsNone result → (self.new ≡ self.old) × (incoming.new ≡ incoming.old) × (out.new ≡ out.old) }
-    {
-        let mut taker = ItemTaker {
-            translator: &mut self.translator,
-            out,
-        };
-        take_piece_from(self.alloc, &mut self.host, limit, incoming, &mut taker)
+        match side {
+            Side::Client => take_piece(self.alloc, &mut self.client, piece, &mut taker),
+            Side::Host => take_piece(self.alloc, &mut self.host, piece, &mut taker),
+        }
     }
 
     /// Takes what comes straight into a side's stream as a piece of it.
@@ -138,10 +81,44 @@ impl Inner {
         ensures came { IfSome result (λ taken. TakesFrom (piece_of side) I.read_gives limit taken self.old incoming.old out.old self.new incoming.new out.new) }
         ensures none { IsNone result → (self.new ≡ self.old) × (incoming.new ≡ incoming.old) × (out.new ≡ out.old) }
     {
+        let mut taker = ItemTaker {
+            translator: &mut self.translator,
+            out,
+        };
         match side {
-            Side::Client => self.take_client_from(limit, incoming, out),
-            Side::Host => self.take_host_from(limit, incoming, out),
+            Side::Client => take_piece_from(
+                self.alloc,
+                &mut self.client,
+                limit,
+                incoming,
+                &mut taker,
+            ),
+            Side::Host => take_piece_from(self.alloc, &mut self.host, limit, incoming, &mut taker),
         }
+    }
+
+    /// What is told of an event that was taken so. That memory ran out within it is kept.
+    pub fn tell(&mut self, taken: Result<(), Memory>, out: Outputs) -> Result<Notes, Memory>
+        ensures told { result ≡ told taken out.notes }
+        ensures kept { self.new ≡ left_by taken self.old }
+    {
+        match taken {
+            Ok(()) => Ok(out.notes),
+            Err(memory) => {
+                self.want = Some(memory);
+                Err(memory)
+            }
+        }
+    }
+
+    /// Takes the client's end. The next client may come.
+    pub fn change_client(&mut self, out: &mut Outputs) -> Result<(), Memory>
+        requires { HasPast (kept_of self.old) }
+        ensures { TakesOrStops result self.old self.new ClientEnd out.old out.new }
+    {
+        self.translator.take(Item::ClientLeft, out)?;
+        self.client = Stream::new(self.alloc, ());
+        Ok(())
     }
 
     /// Takes the host's end.

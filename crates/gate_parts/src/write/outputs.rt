@@ -5,6 +5,7 @@ ghost use Rattle.gate_parts.specs.write.Outputs.{lengths_of, first_of, ReachesLe
 
 use gate_history::Notes;
 use std::alloc::Global;
+use std::mem::swap;
 use usb_base::Bytes;
 
 /// What is sent to each side, and what is told.
@@ -33,6 +34,16 @@ impl Outputs {
             to_host: Bytes::new(alloc),
             notes: Notes::new(alloc),
         }
+    }
+
+    /// Exchanges what is sent with these lists: so an event appends to what stood in them, and they have it behind it.
+    pub fn exchange(&mut self, to_client: &mut Bytes, to_host: &mut Bytes)
+        ensures outputs { self.new ≡ record self.old { to_client = to_client.old; to_host = to_host.old } }
+        ensures client { to_client.new ≡ self.old.to_client }
+        ensures host { to_host.new ≡ self.old.to_host }
+    {
+        swap(&mut self.to_client, to_client);
+        swap(&mut self.to_host, to_host);
     }
 
     /// How much there is of each.

@@ -1,12 +1,17 @@
 -- What came straight into a side's stream: a piece like any other, or nothing.
-use Rattle.std.proofs.Common.{◌≡◌, ◌<◌, ℕ, zero, suc, List, [], ◌∷◌, ◌++◌, take, Option, Some, None, IfSome, IsNone, Result, Ok, Err, refl, sym, ap, subst, ◌∙◌, arith}
+use Rattle.std.proofs.Common.{◌≡◌, ◌<◌, ℕ, zero, suc, List, [], ◌∷◌, ◌++◌, take, Option, Some, None, IfSome, IsNone, IfOk, OnErr, Result, Ok, Err, refl, sym, ap, subst, ◌∙◌, arith}
 use Rattle.std.proofs.Math.Logic.{∥∥₁_map}
+use Rattle.std.proofs.lemmas.Bool.{true≢false}
 use Rattle.usb_base.specs.declared.memory.Memory.{Memory}
 use Rattle.usb_base.specs.declared.side.Side.{Side}
+use Rattle.usb_base.specs.Number.{AreBytes}
 use Rattle.usb_base.proofs.Numbers.{AreBytes-take}
 use Rattle.packet_stream.specs.Streams.{StreamView}
 use Rattle.packet_stream.specs.Takers.{TakenStream, TakesCome, TakesPiece as TakesBytes}
+use Rattle.redir_wire.specs.declared.packet.Header.{Header}
+use Rattle.redir_data.specs.declared.packet.RedirPacket.{RedirPacket}
 use Rattle.redir_data.specs.declared.state.RedirState.{RedirState}
+use Rattle.usbip_urb.specs.declared.client.ClientPacket.{ClientPacket}
 use Rattle.gate_history.specs.declared.note.Note.{Note}
 use Rattle.gate_history.specs.step.Events.{Event, ClientPiece, HostPiece}
 use Rattle.gate_history.specs.Headline.{notes}
@@ -14,10 +19,11 @@ use Rattle.gate_parts.specs.declared.write.outputs.Outputs.{Outputs}
 use Rattle.gate_core.specs.declared.state.kept.Kept.{Kept}
 use Rattle.gate_core.specs.declared.step.inner.Inner.{Inner}
 use Rattle.gate_core.specs.declared.step.taker.ItemTaker.{ItemTaker}
-use Rattle.gate_core.specs.inner.step.Steps.{kept_of, TakesOn, TakesOrStops, TakesFrom}
+use Rattle.gate_core.specs.inner.step.Steps.{kept_of, told, left_by, TakesOn, TakesOrStops, TakesFrom}
 use Rattle.gate_core.specs.inner.step.Takers.{Borrows}
-use Rattle.gate_core.specs.step.Stands.{HasPast, TakesEvent, StopsInEvent, piece_of}
-use Rattle.gate_core.specs.step.Incoming.{TakesIncoming}
+use Rattle.gate_core.specs.state.Kept.{GateKept}
+use Rattle.gate_core.specs.step.Stands.{GateStands, HasPast, IsReady, TakesEvent, StopsInEvent, piece_of}
+use Rattle.gate_core.specs.step.Incoming.{TakesIncoming, TakesOrFails}
 use Rattle.gate_core.proofs.lemmas.step.Halves.{TakesPiece}
 use Rattle.gate_core.proofs.lemmas.step.Sides.{TakenSide, client_side, host_side}
 use Rattle.gate_core.proofs.lemmas.step.Pieces.{taken_side, takes-piece, borrows-piece}
@@ -37,41 +43,44 @@ borrows-come s gives limit (Some r) old new from left come none = borrows-by s r
 
 -- ---- a side's event
 
+-- how the gate has a side: its stream, and what the gate is with another and another translator
+pub record Way (S P : Type 0) : Type 0 where
+  pub side : TakenSide S P
+  pub event : List ℕ → Event
+  pub stream : Inner → StreamView S
+  pub changed : Inner → StreamView S → Kept → Inner
+  pub same : (old : Inner) → changed old (stream old) old.translator ≡ old
+  pub took : (r : Result (Unit {0}) Memory) (old : Inner) (kept : StreamView S) (t : Kept) (piece : List ℕ) (out_old out_new : Outputs) → TakesPiece r side.half (stream old) kept old.translator t piece out_old out_new →
+      TakesOrStops r old (changed old kept t) (event piece) out_old out_new
+
+abbrev pub client_way : Way (Unit {0}) ClientPacket
+client_way = record { side = client_side; event = ClientPiece; stream = λ g. g.client; changed = λ g kept t. record g { client = kept; translator = t }; same = λ old. refl; took = took-asked }
+
+abbrev pub host_way : Way RedirState (Header × RedirPacket)
+host_way = record { side = host_side; event = HostPiece; stream = λ g. g.host; changed = λ g kept t. record g { host = kept; translator = t }; same = λ old. refl; took = took-told }
+
 -- the translator and the outputs are what the taker leaves behind them
-takes-come : {S P I : Type 0} (s : TakenSide S P) (event : List ℕ → Event) (old : Inner) (with_side : StreamView S → Kept → Inner) (a b : TakenStream S ItemTaker) →
-    ((r : Result (Unit {0}) Memory) (kept : StreamView S) (t : Kept) (piece : List ℕ) (out_old out_new : Outputs) → TakesPiece r s.half a.stream kept a.taker.translator.now t piece out_old out_new →
-    TakesOrStops r old (with_side kept t) (event piece) out_old out_new) → with_side a.stream a.taker.translator.now ≡ old →
-    (gives : I → ℕ → List ℕ → I → Type 0) (limit : ℕ) (r : Result (Unit {0}) Memory) (t : Kept) (out : Outputs) (from left : I) → t ≡ b.taker.translator.now → out ≡ b.taker.out.now →
-    TakesCome (taken_side s) gives limit r a from b left → TakesFrom event gives limit r old from a.taker.out.now (with_side b.stream t) left out
-takes-come {S = S} s event old with_side a b took same gives limit r t out from left is sends come =
-    let piece = take come.count come.came.room in
-    record {
-      count = come.count;
-      came = come.came;
-      some = λ more. took r b.stream t piece a.taker.out.now out (takes-piece s r a b t piece out (AreBytes-take come.count come.came.room come.came.bytes) is sends (come.some more));
-      nothing = λ none.
-          let n = come.nothing none in
-          let translator = is ∙ ap (λ (x : TakenStream S ItemTaker). x.taker.translator.now) n.1 in
-          (n.0, (λ i. with_side (n.1 i).stream (translator i)) ∙ same, sends ∙ ap (λ (x : TakenStream S ItemTaker). x.taker.out.now) n.1);
-    }
+pub takes-way : {S P : Type 0} (w : Way S P) (old : Inner) (a b : ItemTaker) (kept : StreamView S) (r : Result (Unit {0}) Memory) (t : Kept) (piece : List ℕ) (out : Outputs) → AreBytes piece →
+    a.translator.now ≡ old.translator → t ≡ b.translator.now → out ≡ b.out.now → TakesBytes (taken_side w.side) r (record { stream = w.stream old; taker = a }) piece (record { stream = kept; taker = b }) →
+    TakesOrStops r old (w.changed old kept t) (w.event piece) a.out.now out
+takes-way w old a b kept r t piece out bytes was is sends takes =
+    w.took r old kept t piece a.out.now out
+    (subst (λ (k : Kept). TakesPiece r w.side.half (w.stream old) kept k t piece a.out.now out) was
+    (takes-piece w.side r (record { stream = w.stream old; taker = a }) (record { stream = kept; taker = b }) t piece out bytes is sends takes))
 
-pub asked-come : {I : Type 0} (old : Inner) (a b : ItemTaker) (kept : StreamView (Unit {0})) (gives : I → ℕ → List ℕ → I → Type 0) (limit : ℕ) (r : Result (Unit {0}) Memory) (t : Kept) (out : Outputs) (from left : I) →
+pub takes-come : {S P I : Type 0} (w : Way S P) (old : Inner) (a b : ItemTaker) (kept : StreamView S) (gives : I → ℕ → List ℕ → I → Type 0) (limit : ℕ) (r : Result (Unit {0}) Memory) (t : Kept) (out : Outputs) (from left : I) →
     a.translator.now ≡ old.translator → t ≡ b.translator.now → out ≡ b.out.now →
-    TakesCome (taken_side client_side) gives limit r (record { stream = old.client; taker = a }) from (record { stream = kept; taker = b }) left →
-    TakesFrom ClientPiece gives limit r old from a.out.now (record old { client = kept; translator = t }) left out
-asked-come old a b kept gives limit r t out from left was is sends come =
-    takes-come client_side ClientPiece old (λ k x. record old { client = k; translator = x }) (record { stream = old.client; taker = a }) (record { stream = kept; taker = b })
-    (λ s k x piece out_old out_new takes. took-asked s old k x piece out_old out_new (subst (λ (y : Kept). TakesPiece s client_side.half old.client k y x piece out_old out_new) was takes))
-    (λ i. record old { translator = was i }) gives limit r t out from left is sends come
-
-pub told-come : {I : Type 0} (old : Inner) (a b : ItemTaker) (kept : StreamView RedirState) (gives : I → ℕ → List ℕ → I → Type 0) (limit : ℕ) (r : Result (Unit {0}) Memory) (t : Kept) (out : Outputs) (from left : I) →
-    a.translator.now ≡ old.translator → t ≡ b.translator.now → out ≡ b.out.now →
-    TakesCome (taken_side host_side) gives limit r (record { stream = old.host; taker = a }) from (record { stream = kept; taker = b }) left →
-    TakesFrom HostPiece gives limit r old from a.out.now (record old { host = kept; translator = t }) left out
-told-come old a b kept gives limit r t out from left was is sends come =
-    takes-come host_side HostPiece old (λ k x. record old { host = k; translator = x }) (record { stream = old.host; taker = a }) (record { stream = kept; taker = b })
-    (λ s k x piece out_old out_new takes. took-told s old k x piece out_old out_new (subst (λ (y : Kept). TakesPiece s host_side.half old.host k y x piece out_old out_new) was takes))
-    (λ i. record old { translator = was i }) gives limit r t out from left is sends come
+    TakesCome (taken_side w.side) gives limit r (record { stream = w.stream old; taker = a }) from (record { stream = kept; taker = b }) left →
+    TakesFrom w.event gives limit r old from a.out.now (w.changed old kept t) left out
+takes-come {S = S} w old a b kept gives limit r t out from left was is sends come = record {
+  count = come.count;
+  came = come.came;
+  some = λ more. takes-way w old a b kept r t (take come.count come.came.room) out (AreBytes-take come.count come.came.room come.came.bytes) was is sends (come.some more);
+  nothing = λ none.
+      let n = come.nothing none in
+      let translator = is ∙ ap (λ (x : TakenStream S ItemTaker). x.taker.translator.now) n.1 in
+      (n.0, (λ i. w.changed old (n.1 i).stream (translator i)) ∙ ap (w.changed old (w.stream old)) was ∙ w.same old, sends ∙ ap (λ (x : TakenStream S ItemTaker). x.taker.out.now) n.1);
+}
 
 -- ---- the gate's
 
@@ -105,40 +114,51 @@ event-stopped first new memory events e client_old client_new host_old host_new 
   host = s.host;
 }
 
-pub incoming-told : {I : Type 0} (gives : I → ℕ → List ℕ → I → Type 0) (side : Side) (limit : ℕ) (old new : Inner) (from left : I) (client host : List ℕ) (out : Outputs) →
-    TakesFrom (piece_of side) gives limit (Ok tt) old from (lists client host) new left out →
-    TakesIncoming gives side limit (Ok out.notes) (kept_of old) from client host (kept_of new) left out.to_client out.to_host
-incoming-told gives side limit old new from left client host out t = record {
+-- what an event tells that was taken so, and the gate behind it
+pub event-tells : (taken : Result (Unit {0}) Memory) (old new : Inner) (e : Event) (client host : List ℕ) (out : Outputs) → TakesOrStops taken old new e (lists client host) out →
+    TakesOrFails (told taken out.notes) (kept_of old) (kept_of (left_by taken new)) e client out.to_client host out.to_host
+event-tells (Ok v) old new e client host out takes = λ first events stands. event-told first new events e client host out (takes first events stands)
+event-tells (Err memory) old new e client host out stops = (
+  refl,
+  λ first events stands. event-stopped first new memory events e client out.to_client host out.to_host (stops first events stands),
+)
+
+-- it stands for one event more, or has failed
+pub event-ready : (taken : Result (Unit {0}) Memory) (old new : Inner) (e : Event) (out_old out_new : Outputs) → HasPast (kept_of old) → TakesOrStops taken old new e out_old out_new → IsReady (kept_of (left_by taken new))
+event-ready (Ok v) old new e out_old out_new past takes = λ works. ∥∥₁_map past (λ w. (w.0, (e ∷ w.1.0, (takes w.0 w.1.0 w.1.1).stands)))
+event-ready (Err memory) old new e out_old out_new past stops = λ works. absurd (true≢false works)
+
+pub incoming-tells : {I : Type 0} (gives : I → ℕ → List ℕ → I → Type 0) (side : Side) (limit : ℕ) (taken : Result (Unit {0}) Memory) (old new : Inner) (from left : I) (client host : List ℕ) (out : Outputs) →
+    TakesFrom (piece_of side) gives limit taken old from (lists client host) new left out →
+    TakesIncoming gives side limit (told taken out.notes) (kept_of old) from client host (kept_of (left_by taken new)) left out.to_client out.to_host
+incoming-tells gives side limit taken old new from left client host out t = record {
   count = t.count;
   came = t.came;
-  some = λ more first events stands. event-told first new events (piece_of side (take t.count t.came.room)) client host out (t.some more first events stands);
+  some = λ more. event-tells taken old new (piece_of side (take t.count t.came.room)) client host out (t.some more);
   nothing = λ none.
       let n = t.nothing none in
-      (ap (λ (o : Outputs). Ok o.notes) n.2, ap kept_of n.1, ap (λ (o : Outputs). o.to_client) n.2, ap (λ (o : Outputs). o.to_host) n.2);
+      ((λ i. told (n.0 i) (n.2 i).notes), (λ i. kept_of (left_by (n.0 i) (n.1 i))), ap (λ (o : Outputs). o.to_client) n.2, ap (λ (o : Outputs). o.to_host) n.2);
 }
 
-no_memory : {A : Type 0} (memory : Memory) → ◌≡◌ {A = Result (Unit {0}) Memory} (Err memory) (Ok tt) → A
-no_memory memory is = absurd cc
+ready-by : (taken : Result (Unit {0}) Memory) (old new : Inner) (e : Event) (out_old out_new : Outputs) (count : ℕ) → HasPast (kept_of old) → (0 < count → TakesOrStops taken old new e out_old out_new) →
+    (count ≡ 0 → (taken ≡ Ok tt) × (new ≡ old) × (out_new ≡ out_old)) → IsReady (kept_of (left_by taken new))
+ready-by taken old new e out_old out_new zero past some nothing =
+    λ works. subst (λ (g : Inner). HasPast (kept_of g)) (sym (λ i. left_by ((nothing refl).0 i) ((nothing refl).1 i))) past
+ready-by taken old new e out_old out_new (suc n) past some nothing = event-ready taken old new e out_old out_new past (some (omega arith))
 
-pub incoming-stopped : {I : Type 0} (gives : I → ℕ → List ℕ → I → Type 0) (side : Side) (limit : ℕ) (memory : Memory) (old new : Inner) (from left : I) (client host : List ℕ) (out : Outputs) →
-    TakesFrom (piece_of side) gives limit (Err memory) old from (lists client host) new left out →
-    TakesIncoming gives side limit (Err memory) (kept_of old) from client host (kept_of (record new { want = Some memory })) left out.to_client out.to_host
-incoming-stopped gives side limit memory old new from left client host out t = record {
-  count = t.count;
-  came = t.came;
-  some = λ more. (
-    refl,
-    λ first events stands. event-stopped first new memory events (piece_of side (take t.count t.came.room)) client out.to_client host out.to_host (t.some more first events stands),
-  );
-  nothing = λ none. no_memory memory (t.nothing none).0;
-}
+pub incoming-ready : {I : Type 0} (gives : I → ℕ → List ℕ → I → Type 0) (event : List ℕ → Event) (limit : ℕ) (taken : Result (Unit {0}) Memory) (old new : Inner) (from left : I) (out_old out_new : Outputs) → HasPast (kept_of old) →
+    TakesFrom event gives limit taken old from out_old new left out_new → IsReady (kept_of (left_by taken new))
+incoming-ready gives event limit taken old new from left out_old out_new past t =
+    ready-by taken old new (event (take t.count t.came.room)) out_old out_new t.count past t.some t.nothing
 
-past-by : (old new : Inner) (event : List ℕ → Event) (piece : List ℕ) (out_old out_new : Outputs) (count : ℕ) → HasPast (kept_of old) → (0 < count → TakesOrStops (Ok tt) old new (event piece) out_old out_new) → (count ≡ 0 → new ≡ old) → HasPast (kept_of new)
-past-by old new event piece out_old out_new zero past some nothing = subst (λ (g : Inner). HasPast (kept_of g)) (sym (nothing refl)) past
-past-by old new event piece out_old out_new (suc n) past some nothing = ∥∥₁_map past (λ w. (w.0, (event piece ∷ w.1.0, (some (omega arith) w.0 w.1.0 w.1.1).stands)))
+-- ---- the two answers that tell it
 
--- it stands for one event more, or nothing has changed
-pub incoming-past : {I : Type 0} (gives : I → ℕ → List ℕ → I → Type 0) (event : List ℕ → Event) (limit : ℕ) (old new : Inner) (from left : I) (out_old out_new : Outputs) → HasPast (kept_of old) →
-    TakesFrom event gives limit (Ok tt) old from out_old new left out_new → HasPast (kept_of new)
-incoming-past gives event limit old new from left out_old out_new past t =
-    past-by old new event (take t.count t.came.room) out_old out_new t.count past t.some (λ none. (t.nothing none).1)
+pub ok-tells : (r : Result (List Note) Memory) (old new : GateKept) (e : Event) (client_old client_new host_old host_new : List ℕ) → TakesOrFails r old new e client_old client_new host_old host_new →
+    IfOk r (λ notes. (first : ℕ) (events : List Event) → GateStands first old events → TakesEvent first new events e client_old client_new host_old host_new notes)
+ok-tells (Ok notes) old new e client_old client_new host_old host_new takes = takes
+ok-tells (Err memory) old new e client_old client_new host_old host_new stops = tt
+
+pub err-tells : (r : Result (List Note) Memory) (old new : GateKept) (e : Event) (client_old client_new host_old host_new : List ℕ) → TakesOrFails r old new e client_old client_new host_old host_new →
+    OnErr r ((first : ℕ) (events : List Event) → GateStands first old events → StopsInEvent first new events e client_old client_new host_old host_new)
+err-tells (Ok notes) old new e client_old client_new host_old host_new takes = tt
+err-tells (Err memory) old new e client_old client_new host_old host_new stops = stops.1

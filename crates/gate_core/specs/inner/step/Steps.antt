@@ -1,10 +1,11 @@
 -- What the gate's own steps do.
-use Rattle.std.specs.Prelude.{◌≡◌, ◌<◌, ◌∷◌, ℕ, List, take, is_some, Result, Ok, Err}
+use Rattle.std.specs.Prelude.{◌≡◌, ◌<◌, ◌∷◌, ℕ, List, take, is_some, Some, Result, Ok, Err}
 use Rattle.usb_base.specs.Incoming.{HasCome}
 use Rattle.usb_base.specs.declared.memory.Memory.{Memory}
 use Rattle.redir_wire.specs.declared.packet.Header.{Header}
 use Rattle.redir_data.specs.declared.packet.RedirPacket.{RedirPacket}
 use Rattle.gate_history.specs.declared.item.Item.{Item}
+use Rattle.gate_history.specs.declared.note.Note.{Note}
 use Rattle.gate_history.specs.declared.item.Item.TheVariants.{Told}
 use Rattle.gate_parts.specs.declared.write.outputs.Outputs.{Outputs}
 use Rattle.gate_core.specs.declared.step.inner.Inner.{Inner}
@@ -52,3 +53,12 @@ pub record TakesFrom {I : Type 0} (piece : List ℕ → Event) (gives : I → �
   pub came : HasCome gives limit count from left
   pub some : 0 < count → TakesOrStops result old new (piece (take count came.room)) out_old out_new
   pub nothing : count ≡ 0 → (result ≡ Ok tt) × (new ≡ old) × (out_new ≡ out_old)
+
+-- what is told of it, and the gate behind it: that memory ran out is kept
+abbrev pub told : Result (Unit {0}) Memory → List Note → Result (List Note) Memory
+told (Ok v) notes = Ok notes
+told (Err memory) notes = Err memory
+
+abbrev pub left_by : Result (Unit {0}) Memory → Inner → Inner
+left_by (Ok v) g = g
+left_by (Err memory) g = record g { want = Some memory }
