@@ -81,26 +81,14 @@ fn greatest_of(started: &[Option<u64>], stopped: &[Option<u64>]) -> u64
 fn greatest_in(ids: &[Option<u64>]) -> u64
     ensures { result ≡ greatest_in ids.now }
 {
-    let mut greatest = 0;
-    for id in ids {
-        greatest = greatest.max(id.unwrap_or(0));
-    }
-    greatest
+    ids.iter()
+        .fold(0, |greatest: u64, id| greatest.max(id.unwrap_or(0)))
 }
 
 fn any_is(ids: &[Option<u64>], id: u64) -> bool
     ensures { result ≡ list_any (is_id id) ids.now }
 {
-    ids.iter().any(|held| is_id(held, id))
-}
-
-fn is_id(held: &Option<u64>, id: u64) -> bool
-    ensures { result ≡ is_id id held.now }
-{
-    match held {
-        Some(held) => *held == id,
-        None => false,
-    }
+    ids.contains(&Some(id))
 }
 
 /// What is kept once the packets that start or stop streams are sent.
@@ -118,8 +106,5 @@ pub struct SentIds {
 pub fn lifted(id: u64, fence: Option<u64>) -> Option<u64>
     ensures { result ≡ lifted id fence }
 {
-    match fence {
-        Some(fence) if fence != id => Some(fence),
-        _ => None,
-    }
+    fence.filter(|fence| *fence != id)
 }
