@@ -20,7 +20,7 @@ use crate::guest::asking::asking_of;
 use crate::guest::routed::{get_alt, get_configuration, set_alt, set_configuration};
 use crate::state::host::Host;
 use crate::state::request::{Asking, Form, Request};
-use crate::write::answer::{write_cancelled, write_ended};
+use crate::write::answer::{write_cancelled, write_refused};
 use crate::write::note::{HostNote, HostNotes};
 use crate::write::packet::write;
 use model_device::Gadget;
@@ -163,8 +163,7 @@ impl<G> Host<G> {
         match asking_of(packet) {
             Asking::Nothing => Ok(()),
             Asking::Refuses { form, endpoint } => {
-                let status = UsbStatus::Inval;
-                write_ended(alloc, status, id, form, endpoint, self.guest.caps, out)
+                write_refused(alloc, id, form, endpoint, self.guest.caps, out)
             }
             Asking::Asks { form, transfer } => self.join(id, form, transfer),
         }
