@@ -1,8 +1,8 @@
 -- The descriptors of a configuration (USB 2.0, 9.5 and 9.6): where each one stands, which are wrong, and what they say.
-use Rattle.std.specs.Prelude.{◌≡◌, ℕ, zero, suc, ◌+◌, ◌%◌, Bool, true, if◌then◌else◌, ◌==◌, ◌&&◌, nat_lt, nat_le, List, [], ◌∷◌, ◌++◌, length, take, drop, map, Option, Some, None}
+use Rattle.std.specs.Prelude.{◌≡◌, ℕ, zero, suc, ◌+◌, ◌%◌, Bool, true, if◌then◌else◌, ◌==◌, ◌&&◌, nat_le, List, [], ◌∷◌, ◌++◌, length, take, drop, map, Option, Some, None}
 use Rattle.std.specs.Int.{w16}
 use Rattle.usb_base.specs.Number.{byte_at, le_at}
-use Rattle.usb_base.specs.Endpoint.{kind_of_byte}
+use Rattle.usb_base.specs.Endpoint.{is_address, kind_of_byte}
 use Rattle.chapter9.specs.declared.part.Part.{Part}
 use Rattle.chapter9.specs.declared.part.Part.TheVariants.{Config, Interface, Endpoint, Other}
 
@@ -38,7 +38,7 @@ is_configuration blob = nat_le 9 (length blob) && nat_le 9 (byte_at 0 blob) && n
 abbrev pub is_right : List ℕ → Bool
 is_right bytes =
     is_whole bytes && (if byte_at 1 bytes == 4 then nat_le 9 (byte_at 0 bytes)
-    else if byte_at 1 bytes == 5 then nat_le 7 (byte_at 0 bytes) && nat_lt (byte_at 2 bytes % 128) 16
+    else if byte_at 1 bytes == 5 then nat_le 7 (byte_at 0 bytes) && is_address (byte_at 2 bytes)
     else true)
 
 abbrev pub first_wrong : List Descriptor → Option ℕ

@@ -2,7 +2,7 @@
 -- port reset is that of 11.24.2.13, and resets the device itself).
 use Rattle.std.specs.Prelude.{ℕ, ◌%◌, ◌==◌, ◌&&◌, nat_lt, min, Bool, true, false, List, [], ◌∷◌, length, take, Option, Some, None, is_some, unwrap_or, if◌then◌else◌}
 use Rattle.std.specs.Option.{option_map_or}
-use Rattle.usb_base.specs.Endpoint.{endpoint_index, row_of}
+use Rattle.usb_base.specs.Endpoint.{endpoint_index, is_address, row_of}
 use Rattle.usb_base.specs.declared.endpoint.EpKind.{EpKind}
 use Rattle.usb_base.specs.declared.endpoint.EpKind.TheVariants.{Invalid}
 use Rattle.usb_base.specs.declared.setup.Setup.{Setup}
@@ -40,7 +40,7 @@ is_valid _ = true
 
 -- wIndex is the address of an endpoint that the device has
 abbrev pub is_endpoint : List Part → DevState → ℕ → Bool
-is_endpoint parts s index = nat_lt index 256 && nat_lt (index % 128) 16 && is_valid (row_of (table_of parts s) index).kind
+is_endpoint parts s index = nat_lt index 256 && is_address index && is_valid (row_of (table_of parts s) index).kind
 
 -- wValue is an alternate setting that the interface has
 abbrev pub is_setting : List Part → ℕ → Bool

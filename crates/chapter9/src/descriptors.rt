@@ -1,6 +1,7 @@
 //! A configuration's bytes, walked descriptor by descriptor.
 
-ghost use Rattle.std.specs.Prelude.{◌≡◌, ◌≤◌, ◌%◌, length, drop, Some, None, IfOk, IsTrue, nat_lt, if◌then◌else◌};
+ghost use Rattle.std.specs.Prelude.{◌≡◌, ◌≤◌, length, drop, Some, None, IfOk, IsTrue, if◌then◌else◌};
+ghost use Rattle.usb_base.specs.Endpoint.{is_address};
 ghost use Rattle.usb_base.specs.Number.{byte_at};
 ghost use Rattle.chapter9.specs.Descriptors.{AreJoined, endpoint_at, interface_at, is_configuration, is_right, part_at, parts_of, wrong_place};
 ghost use Rattle.chapter9.specs.Answers.{IfBad, OnMemory};
@@ -126,7 +127,7 @@ fn interface(bytes: &[u8]) -> Part
 /// The endpoint, if it has an address.
 fn endpoint(bytes: &[u8]) -> Option<Part>
     requires { 7 ≤ length bytes.now }
-    ensures { result ≡ (if nat_lt (byte_at 2 bytes.now % 128) 16 then Some (endpoint_at bytes.now) else None) }
+    ensures { result ≡ (if is_address (byte_at 2 bytes.now) then Some (endpoint_at bytes.now) else None) }
 {
     let ep = EpAddr::new(bytes[2])?;
     Some(Part::Endpoint {

@@ -2,10 +2,10 @@
 -- only requests of endpoint 0 wait.
 use Rattle.std.specs.Prelude.{◌≡◌, ℕ, ◌==◌, Bool, true, false, List, [], ◌∷◌, ◌++◌}
 use Rattle.std.specs.List.{list_any, AllByRecursion}
+use Rattle.usb_base.specs.Endpoint.{is_control}
 use Rattle.redir_wire.specs.declared.packet.RedirControl.TheVariants as plain
 use Rattle.redir_data.specs.declared.packet.RedirPacket.{RedirPacket}
 use Rattle.redir_data.specs.declared.packet.RedirPacket.TheVariants.{Carrying, Plain}
-use Rattle.model_device.specs.Transfer.{is_control}
 use Rattle.redir_host.specs.guest.Asking.{asking_of}
 use Rattle.redir_host.specs.declared.state.request.Asking.{Asking}
 use Rattle.redir_host.specs.declared.state.request.Asking.TheVariants.{Asks, Refuses}

@@ -1,6 +1,6 @@
 -- What holds of every device.
 use Rattle.std.specs.Prelude.{◌≡◌, ◌≢◌, ℕ, ◌<◌, ◌≤◌, ◌==◌, ◌&&◌, min, Bool, true, false, [], ◌∷◌, length, take, get_or, Some, IsSome, IfSome}
-use Rattle.usb_base.specs.Endpoint.{no_endpoint}
+use Rattle.usb_base.specs.Endpoint.{is_control, no_endpoint}
 use Rattle.usb_base.specs.declared.endpoint.EpKind.TheVariants.{Iso}
 use Rattle.usb_base.specs.Status.{status_of, status_byte}
 use Rattle.usb_base.specs.declared.setup.Setup.{Setup}
@@ -11,7 +11,7 @@ use Rattle.redir_wire.specs.declared.packet.TheConstants.{MAX_INTERFACES}
 use Rattle.chapter9.specs.Requests.{is_request}
 use Rattle.chapter9.specs.Standard.{success}
 use Rattle.model_device.specs.declared.gadget.TheConstants.{MAX_STREAM_PACKET}
-use Rattle.model_device.specs.Transfer.{IsTransfer, IsOutcome, asks_change, is_control}
+use Rattle.model_device.specs.Transfer.{IsTransfer, IsOutcome, asks_change}
 use Rattle.model_device.specs.Meaning.{Meaning}
 
 -- in both states the device has the same configuration, interfaces and endpoints

@@ -1,16 +1,12 @@
 -- The transfers that a device is asked for, and what may come of one.
-use Rattle.std.specs.Prelude.{◌≡◌, ℕ, ◌≤◌, ◌%◌, ◌==◌, Bool, true, false, [], length, is_some, IfSome}
+use Rattle.std.specs.Prelude.{◌≡◌, ◌≤◌, Bool, true, false, [], length, is_some, IfSome}
 use Rattle.std.specs.Option.{option_map_or}
-use Rattle.usb_base.specs.Endpoint.{IsEndpoint, is_in_endpoint}
+use Rattle.usb_base.specs.Endpoint.{IsEndpoint, is_control, is_in_endpoint}
 use Rattle.usb_base.specs.Setup.{is_in_setup}
 use Rattle.usb_base.specs.declared.transfer.Transfer.{Transfer}
 use Rattle.usb_base.specs.declared.transfer.Outcome.{Outcome}
 use Rattle.control_route.specs.Routes.{route_of}
 use Rattle.control_route.specs.Changes.{is_change}
-
--- endpoint 0, in either direction
-abbrev pub is_control : ℕ → Bool
-is_control ep = ep % 128 == 0
 
 -- a transfer has a setup exactly on endpoint 0, and there the setup's direction; from the device it has no body, and
 -- to the device it wants just its body

@@ -2,8 +2,9 @@
 -- `c HEX` and `h HEX`, pieces of the client's and the host's stream, and `c.` and `h.`, their ends. A tape for a
 -- modelled host has `c HEX` and `c.`, `g N` and `h N`, bytes that go to the host and to the gateway, `p EP` and `o EP`,
 -- a transfer that is performed and a packet that is offered, and `x`, the unplugging.
-use Rattle.std.specs.Prelude.{ℕ, ◌%◌, ◌==◌, nat_lt, Bool, true, false, if◌then◌else◌, List, [], ◌∷◌, Option, Some, None, option_map, Result, Ok, codes}
+use Rattle.std.specs.Prelude.{ℕ, ◌==◌, Bool, true, false, if◌then◌else◌, List, [], ◌∷◌, Option, Some, None, option_map, Result, Ok, codes}
 use Rattle.hex.specs.Hex.{decode_of, decode_sized}
+use Rattle.usb_base.specs.Endpoint.{is_address}
 use Rattle.usb_base.specs.declared.memory.Memory.{Memory}
 use Rattle.hex.specs.declared.error.FromHexError.{FromHexError}
 use Rattle.packet_show.specs.declared.tape.ReplayLine.{ReplayLine}
@@ -27,7 +28,7 @@ bytes_of digits = some_bytes (decode_of digits)
 
 -- EP: the two hexadecimal digits of an endpoint's address, whose bits 4 to 6 are all 0
 abbrev pub address : Result (List ℕ) FromHexError → Option ℕ
-address (Ok (byte ∷ bytes)) = if nat_lt (byte % 128) 16 then Some byte else None
+address (Ok (byte ∷ bytes)) = if is_address byte then Some byte else None
 address _ = None
 
 abbrev pub endpoint_of : List ℕ → Option ℕ

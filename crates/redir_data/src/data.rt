@@ -8,7 +8,7 @@ ghost use Rattle.redir_data.specs.inner.Past.{with_body};
 
 use crate::packet::RedirData;
 use redir_wire::{DataKind, FieldWriter, Way};
-use usb_base::{Bytes, Memory};
+use usb_base::{Bytes, Memory, is_in_endpoint};
 
 impl RedirData {
     /// Its type.
@@ -180,8 +180,8 @@ fn carries(way: Way, endpoint: u8) -> bool
     ensures { result ≡ carries way endpoint }
 {
     match way {
-        Way::ToHost => endpoint < 0x80,
-        Way::ToGuest => endpoint >= 0x80,
+        Way::ToHost => !is_in_endpoint(endpoint),
+        Way::ToGuest => is_in_endpoint(endpoint),
     }
 }
 

@@ -10,6 +10,14 @@ use Rattle.usb_base.specs.declared.endpoint.TheConstants.{ENDPOINTS}
 abbrev pub IsEndpoint : ℕ → Type 0
 IsEndpoint byte = byte % 128 < 16
 
+-- the same as a test
+abbrev pub is_address : ℕ → Bool
+is_address byte = nat_lt (byte % 128) 16
+
+-- endpoint 0, in either direction
+abbrev pub is_control : ℕ → Bool
+is_control ep = ep % 128 == 0
+
 -- bit 7 says that data go from the device to the host
 abbrev pub is_in_endpoint : ℕ → Bool
 is_in_endpoint byte = not (nat_lt byte 128)

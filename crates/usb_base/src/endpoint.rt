@@ -1,7 +1,7 @@
 //! Endpoints: their addresses, their kinds, and the table of a device's 32 (USB 2.0, 9.6.6).
 
-ghost use Rattle.std.specs.Prelude.{◌≡◌, ◌<◌, ◌↔◌, IsSome, IfSome};
-ghost use Rattle.usb_base.specs.Endpoint.{IsEndpoint, byte_of_kind, endpoint_index, in_endpoints, is_in_endpoint, kind_of_byte, no_endpoints, out_endpoints, row_of};
+ghost use Rattle.std.specs.Prelude.{◌≡◌, ◌<◌, ◌↔◌, IsSome, IfSome, if◌then◌else◌};
+ghost use Rattle.usb_base.specs.Endpoint.{IsEndpoint, byte_of_kind, endpoint_index, in_endpoints, is_control, is_in_endpoint, kind_of_byte, no_endpoints, out_endpoints, row_of};
 ghost use Rattle.usb_base.specs.declared.endpoint.TheConstants.{ENDPOINTS};
 
 use std::marker::Model;
@@ -45,6 +45,13 @@ impl EpAddr {
         } else {
             None
         }
+    }
+
+    /// Endpoint 0 in this direction.
+    pub fn control(is_in: bool) -> EpAddr
+        ensures { result ≡ (if is_in then 128 else 0) }
+    {
+        of(if is_in { 0x80 } else { 0x00 })
     }
 
     /// All OUT endpoints in order, and endpoint 0 before them.
@@ -107,10 +114,10 @@ impl EpAddr {
         ensures value { result ≡ endpoint_index self }
         ensures in_range { result < ENDPOINTS }
     {
-        if self.byte < 0x80 {
-            self.byte as usize
-        } else {
+        if self.is_in() {
             (self.byte - 0x70) as usize
+        } else {
+            self.byte as usize
         }
     }
 
@@ -118,8 +125,22 @@ impl EpAddr {
     pub fn is_in(self) -> bool
         ensures { result ≡ is_in_endpoint self }
     {
-        self.byte >= 0x80
+        is_in_endpoint(self.byte)
     }
+
+    /// Whether it is endpoint 0, in either direction.
+    pub fn is_control(self) -> bool
+        ensures { result ≡ is_control self }
+    {
+        self.byte % 0x80 == 0
+    }
+}
+
+/// Whether data go from the device to the host at an endpoint of this byte, which may be no address.
+pub fn is_in_endpoint(byte: u8) -> bool
+    ensures { result ≡ is_in_endpoint byte }
+{
+    byte >= 0x80
 }
 
 /// The address of a byte that is one.

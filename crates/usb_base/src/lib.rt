@@ -24,7 +24,7 @@ mod text;
 mod transfer;
 
 pub use digits::push_hex;
-pub use endpoint::{ENDPOINTS, EpAddr, EpKind, EpRow, EpTable, endpoint_count};
+pub use endpoint::{ENDPOINTS, EpAddr, EpKind, EpRow, EpTable, endpoint_count, is_in_endpoint};
 pub use incoming::Incoming;
 pub use limits::{
     LONGEST_CLIENT_PACKET, LONGEST_HOST_PACKET, MAX_PACKETS, MAX_TRANSFER, transfer_limits,

@@ -1,12 +1,13 @@
 -- A transfer by a packet of its own is read by the host as it was asked.
 use Rattle.std.proofs.Common.{◌≡◌, ℕ, ◌%◌, ◌==◌, ◌<◌, ◌≤◌, not, Bool, true, false, cond, nat_lt, nat_le, Option, Some, None, refl, sym, ap, ◌∙◌, arith, unwrap_or}
 use Rattle.std.proofs.lemmas.Bool.{and_from}
+use Rattle.usb_base.specs.Endpoint.{is_control}
 use Rattle.usb_base.specs.declared.setup.Setup.{Setup}
 use Rattle.usb_base.specs.declared.transfer.Transfer.{Transfer}
 use Rattle.redir_data.specs.declared.packet.RedirData.{RedirData}
 use Rattle.redir_data.specs.declared.packet.RedirData.TheVariants as moving
 use Rattle.redir_data.specs.declared.packet.RedirPacket.TheVariants.{Carrying}
-use Rattle.model_device.specs.Transfer.{IsTransfer, is_control}
+use Rattle.model_device.specs.Transfer.{IsTransfer}
 use Rattle.redir_host.specs.declared.state.request.Asking.TheVariants.{Nothing, Asks}
 use Rattle.redir_host.specs.declared.state.request.Form.TheVariants as form
 use Rattle.usb_base.specs.declared.limits.TheConstants.{MAX_TRANSFER}

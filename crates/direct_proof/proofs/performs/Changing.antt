@@ -7,6 +7,7 @@ use Rattle.std.proofs.lemmas.Bool.{or_left, or_right}
 use Rattle.std.proofs.lemmas.List.Folds.{list_any-append}
 use Rattle.std.proofs.lemmas.List.{map-append}
 use Rattle.std.proofs.Math.Bool.{and-false}
+use Rattle.usb_base.specs.Endpoint.{is_control}
 use Rattle.usb_base.specs.Status.{is_success}
 use Rattle.usb_base.specs.declared.transfer.Outcome.{Outcome}
 use Rattle.usb_base.specs.declared.endpoint.EpTable.{EpTable}
@@ -14,7 +15,7 @@ use Rattle.control_route.specs.declared.route.Route.{Route}
 use Rattle.control_route.specs.Changes.{is_change as is_route_change}
 use Rattle.model_device.specs.Meaning.{Meaning}
 use Rattle.model_device.specs.Gadget.{IsGadget, IsNamed}
-use Rattle.model_device.specs.Transfer.{IsOutcome, is_control}
+use Rattle.model_device.specs.Transfer.{IsOutcome}
 use Rattle.redir_host.specs.declared.state.host.Host.{Host}
 use Rattle.redir_host.specs.declared.state.request.Request.{Request as HostRequest}
 use Rattle.redir_host.specs.declared.state.running.Running.{Running}

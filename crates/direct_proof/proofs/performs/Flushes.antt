@@ -2,7 +2,7 @@
 use Rattle.std.proofs.Common.{◌≡◌, ℕ, ◌==◌, ◌&&◌, not, Bool, true, false, cond, List, [], ◌∷◌, ◌++◌, map, filter, Option, refl, sym, ap, ◌∙◌, subst, arith, inl, inr, ◌⊎◌, true≢false}
 use Rattle.std.specs.List.{AllByRecursion as Each}
 use Rattle.usb_base.specs.declared.endpoint.EpTable.{EpTable}
-use Rattle.usb_base.specs.Endpoint.{row_of}
+use Rattle.usb_base.specs.Endpoint.{is_control, row_of}
 use Rattle.usb_base.specs.declared.status.UsbStatus.TheVariants.{Cancelled}
 use Rattle.usb_base.specs.declared.endpoint.EpKind.{EpKind}
 use Rattle.redir_wire.specs.declared.packet.RedirControl.TheVariants as plain
@@ -11,7 +11,6 @@ use Rattle.redir_data.specs.declared.packet.RedirPacket.TheVariants.{Plain}
 use Rattle.control_route.specs.declared.route.Route.{Route}
 use Rattle.control_route.specs.Changes.{touches}
 use Rattle.control_route.specs.declared.route.Route.TheVariants as route
-use Rattle.model_device.specs.Transfer.{is_control}
 use Rattle.redir_host.specs.device.Changes.{is_touched}
 use Rattle.chapter9.specs.Standard.{ended}
 use Rattle.redir_host.proofs.lemmas.state.Each.{each_front, each_behind}

@@ -1,6 +1,7 @@
 -- A submit that goes to the host by an id and ends no stream, or that is answered at once, keeps what is shared.
 use Rattle.std.proofs.Common.{◌≡◌, ℕ, nat_le, Bool, true, false, cond, List, [], ◌∷◌, length, Option, Some, None, is_some, refl, sym, ap, ◌∙◌, subst, inl, inr, ◌⊎◌, ◌+◌, not, ℤ}
 use Rattle.std.specs.List.{AllByRecursion as Each}
+use Rattle.usb_base.specs.Endpoint.{is_control}
 use Rattle.usb_base.specs.declared.setup.Setup.{Setup}
 use Rattle.usb_base.specs.declared.side.Side.TheVariants.{Client}
 use Rattle.usb_base.specs.declared.reason.Reason.TheVariants.{NotImported, DuplicateSeq}
@@ -14,7 +15,7 @@ use Rattle.redir_data.specs.declared.packet.RedirPacket.{RedirPacket}
 use Rattle.control_route.specs.declared.route.Route.{Route}
 use Rattle.control_route.specs.declared.route.Route.TheVariants as route
 use Rattle.model_device.specs.Meaning.{Meaning}
-use Rattle.model_device.specs.Transfer.{IsTransfer, is_control}
+use Rattle.model_device.specs.Transfer.{IsTransfer}
 use Rattle.model_device.specs.Gadget.{IsGadget}
 use Rattle.gate_history.specs.declared.request.Request.{Request}
 use Rattle.gate_history.specs.client.Requests.{request_of}

@@ -1,8 +1,8 @@
 -- Requests that are asked back: what an unlink marks, and the cancels that it sends.
 use Rattle.std.proofs.Common.{◌≡◌, ℕ, ◌+◌, ◌||◌, Bool, true, false, cond, List, [], ◌∷◌, ◌++◌, map, filter, refl, sym, ap, ◌∙◌, subst, arith, true≢false}
 use Rattle.std.specs.List.{AllByRecursion as Each}
+use Rattle.usb_base.specs.Endpoint.{is_control}
 use Rattle.redir_data.specs.declared.packet.RedirPacket.{RedirPacket}
-use Rattle.model_device.specs.Transfer.{is_control}
 use Rattle.redir_host.proofs.lemmas.state.Each.{each_front}
 use Rattle.gate_history.proofs.lemmas.Lists.{Each-weaker}
 use Rattle.gate_history.specs.client.Verdict.{goes_by_id}

@@ -2,13 +2,12 @@
 use Rattle.std.proofs.Common.{◌≡◌, ℕ, ◌+◌, ◌%◌, ◌<◌, ◌≤◌, ◌==◌, ◌||◌, nat_le, not, Bool, true, false, cond, length, is_some, refl, sym, ap, ◌∙◌, subst, arith, ◌-◌}
 use Rattle.std.proofs.lemmas.Bool.{lt-ltb, le-ltb, leb-true}
 use Rattle.usb_base.specs.declared.transfer.Transfer.{Transfer}
-use Rattle.usb_base.specs.Endpoint.{endpoint_index}
+use Rattle.usb_base.specs.Endpoint.{endpoint_index, is_control}
 use Rattle.usb_base.specs.Setup.{setup_at, is_in_setup}
 use Rattle.usbip_urb.specs.declared.packet.Submit.{Submit as UrbSubmit}
 use Rattle.usbip_urb.specs.Ranges.{IsSubmit}
 use Rattle.usbip_urb.specs.Sizes.{is_out}
 use Rattle.usb_base.specs.declared.limits.TheConstants.{MAX_PACKETS}
-use Rattle.model_device.specs.Transfer.{is_control}
 use Rattle.gate_history.specs.client.Requests.{request_of, address, transfer_by}
 
 pub record IsAddressed (t : Transfer) : Type 0 where

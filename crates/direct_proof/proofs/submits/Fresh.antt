@@ -4,9 +4,8 @@ use Rattle.std.proofs.Common.{◌≡◌, ℕ, ◌<◌, ◌==◌, ◌||◌, Bool,
 use Rattle.std.specs.List.{list_any, AllByRecursion as Each}
 use Rattle.std.proofs.lemmas.Bool.{both_ways, or_parts}
 use Rattle.std.proofs.lemmas.List.Folds.{list_any-append}
-use Rattle.usb_base.specs.Endpoint.{endpoint_index}
+use Rattle.usb_base.specs.Endpoint.{endpoint_index, is_control}
 use Rattle.usbip_urb.specs.declared.packet.Submit.{Submit as UrbSubmit}
-use Rattle.model_device.specs.Transfer.{is_control}
 use Rattle.gate_history.proofs.lemmas.Lists.{Each-append}
 use Rattle.gate_history.specs.client.Requests.{request_of}
 use Rattle.gate_history.specs.declared.verdict.Verdict.{Verdict}

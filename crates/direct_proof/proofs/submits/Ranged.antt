@@ -7,7 +7,7 @@ use Rattle.usb_base.specs.declared.setup.Setup.{Setup}
 use Rattle.usb_base.specs.declared.endpoint.EpKind.{EpKind}
 use Rattle.usb_base.specs.declared.endpoint.EpKind.TheVariants as kind
 use Rattle.usb_base.specs.declared.endpoint.EpRow.{EpRow}
-use Rattle.usb_base.specs.Endpoint.{is_in_endpoint, is_iso}
+use Rattle.usb_base.specs.Endpoint.{is_control, is_in_endpoint, is_iso}
 use Rattle.usbip_urb.specs.declared.packet.Submit.{Submit as UrbSubmit}
 use Rattle.usbip_urb.specs.declared.packet.UrbPacket.TheVariants as urb
 use Rattle.usbip_urb.specs.declared.client.ClientPacket.TheVariants.{Urb}
@@ -19,7 +19,7 @@ use Rattle.control_route.specs.declared.route.Route.TheVariants as route
 use Rattle.control_route.specs.Routes.{route_of}
 use Rattle.redir_data.specs.Spelling.{data_count}
 use Rattle.redir_wire.specs.declared.packet.Way.TheVariants.{ToHost}
-use Rattle.model_device.specs.Transfer.{IsTransfer, is_control}
+use Rattle.model_device.specs.Transfer.{IsTransfer}
 use Rattle.model_device.specs.Submit.{normal}
 use Rattle.model_device.proofs.Submits.{asks_transfer}
 use Rattle.redir_host.specs.guest.Asking.{routed}

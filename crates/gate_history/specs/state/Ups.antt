@@ -1,9 +1,9 @@
 -- The streams of a device's endpoints that are up, by the endpoints' places in its table. A stream keeps the row that
 -- its endpoint had when it went up, and holds packets.
-use Rattle.std.specs.Prelude.{ℕ, ◌%◌, nat_lt, Bool, true, if◌then◌else◌, List, [], ◌||◌, map, replicate, get_or, slice_set, Option, Some, None, is_some}
+use Rattle.std.specs.Prelude.{ℕ, Bool, true, if◌then◌else◌, List, [], ◌||◌, map, replicate, get_or, slice_set, Option, Some, None, is_some}
 use Rattle.std.specs.Option.{option_map, option_and_then, option_map_or}
 use Rattle.usb_base.specs.declared.transfer.StreamPacket.{StreamPacket}
-use Rattle.usb_base.specs.Endpoint.{endpoint_index}
+use Rattle.usb_base.specs.Endpoint.{endpoint_index, is_address}
 use Rattle.usb_base.specs.Status.{is_success}
 use Rattle.control_route.specs.declared.route.Route.{Route}
 use Rattle.control_route.specs.Changes.{touches}
@@ -25,7 +25,7 @@ stream_at ups ep = get_or ups (endpoint_index ep) None
 
 -- that of the endpoint with this address; a byte that is no address is that of no endpoint
 abbrev pub stream_of : List (Option Up) → ℕ → Option Up
-stream_of ups byte = if nat_lt (byte % 128) 16 then stream_at ups byte else None
+stream_of ups byte = if is_address byte then stream_at ups byte else None
 
 abbrev pub held_of : Option Up → List StreamPacket
 held_of up = option_map_or (λ u. u.held) up []
@@ -45,7 +45,7 @@ lower test ups = map (unless test) ups
 
 -- that of this endpoint goes down; a byte that is no address is that of no endpoint
 abbrev pub lower_at : ℕ → List (Option Up) → List (Option Up)
-lower_at byte ups = if nat_lt (byte % 128) 16 then slice_set ups (endpoint_index byte) None else ups
+lower_at byte ups = if is_address byte then slice_set ups (endpoint_index byte) None else ups
 
 -- that of this endpoint holds these packets
 abbrev pub hold : ℕ → List StreamPacket → List (Option Up) → List (Option Up)

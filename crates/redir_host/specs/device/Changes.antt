@@ -1,13 +1,12 @@
 -- What a change does: a new configuration, an alternate setting, or a reset. Which endpoints it touches goes by the
 -- device's table before it; none touches endpoint 0.
 use Rattle.std.specs.Prelude.{ℕ, ◌&&◌, not, Bool, if◌then◌else◌, [], ◌++◌, map, filter, Option, Some, None}
-use Rattle.usb_base.specs.Endpoint.{row_of}
+use Rattle.usb_base.specs.Endpoint.{is_control, row_of}
 use Rattle.usb_base.specs.declared.endpoint.EpTable.{EpTable}
 use Rattle.control_route.specs.Changes.{touches}
 use Rattle.control_route.specs.declared.route.Route.{Route}
 use Rattle.control_route.specs.declared.route.Route.TheVariants as route
 use Rattle.model_device.specs.Meaning.{Meaning}
-use Rattle.model_device.specs.Transfer.{is_control}
 use Rattle.redir_host.specs.declared.state.host.Host.{Host}
 use Rattle.redir_host.specs.declared.state.request.Form.{Form}
 use Rattle.redir_host.specs.declared.state.request.Form.TheVariants as form

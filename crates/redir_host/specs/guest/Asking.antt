@@ -1,6 +1,6 @@
 -- What a packet asks of the device.
-use Rattle.std.specs.Prelude.{ℕ, ◌%◌, ◌==◌, ◌&&◌, not, nat_lt, nat_le, Bool, if◌then◌else◌, [], Some, None, unwrap_or}
-use Rattle.usb_base.specs.Endpoint.{is_in_endpoint}
+use Rattle.std.specs.Prelude.{ℕ, ◌==◌, ◌&&◌, not, nat_lt, nat_le, Bool, if◌then◌else◌, [], Some, None, unwrap_or}
+use Rattle.usb_base.specs.Endpoint.{is_address, is_control, is_in_endpoint}
 use Rattle.usb_base.specs.declared.setup.Setup.{Setup}
 use Rattle.usb_base.specs.declared.transfer.Transfer.{Transfer}
 use Rattle.redir_wire.specs.declared.packet.RedirControl.{RedirControl}
@@ -11,7 +11,6 @@ use Rattle.redir_data.specs.declared.packet.RedirPacket.{RedirPacket}
 use Rattle.redir_data.specs.declared.packet.RedirPacket.TheVariants.{Plain, Carrying}
 use Rattle.control_route.specs.declared.route.Route.{Route}
 use Rattle.control_route.specs.declared.route.Route.TheVariants as route
-use Rattle.model_device.specs.Transfer.{is_control}
 use Rattle.model_device.specs.Submit.{control_transfer, setup_of}
 use Rattle.usb_base.specs.declared.limits.TheConstants.{MAX_TRANSFER}
 use Rattle.redir_host.specs.declared.state.request.Asking.{Asking}
@@ -21,7 +20,7 @@ use Rattle.redir_host.specs.declared.state.request.Form.TheVariants as form
 
 -- an address of an endpoint other than 0
 abbrev pub is_other : ℕ → Bool
-is_other ep = nat_lt (ep % 128) 16 && not (is_control ep)
+is_other ep = is_address ep && not (is_control ep)
 
 abbrev pub asked_if : Bool → Form → Transfer → Asking
 asked_if can f t = if can then Asks f t else Refuses f t.ep

@@ -1,7 +1,7 @@
 -- What a packet of the guest makes of its host.
-use Rattle.std.specs.Prelude.{ℕ, ◌%◌, ◌==◌, ◌&&◌, ◌||◌, not, nat_lt, Bool, true, if◌then◌else◌, List, [], ◌∷◌, ◌++◌, filter, Option, Some, None}
+use Rattle.std.specs.Prelude.{ℕ, ◌==◌, ◌&&◌, ◌||◌, not, Bool, true, if◌then◌else◌, List, [], ◌∷◌, ◌++◌, filter, Option, Some, None}
 use Rattle.std.specs.List.{find}
-use Rattle.usb_base.specs.Endpoint.{is_in_endpoint, row_of}
+use Rattle.usb_base.specs.Endpoint.{is_address, is_control, is_in_endpoint, row_of}
 use Rattle.usb_base.specs.declared.endpoint.EpTable.{EpTable}
 use Rattle.usb_base.specs.declared.status.UsbStatus.{UsbStatus}
 use Rattle.usb_base.specs.declared.status.UsbStatus.TheVariants.{Success, Inval}
@@ -17,7 +17,6 @@ use Rattle.redir_data.specs.StreamKinds.{is_kind_of}
 use Rattle.control_route.specs.declared.route.Route.TheVariants as route
 use Rattle.chapter9.specs.Standard.{ended}
 use Rattle.model_device.specs.Meaning.{Meaning}
-use Rattle.model_device.specs.Transfer.{is_control}
 use Rattle.redir_host.specs.declared.state.host.Host.{Host}
 use Rattle.redir_host.specs.declared.write.note.HostNote.TheVariants as note
 use Rattle.redir_host.specs.declared.state.request.Asking.{Asking}
@@ -62,7 +61,7 @@ cancel_move {S = S} h id (Some q) =
 
 -- an IN endpoint of the stream's kind
 abbrev pub can_start : EpTable → StreamKind → ℕ → Bool
-can_start table k ep = nat_lt (ep % 128) 16 && (is_in_endpoint ep && is_kind_of k (row_of table ep).kind)
+can_start table k ep = is_address ep && (is_in_endpoint ep && is_kind_of k (row_of table ep).kind)
 
 abbrev pub runs_at : ℕ → Running → Bool
 runs_at ep s = s.ep == ep

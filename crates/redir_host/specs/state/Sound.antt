@@ -1,7 +1,7 @@
 -- What is known of a host whatever its guest sends: its requests are transfers, and their answers can be written.
 use Rattle.std.specs.Prelude.{◌≡◌, ℕ, ◌<◌, ◌≤◌, ◌^◌, true, false}
 use Rattle.std.specs.List.{AllByRecursion}
-use Rattle.usb_base.specs.Endpoint.{is_in_endpoint}
+use Rattle.usb_base.specs.Endpoint.{is_control, is_in_endpoint}
 use Rattle.redir_wire.specs.declared.packet.Caps.{Caps}
 use Rattle.redir_wire.specs.declared.packet.Way.TheVariants.{ToGuest}
 use Rattle.redir_wire.specs.declared.packet.TheConstants.Caps.{WIDE_BULK_LENGTH}
@@ -13,7 +13,7 @@ use Rattle.redir_data.specs.declared.packet.RedirPacket.TheVariants.{Plain, Carr
 use Rattle.redir_data.specs.declared.state.RedirState.{RedirState}
 use Rattle.redir_data.specs.Ranges.{BulkLengthFits}
 use Rattle.redir_data.specs.Written as carrying
-use Rattle.model_device.specs.Transfer.{IsTransfer, is_control}
+use Rattle.model_device.specs.Transfer.{IsTransfer}
 use Rattle.redir_host.specs.declared.state.host.Host.{Host}
 use Rattle.usb_base.specs.declared.limits.TheConstants.{MAX_TRANSFER}
 use Rattle.redir_host.specs.declared.state.request.Form.{Form}

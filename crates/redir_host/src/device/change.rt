@@ -1,25 +1,17 @@
 //! Which requests change the device's interfaces, and which endpoints a change touches.
 
 ghost use Rattle.std.specs.Prelude.{◌≡◌};
-ghost use Rattle.model_device.specs.Transfer.{is_control as is_control_endpoint};
 ghost use Rattle.redir_host.specs.device.Changes.{change_of, is_touched};
 
 use crate::state::request::Form;
 use control_route::{Route, touches};
 use usb_base::{EpAddr, EpTable};
 
-/// Whether it is endpoint 0, in either direction.
-pub fn is_control(ep: EpAddr) -> bool
-    ensures { result ≡ is_control_endpoint ep }
-{
-    ep.byte() % 0x80 == 0
-}
-
 /// Whether a change touches an endpoint, by the table before it. None touches endpoint 0.
 pub fn is_touched(route: &Route, table: &EpTable, ep: EpAddr) -> bool
     ensures { result ≡ is_touched route.now table.now ep }
 {
-    !is_control(ep) && touches(route, table.row(ep).interface)
+    !ep.is_control() && touches(route, table.row(ep).interface)
 }
 
 /// The change that a request of this form is, if it is one. A control packet is none, whatever its setup.

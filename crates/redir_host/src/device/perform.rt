@@ -178,17 +178,7 @@ impl<G: Gadget> Host<G> {
         ensures err { OnErr result (out.new ≡ out.old) }
     {
         let configuration = self.gadget.configuration();
-        let endpoint = request.transfer.ep.byte();
-        let caps = self.guest.caps;
-        write_answer(
-            configuration,
-            request.id,
-            request.form,
-            endpoint,
-            outcome,
-            caps,
-            out,
-        )
+        write_answer(configuration, request, outcome, self.guest.caps, out)
     }
 
     /// Does what a change does that came to this status. The table is that of before.

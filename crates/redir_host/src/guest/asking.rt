@@ -1,12 +1,13 @@
 //! What the packets ask that move data.
 
-ghost use Rattle.std.specs.Prelude.{◌≡◌, ◌==◌, None, IsTrue, nat_lt, if◌then◌else◌};
-ghost use Rattle.usb_base.specs.Endpoint.{IsEndpoint, is_in_endpoint};
+ghost use Rattle.std.specs.Prelude.{◌≡◌, ◌==◌, ◌&&◌, None, Some, IfSome, is_some, nat_le, nat_lt, if◌then◌else◌};
+ghost use Rattle.usb_base.specs.Endpoint.{is_in_endpoint};
+ghost use Rattle.usb_base.specs.declared.limits.TheConstants.{MAX_TRANSFER};
 ghost use Rattle.redir_host.specs.guest.Asking.{asking_of, asked_if, is_other};
 
 use crate::state::request::{Asking, Form};
 use redir_data::RedirData;
-use usb_base::{Bytes, EpAddr, MAX_TRANSFER, Setup, Transfer};
+use usb_base::{Bytes, EpAddr, MAX_TRANSFER, Setup, Transfer, is_in_endpoint};
 
 /// What a packet asks. A packet of an isochronous endpoint, and one of an interrupt endpoint that is to give data, ask
 /// nothing: those endpoints are used by starting a stream.
@@ -31,9 +32,9 @@ pub fn asking_of(packet: RedirData) -> Asking
                 index,
                 length,
             };
-            let can = is_control_of(kind, endpoint);
+            let ep = control_address(&setup, endpoint);
             let form = Form::Control(setup);
-            ask(can, endpoint, form, Some(setup), u32::from(length), body)
+            ask(ep, endpoint, form, Some(setup), u32::from(length), body)
         }
         RedirData::Bulk {
             endpoint,
@@ -42,8 +43,8 @@ pub fn asking_of(packet: RedirData) -> Asking
             body,
             ..
         } => {
-            let can = is_other(endpoint) && length <= MAX_TRANSFER;
-            ask(can, endpoint, Form::Bulk { stream }, None, length, body)
+            let ep = bulk_address(endpoint, length);
+            ask(ep, endpoint, Form::Bulk { stream }, None, length, body)
         }
         RedirData::Iso { .. } => Asking::Nothing,
         RedirData::Interrupt {
@@ -58,12 +59,11 @@ pub fn asking_of(packet: RedirData) -> Asking
 fn ask_interrupt(endpoint: u8, length: u16, body: Bytes) -> Asking
     ensures { result ≡ (if is_in_endpoint endpoint then Asking.Nothing else asked_if (is_other endpoint) Form.Interrupt (record { ep = endpoint; setup = None; wanted = length; body = body })) }
 {
-    if endpoint >= 0x80 {
+    if is_in_endpoint(endpoint) {
         return Asking::Nothing;
     }
-    let can = is_other(endpoint);
     ask(
-        can,
+        other_address(endpoint),
         endpoint,
         Form::Interrupt,
         None,
@@ -72,38 +72,48 @@ fn ask_interrupt(endpoint: u8, length: u16, body: Bytes) -> Asking
     )
 }
 
-/// Whether it is endpoint 0 in the direction of a bmRequestType.
-fn is_control_of(kind: u8, endpoint: u8) -> bool
-    ensures value { result ≡ (endpoint == (if nat_lt kind 128 then 0 else 128)) }
-    ensures address { IsTrue result → IsEndpoint endpoint }
+/// Endpoint 0 in the direction of this setup, if that is its byte.
+fn control_address(setup: &Setup, endpoint: u8) -> Option<EpAddr>
+    ensures { result ≡ (if endpoint == (if nat_lt setup.now.kind 128 then 0 else 128) then Some endpoint else None) }
 {
-    endpoint == if kind < 0x80 { 0x00 } else { 0x80 }
+    let ep = EpAddr::control(setup.is_in());
+    if ep.byte() == endpoint {
+        Some(ep)
+    } else {
+        None
+    }
 }
 
-/// Whether it is the address of an endpoint other than 0.
-fn is_other(endpoint: u8) -> bool
-    ensures value { result ≡ is_other endpoint }
-    ensures address { IsTrue result → IsEndpoint endpoint }
+/// The address of an endpoint other than 0 for a transfer of this length, if it can be asked for.
+fn bulk_address(endpoint: u8, length: u32) -> Option<EpAddr>
+    ensures { result ≡ (if is_other endpoint && nat_le length MAX_TRANSFER then Some endpoint else None) }
 {
-    endpoint % 0x80 < 0x10 && endpoint % 0x80 != 0
+    if length > MAX_TRANSFER {
+        return None;
+    }
+    other_address(endpoint)
 }
 
-/// A transfer of an endpoint, where it can be asked for.
+/// The address of an endpoint other than 0, if this is its byte.
+fn other_address(endpoint: u8) -> Option<EpAddr>
+    ensures { result ≡ (if is_other endpoint then Some endpoint else None) }
+{
+    EpAddr::new(endpoint).filter(|ep| !ep.is_control())
+}
+
+/// A transfer of the endpoint with this byte, if it can be asked for: then its address is given.
 fn ask(
-    can: bool,
+    ep: Option<EpAddr>,
     endpoint: u8,
     form: Form,
     setup: Option<Setup>,
     wanted: u32,
     body: Bytes,
 ) -> Asking
-    requires { IsTrue can → IsEndpoint endpoint }
-    ensures { result ≡ asked_if can form (record { ep = endpoint; setup = setup; wanted = wanted; body = body }) }
+    requires { IfSome ep (λ address. address ≡ endpoint) }
+    ensures { result ≡ asked_if (is_some ep) form (record { ep = endpoint; setup = setup; wanted = wanted; body = body }) }
 {
-    if !can {
-        return Asking::Refuses { form, endpoint };
-    }
-    match EpAddr::new(endpoint) {
+    match ep {
         Some(ep) => Asking::Asks {
             form,
             transfer: Transfer {
@@ -113,6 +123,6 @@ fn ask(
                 body,
             },
         },
-        None => unreachable!(),
+        None => Asking::Refuses { form, endpoint },
     }
 }

@@ -70,14 +70,10 @@ fn transfer_of(
         index,
         length,
     };
-    let byte = if kind < 0x80 { 0x00 } else { 0x80 };
-    match EpAddr::new(byte) {
-        Some(ep) => Transfer {
-            ep,
-            setup: Some(setup),
-            wanted: u32::from(length),
-            body: Bytes::new(alloc),
-        },
-        None => unreachable!(),
+    Transfer {
+        ep: EpAddr::control(setup.is_in()),
+        setup: Some(setup),
+        wanted: u32::from(length),
+        body: Bytes::new(alloc),
     }
 }

@@ -3,7 +3,7 @@
 ghost use Rattle.std.specs.Prelude.{◌≡◌, ◌++◌, false, Some, None, if◌then◌else◌, OnOk, OnErr};
 ghost use Rattle.std.specs.List.{find, AllByRecursion};
 ghost use Rattle.redir_data.specs.declared.packet.RedirPacket.TheVariants.{Plain};
-ghost use Rattle.model_device.specs.Transfer.{is_control as is_control_endpoint};
+ghost use Rattle.usb_base.specs.Endpoint.{is_control};
 ghost use Rattle.usb_base.specs.Writes.{Begins};
 ghost use Rattle.redir_wire.specs.Header.{IdFits, is_wide};
 ghost use Rattle.redir_host.specs.guest.Asking.{asking_of};
@@ -15,13 +15,12 @@ ghost use Rattle.redir_host.specs.write.Readable.{GreetsInRange, InRange, TakesI
 ghost use Rattle.redir_host.specs.state.Sound.{IsSound};
 ghost use Rattle.redir_host.specs.step.Wants.{GivesSome};
 
-use crate::device::change::is_control;
 use crate::device::facts::write_connect;
 use crate::guest::asking::asking_of;
 use crate::guest::routed::{get_alt, get_configuration, set_alt, set_configuration};
 use crate::state::host::Host;
 use crate::state::request::{Asking, Form, Request};
-use crate::write::answer::{write_cancelled, write_ended};
+use crate::write::answer::{write_cancelled, write_refused};
 use crate::write::note::{HostNote, HostNotes};
 use crate::write::packet::write;
 use model_device::Gadget;
@@ -164,8 +163,7 @@ impl<G> Host<G> {
         match asking_of(packet) {
             Asking::Nothing => Ok(()),
             Asking::Refuses { form, endpoint } => {
-                let status = UsbStatus::Inval;
-                write_ended(alloc, status, id, form, endpoint, self.guest.caps, out)
+                write_refused(alloc, id, form, endpoint, self.guest.caps, out)
             }
             Asking::Asks { form, transfer } => self.join(id, form, transfer),
         }
@@ -173,9 +171,9 @@ impl<G> Host<G> {
 
     /// Puts a request into its queue. A reset that came before marks the next one of endpoint 0.
     fn join(&mut self, id: u64, form: Form, transfer: Transfer) -> Result<(), Memory>
-        ensures { OnOk result (self.new ≡ queued self.old (is_control_endpoint transfer.ep) id form transfer) }
+        ensures { OnOk result (self.new ≡ queued self.old (is_control transfer.ep) id form transfer) }
     {
-        let first = is_control(transfer.ep);
+        let first = transfer.ep.is_control();
         let reset = first && self.resets_next;
         self.queue.push(Request {
             id,

@@ -207,9 +207,10 @@ fn place_of(ep: EpAddr) -> usize
     ensures in_range { result < ENDPOINTS }
     ensures endpoint { IsEndpoint ep }
 {
-    match ep.byte() {
-        0x00 | 0x80 => CONTROL_QUEUE,
-        _ => ep.index(),
+    if ep.is_control() {
+        CONTROL_QUEUE
+    } else {
+        ep.index()
     }
 }
 

@@ -3,9 +3,10 @@
 ghost use Rattle.std.specs.Prelude.{◌≡◌, ◌++◌, false, OnOk, OnErr};
 ghost use Rattle.std.specs.List.{AllByRecursion};
 ghost use Rattle.usb_base.specs.Writes.{Begins};
+ghost use Rattle.usb_base.specs.declared.status.UsbStatus.TheVariants.{Inval};
 ghost use Rattle.redir_wire.specs.Header.{IdFits, is_wide};
 ghost use Rattle.chapter9.specs.Standard.{ended};
-ghost use Rattle.redir_host.specs.write.Answers.{alt_in, answer_by, cancelled};
+ghost use Rattle.redir_host.specs.write.Answers.{alt_in, answer, answer_by, cancelled};
 ghost use Rattle.redir_data.specs.Sent.{sent_packet_bytes};
 ghost use Rattle.redir_host.specs.step.Makes.{AnswerFits, flushed_bytes};
 ghost use Rattle.redir_host.specs.state.Sound.{DoneFits};
@@ -20,6 +21,9 @@ use redir_data::{RedirData, RedirPacket};
 use redir_wire::{Caps, RedirControl};
 use std::alloc::Global;
 use usb_base::{Bytes, EpTable, Memory, Outcome, UsbStatus};
+
+/// Stands for the configuration where an answer tells none.
+const NO_CONFIGURATION: u8 = 0;
 
 /// The answer of a request of this form and endpoint, after which the device has this configuration.
 fn answer_of(configuration: u8, form: Form, endpoint: u8, outcome: Outcome) -> RedirPacket
@@ -70,29 +74,28 @@ fn answer_of(configuration: u8, form: Form, endpoint: u8, outcome: Outcome) -> R
     }
 }
 
-/// Appends that answer, as the guest reads it with these capabilities. For want of memory `out` stands.
+/// Appends the answer of a request, after which the device has this configuration, as the guest reads it with these
+/// capabilities. For want of memory `out` stands.
 pub fn write_answer(
     configuration: u8,
-    id: u64,
-    form: Form,
-    endpoint: u8,
+    request: &Request,
     outcome: Outcome,
     caps: Caps,
     out: &mut Bytes,
 ) -> Result<(), Memory>
-    requires id_fits { IdFits (is_wide false caps) id }
-    requires answer_fits { AnswerFits caps form endpoint outcome }
-    ensures ok { OnOk result (out.new ≡ out.old ++ sent_packet_bytes caps (id, answer_by configuration form endpoint outcome)) }
+    requires id_fits { IdFits (is_wide false caps) request.now.id }
+    requires answer_fits { AnswerFits caps request.now.form request.now.transfer.ep outcome }
+    ensures ok { OnOk result (out.new ≡ out.old ++ sent_packet_bytes caps (answer configuration request.now outcome)) }
     ensures err { OnErr result (out.new ≡ out.old) }
 {
-    let answer = answer_of(configuration, form, endpoint, outcome);
-    write(&answer, id, caps, out)
+    let endpoint = request.transfer.ep.byte();
+    let answer = answer_of(configuration, request.form, endpoint, outcome);
+    write(&answer, request.id, caps, out)
 }
 
-/// Appends the answer of a request that moves data and ended with this status. For want of memory `out` stands.
-pub fn write_ended(
+/// Appends the answer of what can't be asked, in the form that it came by. For want of memory `out` stands.
+pub fn write_refused(
     alloc: Global,
-    status: UsbStatus,
     id: u64,
     form: Form,
     endpoint: u8,
@@ -100,10 +103,12 @@ pub fn write_ended(
     out: &mut Bytes,
 ) -> Result<(), Memory>
     requires { IdFits (is_wide false caps) id }
-    ensures ok { OnOk result (out.new ≡ out.old ++ sent_packet_bytes caps (id, answer_by 0 form endpoint (ended status))) }
+    ensures ok { OnOk result (out.new ≡ out.old ++ sent_packet_bytes caps (id, answer_by 0 form endpoint (ended Inval))) }
     ensures err { OnErr result (out.new ≡ out.old) }
 {
-    write_answer(0, id, form, endpoint, ended(alloc, status), caps, out)
+    let outcome = ended(alloc, UsbStatus::Inval);
+    let answer = answer_of(NO_CONFIGURATION, form, endpoint, outcome);
+    write(&answer, id, caps, out)
 }
 
 /// Appends the answer of a request that was taken out of its queue. For want of memory `out` stands.
@@ -117,9 +122,8 @@ pub fn write_cancelled(
     ensures ok { OnOk result (out.new ≡ out.old ++ sent_packet_bytes caps (cancelled request.now)) }
     ensures err { OnErr result (out.new ≡ out.old) }
 {
-    let status = UsbStatus::Cancelled;
-    let endpoint = request.transfer.ep.byte();
-    write_ended(alloc, status, request.id, request.form, endpoint, caps, out)
+    let outcome = ended(alloc, UsbStatus::Cancelled);
+    write_answer(NO_CONFIGURATION, request, outcome, caps, out)
 }
 
 /// Appends the answers of the requests that a change touches, by the table before it. For want of memory what was

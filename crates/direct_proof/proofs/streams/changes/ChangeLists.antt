@@ -5,11 +5,11 @@ use Rattle.std.specs.List.{list_any, AllByRecursion as Each}
 use Rattle.std.proofs.lemmas.Bool.{or_left, or_parts}
 use Rattle.std.proofs.lemmas.List.Folds.{list_any-append}
 use Rattle.usbip_urb.specs.declared.code.TheConstants.{MAX_LIVE}
+use Rattle.usb_base.specs.Endpoint.{is_control}
 use Rattle.usb_base.specs.declared.setup.Setup.{Setup}
 use Rattle.control_route.specs.declared.route.Route.{Route}
 use Rattle.control_route.specs.declared.route.Route.TheVariants as route
 use Rattle.control_route.specs.Changes.{is_change}
-use Rattle.model_device.specs.Transfer.{is_control}
 use Rattle.usb_base.specs.declared.endpoint.EpRow.{EpRow}
 use Rattle.gate_history.specs.declared.verdict.Situation.{Situation}
 use Rattle.gate_history.proofs.lemmas.Lists.{Each-append}

@@ -6,8 +6,7 @@ use Rattle.usb_base.specs.declared.endpoint.EpTable.{EpTable}
 use Rattle.usb_base.specs.declared.transfer.Transfer.{Transfer}
 use Rattle.control_route.specs.Changes.{touches}
 use Rattle.control_route.specs.declared.route.Route.{Route}
-use Rattle.model_device.specs.Transfer.{is_control}
-use Rattle.usb_base.specs.Endpoint.{row_of}
+use Rattle.usb_base.specs.Endpoint.{is_control, row_of}
 use Rattle.redir_host.specs.declared.state.request.Form.{Form}
 use Rattle.redir_host.specs.declared.state.request.Request.{Request}
 use Rattle.redir_host.specs.device.Changes.{is_touched, stays}

@@ -1,10 +1,10 @@
 -- The requests of a line, as the line changes.
 use Rattle.std.proofs.Common.{◌≡◌, ℕ, ◌==◌, ◌&&◌, true, false, cond, not, Bool, List, [], ◌∷◌, ◌++◌, filter, refl, ap}
+use Rattle.usb_base.specs.Endpoint.{is_control}
 use Rattle.usb_base.specs.declared.endpoint.EpTable.{EpTable}
 use Rattle.redir_wire.specs.declared.packet.RedirControl.{RedirControl}
 use Rattle.redir_wire.specs.declared.packet.RedirControl.TheVariants as plain
 use Rattle.control_route.specs.declared.route.Route.{Route}
-use Rattle.model_device.specs.Transfer.{is_control}
 use Rattle.redir_host.specs.device.Changes.{is_touched}
 use Rattle.redir_host.specs.guest.Asking.{asking_plain}
 use Rattle.redir_host.specs.guest.Line.{Placed, Waiting, Reset, Waits, placed, plain_line, stays_in, waiting_in, without_cancelled, without_performed}

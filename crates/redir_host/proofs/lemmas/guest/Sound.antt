@@ -3,7 +3,7 @@ use Rattle.std.proofs.Common.{◌≡◌, ℕ, ◌<◌, ◌%◌, ◌^◌, Bool, t
 use Rattle.std.specs.Prelude.{Option, nat_lt, nat_le}
 use Rattle.std.specs.List.{find, AllByRecursion as Each}
 use Rattle.std.proofs.lemmas.Bool.{and_parts, eqb-true, not-true, ltb-true, leb-true, true≢false}
-use Rattle.usb_base.specs.Endpoint.{is_in_endpoint, row_of}
+use Rattle.usb_base.specs.Endpoint.{is_control, is_in_endpoint, row_of}
 use Rattle.usb_base.specs.declared.endpoint.EpTable.{EpTable}
 use Rattle.usb_base.specs.declared.setup.Setup.{Setup}
 use Rattle.usb_base.specs.declared.transfer.Transfer.{Transfer}
@@ -27,7 +27,7 @@ use Rattle.redir_data.specs.declared.stream_kind.StreamKind.TheVariants.{Iso, In
 use Rattle.redir_data.specs.StreamKinds.{is_kind_of}
 use Rattle.control_route.specs.declared.route.Route.TheVariants as route
 use Rattle.model_device.specs.Meaning.{Meaning}
-use Rattle.model_device.specs.Transfer.{IsTransfer, is_control}
+use Rattle.model_device.specs.Transfer.{IsTransfer}
 use Rattle.redir_host.specs.declared.state.host.Host.{Host}
 use Rattle.redir_host.specs.declared.state.request.Asking.TheVariants.{Nothing}
 use Rattle.redir_host.specs.declared.state.request.Form.{Form}

@@ -5,7 +5,7 @@ use Rattle.std.specs.List.{find, list_any}
 use Rattle.std.specs.Map.{values_of, remove_entry}
 use Rattle.std.specs.Option.{option_map}
 use Rattle.std.proofs.lemmas.Bool.{cases_Bool, eqb-true, le-leb, leb-true}
-use Rattle.model_device.specs.Transfer.{is_control}
+use Rattle.usb_base.specs.Endpoint.{is_control}
 use Rattle.redir_host.specs.declared.state.request.Request.{Request}
 use Rattle.redir_host.specs.guest.Cancels.{CancelsOne}
 use Rattle.redir_host.specs.inner.Waiting.{is_from, marked_from}

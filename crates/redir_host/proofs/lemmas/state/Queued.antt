@@ -5,8 +5,7 @@ use Rattle.std.specs.List.{find}
 use Rattle.std.specs.Map.{lookup, remove_entry}
 use Rattle.std.proofs.lemmas.Bool.{cases_Bool, cases_eq, eq-eqb, ltb-false, ltb-true, ne_eqb}
 use Rattle.slab.specs.Slab.{Slab, get}
-use Rattle.usb_base.specs.Endpoint.{IsEndpoint, endpoint_index}
-use Rattle.model_device.specs.Transfer.{is_control}
+use Rattle.usb_base.specs.Endpoint.{IsEndpoint, endpoint_index, is_control}
 use Rattle.redir_host.specs.declared.state.request.Request.{Request}
 use Rattle.redir_host.specs.inner.Waiting.{if_there, is_from, is_key_of, place_of}
 use Rattle.redir_host.specs.state.Queues.{is_at, queue_of}
