@@ -11,13 +11,7 @@ use Rattle.chapter9.specs.declared.state.DevState.{DevState}
 use Rattle.chapter9.specs.declared.table.InterfaceClass.{InterfaceClass}
 use Rattle.chapter9.specs.State.{is_configured}
 
--- the two sides of endpoint 0, which every device has, by their index
-abbrev pub control_out : ℕ
-control_out = 0
-
-abbrev pub control_in : ℕ
-control_in = 16
-
+-- of both sides of endpoint 0, which every device has
 abbrev pub control_row : EpRow
 control_row = record { kind = Control; interval = 0; interface = 0; max_packet = 64 }
 
@@ -52,9 +46,9 @@ abbrev pub with_rows : List EpRow → List EndpointRow → List EpRow
 with_rows rows [] = rows
 with_rows rows (p ∷ ps) = with_rows (with_row p.ep p.row rows) ps
 
--- those alone
+-- endpoint 0 alone, whose bytes are 0 and 128
 abbrev pub control_rows : List EpRow
-control_rows = slice_set (slice_set no_endpoints.rows control_out control_row) control_in control_row
+control_rows = slice_set (slice_set no_endpoints.rows (endpoint_index 0) control_row) (endpoint_index 128) control_row
 
 abbrev pub table_of : List Part → DevState → EpTable
 table_of parts s = record { rows = if is_configured s then with_rows control_rows (endpoints_after s.alt None parts) else control_rows }

@@ -3,12 +3,9 @@ use Rattle.std.specs.Prelude.{ℕ, List, [], ◌∷◌, replicate, codes}
 use Rattle.model_device.specs.Device.{Device, set_of}
 use Rattle.model_device.specs.InTurn.{in_turn}
 
--- how many samples a packet has
-abbrev pub packet_length : ℕ
-packet_length = 192
-
+-- a packet has 192 samples
 unfoldable pub samples : ℕ → List ℕ
-samples sample = replicate packet_length sample
+samples sample = replicate 192 sample
 
 unfoldable pub tone : Device ℕ
 tone =

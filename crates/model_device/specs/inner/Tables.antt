@@ -13,7 +13,7 @@ use Rattle.chapter9.specs.declared.part.Part.{Part}
 use Rattle.chapter9.specs.declared.part.Part.TheVariants.{Config, Interface, Endpoint, Other}
 use Rattle.chapter9.specs.declared.state.DevState.{DevState}
 use Rattle.chapter9.specs.State.{is_configured}
-use Rattle.chapter9.specs.Table.{EndpointRow, control_in, control_out, control_row, control_rows, endpoints_after, interface_after, endpoint_rows, table_of, with_row, with_rows}
+use Rattle.chapter9.specs.Table.{EndpointRow, control_row, control_rows, endpoints_after, interface_after, endpoint_rows, table_of, with_row, with_rows}
 use Rattle.model_device.specs.Function.{is_fine, is_fine_part, no_iso_out}
 
 -- rows of which none below 16 is isochronous
@@ -78,7 +78,7 @@ none_fine : Fine no_endpoints.rows
 none_fine i lt e = not_iso Invalid refl (sym (ap (λ (r : EpRow). r.kind) (get_or-replicate ENDPOINTS i no_endpoint no_endpoint (omega arith))) ∙ e)
 
 control_fine : Fine control_rows
-control_fine = set_fine (set no_endpoints.rows control_out control_row) control_in control_row (λ lt e. cc) (set_fine no_endpoints.rows control_out control_row (λ lt e. cc) none_fine)
+control_fine = set_fine (set no_endpoints.rows 0 control_row) 16 control_row (λ lt e. cc) (set_fine no_endpoints.rows 0 control_row (λ lt e. cc) none_fine)
 
 pub table_fine : (parts : List Part) (s : DevState) → no_iso_out parts ≡ true → (i : ℕ) → i < 16 → (get_or (table_of parts s).rows i no_endpoint).kind ≢ Iso
 table_fine parts s f =

@@ -16,7 +16,7 @@ use Rattle.model_device.specs.InTurn.{in_turn}
 use Rattle.model_device.specs.Keyboard.{key_count, keyboard, report}
 use Rattle.model_device.specs.declared.loopback.TheConstants.{MOST_HELD}
 use Rattle.model_device.specs.Loopback.{given_back, loopback, taken_in}
-use Rattle.model_device.specs.Tone.{packet_length, samples, tone}
+use Rattle.model_device.specs.Tone.{samples, tone}
 use Rattle.model_device.specs.inner.Lawful.{stall_outcome}
 
 -- ---- what only sends, where its packets are short
@@ -74,4 +74,4 @@ loopback_lawful = record { configuration = refl; outcomes = λ held t it e. loop
 
 pub tone_lawful : IsFunction tone
 unfolding tone samples le_at
-tone_lawful = in_turn_lawful 256 samples tone.set refl refl (λ sample. omega (arith, length-replicate packet_length sample))
+tone_lawful = in_turn_lawful 256 samples tone.set refl refl (λ sample. omega (arith, length-replicate 192 sample))
