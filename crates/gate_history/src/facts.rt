@@ -6,7 +6,7 @@ ghost use Rattle.gate_history.specs.state.Facts.{no_facts, tell};
 ghost use Rattle.gate_history.specs.step.Meaning.{fact_of};
 
 use redir_wire::{Connect, InterfaceInfo, RedirControl};
-use usb_base::EpTable;
+use usb_base::{EpTable, UsbStatus};
 
 /// What the host has told of its device since the device was last lost: of each fact the last.
 #[derive(Clone, Copy)]
@@ -42,9 +42,9 @@ impl Facts {
             RedirControl::InterfaceInfo(info) => self.interfaces = Some(*info),
             RedirControl::EpInfo(info) => self.table = info.table(),
             RedirControl::ConfigurationStatus {
-                status: 0,
+                status,
                 configuration,
-            } => self.configuration = *configuration,
+            } if UsbStatus::from_byte(*status).is_success() => self.configuration = *configuration,
             _ => {}
         }
     }
