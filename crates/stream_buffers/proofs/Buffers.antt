@@ -8,8 +8,7 @@ use Rattle.usb_base.specs.declared.transfer.StreamPacket.{StreamPacket}
 use Rattle.usbip_urb.specs.declared.packet.IsoDesc.{IsoDesc}
 use Rattle.usbip_urb.specs.declared.code.TheConstants.{MAX_PACKET_LENGTH}
 use Rattle.usbip_urb.specs.Buffers.{laid, laid_from, total}
-use Rattle.stream_buffers.specs.Iso.{piece, pieces, all_filled, iso_outcome, iso_cut}
-use Rattle.stream_buffers.specs.declared.iso.IsoOutcome.{IsoOutcome}
+use Rattle.stream_buffers.specs.Iso.{piece, pieces, all_filled, IsoOutcome, iso_outcome, iso_cut}
 use Rattle.stream_buffers.specs.Cuts.{Cut}
 use Rattle.stream_buffers.specs.Laws.{FitsBuffer}
 

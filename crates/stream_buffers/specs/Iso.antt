@@ -6,7 +6,6 @@ use Rattle.usb_base.specs.declared.status.UsbStatus.{UsbStatus}
 use Rattle.usb_base.specs.declared.status.UsbStatus.TheVariants.{Babble}
 use Rattle.usb_base.specs.declared.transfer.StreamPacket.{StreamPacket}
 use Rattle.usbip_urb.specs.declared.packet.IsoDesc.{IsoDesc}
-use Rattle.stream_buffers.specs.declared.iso.IsoOutcome.{IsoOutcome}
 use Rattle.stream_buffers.specs.Cuts.{Cut}
 
 -- what fits of a packet
@@ -28,6 +27,11 @@ pieces descs packets = flat_map (λ x. piece x.0 x.1) (zip descs packets)
 
 abbrev pub all_filled : List IsoDesc → List StreamPacket → List IsoDesc
 all_filled descs packets = map (λ x. filled x.0 x.1) (zip descs packets)
+
+-- the bytes of a request's packets, one behind another, and its descriptors with what came of each
+pub record IsoOutcome : Type 0 where
+  pub body : List ℕ
+  pub descs : List IsoDesc
 
 abbrev pub iso_outcome : List IsoDesc → List StreamPacket → IsoOutcome
 iso_outcome descs packets = record { body = pieces descs packets; descs = all_filled descs packets }

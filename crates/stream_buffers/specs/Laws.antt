@@ -3,10 +3,9 @@ use Rattle.std.specs.Prelude.{◌≡◌, ℕ, ◌≤◌, List, length, IfSome, I
 use Rattle.usb_base.specs.declared.transfer.StreamPacket.{StreamPacket}
 use Rattle.usbip_urb.specs.declared.packet.IsoDesc.{IsoDesc}
 use Rattle.usbip_urb.specs.Buffers.{laid, total}
-use Rattle.stream_buffers.specs.declared.iso.IsoOutcome.{IsoOutcome}
 use Rattle.stream_buffers.specs.Least.{IsLeastBelow}
 use Rattle.stream_buffers.specs.Interrupt.{fills, last_of, interrupt_cut}
-use Rattle.stream_buffers.specs.Iso.{iso_cut}
+use Rattle.stream_buffers.specs.Iso.{IsoOutcome, iso_cut}
 
 -- the packets of an interrupt request are the fewest that fill it
 abbrev pub FewestFill : Type 0

@@ -40,7 +40,7 @@ impl<'a> Behind<'a> {
     }
 
     /// How many they are.
-    pub fn len(&self) -> usize
+    pub(crate) fn len(&self) -> usize
         ensures len { result ≡ length self.now }
         ensures bound { result ≤ MAX_HELD }
     {

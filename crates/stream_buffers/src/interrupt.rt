@@ -1,6 +1,6 @@
 //! What an interrupt request is given of the packets that fill it.
 
-ghost use Rattle.std.specs.Prelude.{◌≡◌, ◌+◌, ◌<◌, ◌≤◌, length, take, drop, IfOk, OnOk, OnErr};
+ghost use Rattle.std.specs.Prelude.{◌≡◌, ◌+◌, ◌<◌, ◌≤◌, length, take, OnErr};
 ghost use Rattle.usb_base.specs.Writes.{AppendsSome};
 ghost use Rattle.stream_buffers.specs.Interrupt.{fitting_status, bodies_to, interrupt_cut_at};
 ghost use Rattle.stream_buffers.specs.declared.up.TheConstants.{MAX_HELD};
@@ -8,9 +8,7 @@ ghost use Rattle.stream_buffers.specs.Fillings.{cut_by, filling_body};
 
 use crate::behind::Behind;
 use crate::fill::Fewest;
-use std::alloc::Global;
-use std::collections::VecDeque;
-use usb_base::{Bytes, Memory, Outcome, StreamPacket, UsbStatus};
+use usb_base::{Bytes, Memory, UsbStatus};
 
 /// What an interrupt request is given of the packets behind a place; its bytes stay with them.
 #[derive(Clone, Copy)]
@@ -54,52 +52,6 @@ impl<'a> Behind<'a> {
             room -= fitting.len();
         }
         Ok(())
-    }
-}
-
-/// Takes the packets that fill a request, and gives what fits of them. One packet alone is handed on; of several each
-/// is copied once, and for want of memory all stay; it takes none where no byte is given.
-pub(crate) fn take_filling(
-    alloc: Global,
-    packets: &mut VecDeque<StreamPacket>,
-    filling: Filling,
-) -> Result<Outcome, Memory>
-    requires some { 1 ≤ filling.count }
-    requires there { filling.count ≤ length packets.old.items }
-    requires few { length packets.old.items ≤ MAX_HELD }
-    ensures gives { IfOk result (λ outcome. outcome ≡ (cut_by packets.old.items filling).gives) }
-    ensures leaves { OnOk result (packets.new.items ≡ drop filling.count packets.old.items) }
-    ensures err { OnErr result (packets.new.items ≡ packets.old.items) }
-    ensures wants { OnErr result (0 < length (filling_body packets.old.items filling)) }
-{
-    if filling.count == 1 {
-        let Some(packet) = packets.pop_front() else {
-            unreachable!()
-        };
-        return Ok(fitted(packet, filling));
-    }
-    let mut body = Bytes::new(alloc);
-    Behind::new(packets, 0).append_bodies(filling, &mut body)?;
-    packets.drain(..filling.count);
-    Ok(Outcome {
-        status: filling.status,
-        done: filling.done,
-        body,
-    })
-}
-
-/// What fits of a packet that fills a request alone.
-fn fitted(packet: StreamPacket, filling: Filling) -> Outcome
-    ensures { result ≡ record { status = filling.status; done = filling.done; body = take filling.done packet.body } }
-{
-    let StreamPacket { mut body, .. } = packet;
-    if body.len() > filling.done as usize {
-        body.cut(filling.done as usize);
-    }
-    Outcome {
-        status: filling.status,
-        done: filling.done,
-        body,
     }
 }
 

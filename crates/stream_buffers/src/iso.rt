@@ -1,26 +1,16 @@
 //! What an isochronous request is given: of each of its packets what fits into its descriptor.
 
-ghost use Rattle.std.specs.Prelude.{◌≡◌, ◌≤◌, ◌<◌, ◌^◌, ◌∷◌, [], ℕ, None, length, IfOk, IfSome, IsTrue, MatchOption, OnErr};
+ghost use Rattle.std.specs.Prelude.{◌≡◌, ◌≤◌, ◌<◌, ◌^◌, ◌∷◌, [], ℕ, None, length, IfSome, IsTrue, MatchOption, OnErr};
 ghost use Rattle.usb_base.specs.Writes.{AppendsSome};
 ghost use Rattle.usb_base.specs.declared.limits.TheConstants.{MAX_PACKETS};
 ghost use Rattle.usbip_urb.specs.Buffers.{laid};
 ghost use Rattle.usbip_urb.specs.Spelling.{descs_bytes};
-ghost use Rattle.stream_buffers.specs.Iso.{piece, piece_status, pieces, filled, all_filled, iso_outcome, iso_cut};
+ghost use Rattle.stream_buffers.specs.Iso.{piece, piece_status, pieces, filled, all_filled, iso_cut};
 ghost use Rattle.stream_buffers.specs.Fillings.{FillsIso};
 
 use crate::behind::Behind;
-use std::alloc::Global;
-use usb_base::{Bytes, List, Memory, StreamPacket, UsbStatus};
+use usb_base::{Bytes, Memory, StreamPacket, UsbStatus};
 use usbip_urb::{Descs, IsoDesc, push_desc};
-
-/// What came of an isochronous IN request.
-#[derive(Drop)]
-pub struct IsoOutcome {
-    /// The bytes of its packets, one behind another without gaps.
-    pub body: Bytes,
-    /// Its descriptors, with what came of each.
-    pub descs: Descs,
-}
 
 /// What an isochronous request is given; its bytes stay with the packets.
 #[derive(Clone, Copy, PartialEq, Eq)]
@@ -85,25 +75,6 @@ impl<'a> Behind<'a> {
             push_desc(&filled_by(desc, packet), out)?;
         }
         Ok(())
-    }
-
-    /// What these packets, one for each descriptor, give. Each is copied once. It takes no memory where there is no
-    /// descriptor.
-    pub(crate) fn iso_outcome(&self, alloc: Global, descs: &Descs) -> Result<IsoOutcome, Memory>
-        requires { length descs.now ≤ length self.now }
-        ensures ok { IfOk result (λ outcome. outcome ≡ iso_outcome descs.now self.now) }
-        ensures wants { OnErr result (0 < length descs.now) }
-    {
-        let mut body = Bytes::new(alloc);
-        self.append_pieces(descs, &mut body)?;
-        let mut filled = List::new(alloc);
-        for (desc, packet) in descs.as_slice().iter().zip(self.iter()) {
-            filled.push(filled_by(desc, packet))?;
-        }
-        Ok(IsoOutcome {
-            body,
-            descs: filled,
-        })
     }
 }
 

@@ -10,6 +10,6 @@ mod up;
 
 pub use behind::Behind;
 pub use interrupt::Filling;
-pub use iso::{IsoFilling, IsoOutcome};
+pub use iso::IsoFilling;
 pub use laws::{fewest_fill, interrupt_fits, iso_fits};
 pub use up::{MAX_HELD, Up};

@@ -1,33 +1,28 @@
 //! A stream that is up, and the packets that it holds.
 
-ghost use Rattle.std.specs.Prelude.{◌≡◌, ◌+◌, ◌<◌, ◌≤◌, ◌-◌, [], length, take, drop, not, false, IfSome, IsSome, IfOk, OnOk, OnErr};
+ghost use Rattle.std.specs.Prelude.{◌≡◌, ◌+◌, ◌≤◌, ◌-◌, [], length, take, drop, not, false, IfSome, IfOk, OnOk, OnErr};
 ghost use Rattle.std.specs.Option.{option_map};
 ghost use Rattle.stream_buffers.specs.Held.{is_full, receive};
-ghost use Rattle.stream_buffers.specs.Cuts.{given, left};
 ghost use Rattle.stream_buffers.specs.Interrupt.{interrupt_cut};
-ghost use Rattle.stream_buffers.specs.Iso.{iso_cut};
 ghost use Rattle.stream_buffers.specs.Fillings.{cut_by};
 ghost use Rattle.stream_buffers.specs.inner.Seen.{IsSeen};
 
 use crate::behind::Behind;
 use crate::fill::Seen;
-use crate::interrupt::{Filling, take_filling};
-use crate::iso::IsoOutcome;
+use crate::interrupt::Filling;
 use std::alloc::Global;
 use std::collections::VecDeque;
 use std::marker::Model;
-use usb_base::{EpAddr, EpRow, Memory, Outcome, StreamPacket};
-use usbip_urb::Descs;
+use usb_base::{EpAddr, EpRow, Memory, StreamPacket};
 
 /// How many packets are held at most.
 pub const MAX_HELD: usize = 1024;
 
 /// A stream that is up, with the row that its endpoint had when it went up, and the packets that came and that no
 /// request took, at most 1,024. For a request that waits each packet is looked at once, and what it is given is copied
-/// once, or not at all where one packet fills it.
+/// once, from where it lies.
 #[derive(Drop)]
 pub struct Up {
-    alloc: Global,
     ep: EpAddr,
     row: EpRow,
     packets: VecDeque<StreamPacket>,
@@ -53,7 +48,6 @@ impl Up {
         ensures { result ≡ record { ep = ep; row = row; held = [] } }
     {
         Up {
-            alloc,
             ep,
             row,
             packets: VecDeque::new(alloc),
@@ -105,26 +99,11 @@ impl Up {
         Behind::new(&self.packets, from)
     }
 
-    /// What an interrupt request for so many bytes is given: the fewest packets, at least one, of which the last
-    /// has a status other than success or is shorter than the largest packet, or which have as many bytes as are
-    /// wanted (USB 2.0, 5.7.3). Bytes beyond those are dropped, and are babble. None where there are no such packets;
-    /// then, and for want of memory, nothing changes. It takes no memory where no byte is given.
-    pub fn cut_interrupt(&mut self, wanted: u32) -> Result<Option<Outcome>, Memory>
-        ensures gives { IfOk result (λ outcome. outcome ≡ given (interrupt_cut self.old.row.max_packet wanted self.old.held)) }
-        ensures leaves { OnOk result (self.new ≡ record self.old { held = left self.old.held (interrupt_cut self.old.row.max_packet wanted self.old.held) }) }
-        ensures err { OnErr result ((self.new ≡ self.old) × IsSome (interrupt_cut self.old.row.max_packet wanted self.old.held)) }
-        ensures wants { OnErr result (IfSome (interrupt_cut self.old.row.max_packet wanted self.old.held) (λ cut. 0 < length cut.gives.body)) }
-    {
-        let Some(filling) = self.filling(0, wanted) else {
-            return Ok(None);
-        };
-        let outcome = take_filling(self.alloc, &mut self.packets, filling)?;
-        self.seen = Seen::NOTHING;
-        Ok(Some(outcome))
-    }
-
-    /// What an interrupt request for so many bytes is given of the packets behind the first `from`, which stay, as
-    /// `cut_interrupt` tells it. For a request that waits at the front each packet is looked at once.
+    /// What an interrupt request for so many bytes is given of the packets behind the first `from`, which stay: the
+    /// fewest packets, at least one, of which the last has a status other than success or is shorter than the largest
+    /// packet, or which have as many bytes as are wanted (USB 2.0, 5.7.3). Bytes beyond those are dropped, and are
+    /// babble. None where there are no such packets. For a request that waits at the front each packet is looked at
+    /// once.
     pub fn filling(&mut self, from: usize, wanted: u32) -> Option<Filling>
         requires { from ≤ length self.old.held }
         ensures same { self.new ≡ self.old }
@@ -162,24 +141,6 @@ impl Up {
         if from == 0 {
             self.seen = seen;
         }
-    }
-
-    /// What an isochronous request is given: one packet for each descriptor, as far as it fits, joined without gaps.
-    /// A packet that is longer than its descriptor has the status -75. None where fewer packets are held than there
-    /// are descriptors; then, and for want of memory, nothing changes. It takes no memory where there is no descriptor.
-    pub fn cut_iso(&mut self, descs: &Descs) -> Result<Option<IsoOutcome>, Memory>
-        ensures gives { IfOk result (λ outcome. outcome ≡ given (iso_cut descs.now self.old.held)) }
-        ensures leaves { OnOk result (self.new ≡ record self.old { held = left self.old.held (iso_cut descs.now self.old.held) }) }
-        ensures err { OnErr result ((self.new ≡ self.old) × IsSome (iso_cut descs.now self.old.held)) }
-        ensures wants { OnErr result (0 < length descs.now) }
-    {
-        let count = descs.len();
-        if self.packets.len() < count {
-            return Ok(None);
-        }
-        let outcome = self.behind(0).iso_outcome(self.alloc, descs)?;
-        self.skip(count);
-        Ok(Some(outcome))
     }
 
     /// Gives up the packet that came last.

@@ -1,16 +1,14 @@
--- The earliest of all requests that pass a test is the earliest of their lanes.
-use Rattle.std.proofs.Common.{◌≡◌, ◌==◌, ◌&&◌, ◌||◌, ℕ, zero, suc, ◌+◌, ◌<◌, ◌≤◌, min, Bool, true, false, cond, ltb, List, [], ◌∷◌, ◌++◌, length, map, filter, get_or, slice_get, Option, Some, None, refl, ap, sym, subst, ◌∙◌, arith, inl, inr, option_map}
+-- The earliest of the requests that pass a test, and those of one lane.
+use Rattle.std.proofs.Common.{◌≡◌, ◌==◌, ◌&&◌, ℕ, zero, suc, ◌+◌, ◌<◌, ◌≤◌, Bool, false, cond, List, [], ◌∷◌, ◌++◌, length, map, filter, get_or, slice_get, Option, Some, None, refl, ap, sym, ◌∙◌, arith, inl, inr, option_map}
 use Rattle.std.specs.Bool.{⊤}
 use Rattle.std.specs.List.{position_or_len}
-use Rattle.std.proofs.lemmas.Bool.{lt-ltb, eq-eqb, ne_eqb, cases_eq, cases_Bool}
-use Rattle.std.proofs.lemmas.Bool.Decides.{nat_tests}
+use Rattle.std.proofs.lemmas.Bool.{eq-eqb, ne_eqb, cases_eq, cases_Bool}
 use Rattle.urb_arena.specs.Lanes.{find_in, ByKey}
 use Rattle.unlink_race.specs.declared.live.Live.{Live}
-use Rattle.unlink_race.specs.Inner.Earliest.{passing, earliest, lesser, least}
+use Rattle.unlink_race.specs.Inner.Earliest.{passing, earliest}
 use Rattle.unlink_race.specs.Inner.Lane.{lane_of}
 use Rattle.unlink_race.specs.Inner.Listed.{IsKeyed, listed}
-use Rattle.unlink_race.specs.Inner.Placed.{keys_in, AreBelow, ArePlaced}
-use Rattle.unlink_race.specs.Inner.Sound.{Rises}
+use Rattle.unlink_race.specs.Inner.Placed.{keys_in, ArePlaced}
 use Rattle.unlink_race.proofs.Placing.{keys}
 use Rattle.unlink_race.proofs.Rows.{entry_of}
 use Rattle.unlink_race.proofs.Walks.{Entries, values, onward}
@@ -76,56 +74,6 @@ lives_passing test (e ∷ es) =
       | inr away ↦ rw away (lives_passing test es)
     ]
 
--- ---- tests that together say what one says
-
-pub never : (p : Live → Bool) → ((x : Live) → p x ≡ false) → (es : List (ℕ × Live)) → earliest p es ≡ None
-never p none [] = refl
-never p none (e ∷ es) = rw (none e.1) (never p none es)
-
-not_below : (p : Live → Bool) (low : ℕ) (es : List (ℕ × Live)) (high rank : ℕ) → Rises low (ranks es) high → earliest p es ≡ Some rank → low ≤ rank
-not_below p low [] high rank rises is = let e : None ≡ Some rank = is in absurd (cc)
-not_below p low (e ∷ es) high rank rises is =
-    elim (cases_Bool (p e.1)) [
-      | inl here ↦ (
-          let same : Some e.0 ≡ Some rank = rw here at is in
-          let this : e.0 ≡ rank = cc in
-          let first = rises.0 in
-          omega (arith, first, this))
-      | inr away ↦ (let later = not_below p (e.0 + 1) es high rank rises.1 (rw away at is) in let first = rises.0 in omega (arith, first, later))
-    ]
-
--- a rank is the lesser of it and of one behind it
-before : (n : ℕ) (o : Option ℕ) → ((m : ℕ) → o ≡ Some m → n ≤ m) → lesser (Some n) o ≡ Some n
-before n None behind = refl
-before n (Some m) behind = let le = behind m refl in ap Some (smaller n m le)
-  where
-    smaller : (a b : ℕ) → a ≤ b → min a b ≡ a
-    smaller a b le = omega (arith, le)
-
-behind : (n : ℕ) (o : Option ℕ) → ((m : ℕ) → o ≡ Some m → n ≤ m) → lesser o (Some n) ≡ Some n
-behind n None later = refl
-behind n (Some m) later = let le = later m refl in ap Some (smaller m n le)
-  where
-    smaller : (a b : ℕ) → b ≤ a → min a b ≡ b
-    smaller a b le = omega (arith, le)
-
-pub either : (p q r : Live → Bool) → ((x : Live) → r x ≡ (p x || q x)) → (low : ℕ) (es : List (ℕ × Live)) (high : ℕ) → Rises low (ranks es) high → lesser (earliest p es) (earliest q es) ≡ earliest r es
-either p q r both low [] high rises = refl
-either p q r both low (e ∷ es) high rises =
-    let up : (t : Live → Bool) (m : ℕ) → earliest t es ≡ Some m → e.0 ≤ m = λ t m is. (let above = not_below t (e.0 + 1) es high m rises.1 is in omega (arith, above)) in
-    elim (cases_Bool (p e.1)) [
-      | inl in_p ↦
-          elim (cases_Bool (q e.1)) [
-            | inl in_q ↦ rw (both e.1, in_p, in_q) (before e.0 (Some e.0) (λ m is. (let same : e.0 ≡ m = cc in omega (arith, same))))
-            | inr not_q ↦ rw (both e.1, in_p, not_q) (before e.0 (earliest q es) (up q))
-          ]
-      | inr not_p ↦
-          elim (cases_Bool (q e.1)) [
-            | inl in_q ↦ rw (both e.1, not_p, in_q) (behind e.0 (earliest p es) (up p))
-            | inr not_q ↦ rw (both e.1, not_p, not_q) (either p q r both (e.0 + 1) es high rises.1)
-          ]
-    ]
-
 -- ---- the requests of a lane are those of the rows that belong there
 
 abbrev pub Backed : (ℕ → Option (ℕ × Live)) → Entries → Type 0
@@ -145,10 +93,6 @@ keys_home lane (ps ∷ pss) (suc l) rows within placed = let e : lane + suc l �
 -- what passes and belongs in this lane
 abbrev pub and_in : (Live → Bool) → ℕ → Live → Bool
 and_in test lane x = (lane_of x.kind == lane) && test x
-
--- and in one before it
-abbrev pub and_below : (Live → Bool) → ℕ → Live → Bool
-and_below test lane x = ltb (lane_of x.kind) lane && test x
 
 -- the rows have the requests' kinds
 abbrev pub Alike : List (ℕ × Live) → List (ℕ × Live) → Type 0
@@ -186,31 +130,3 @@ module _ (test : Live → Bool) (g : ℕ → Option (ℕ × Live)) (lane : ℕ) 
                 let other : (lane_of x.1.kind == lane) ≡ false = ap (λ k. lane_of k == lane) (sym kind) ∙ ne_eqb (lane_of r.1.kind) lane away in
                 rw other (later ps rest backed (rw (ne_eqb (lane_of r.1.kind) lane away) at same)))
           ])
-
-  lane_earliest : (rows : List (ℕ × Live)) (ps : Entries) → IsKeyed key_of g rows → Alike rows (listed key_of g rows) → Backed g ps → keys ps ≡ keys_in lane rows → earliest test (values ps) ≡ earliest (and_in test lane) (listed key_of g rows)
-  lane_earliest rows ps kept alike backed same =
-      earliest_passing test (values ps) ∙ ap first_rank (lane_passing rows ps kept alike backed same) ∙ sym (earliest_passing (and_in test lane) (listed key_of g rows))
-
-  -- where each belongs before this lane, one in a lane before it is one of all
-  all_below : (rows : List (ℕ × Live)) (es : List (ℕ × Live)) → Alike rows es → AreBelow lane rows → earliest (and_below test lane) es ≡ earliest test es
-  all_below [] [] alike below = refl
-  all_below [] (e ∷ es) alike below = absurd (cc)
-  all_below (r ∷ rows) [] alike below = absurd (cc)
-  all_below (r ∷ rows) (e ∷ es) alike below =
-      let kind : r.1.kind ≡ e.1.kind = cc in
-      let rest : Alike rows es = cc in
-      let low : lane_of e.1.kind < lane = subst (λ k. lane_of k < lane) kind below.0 in
-      rw (lt-ltb (lane_of e.1.kind) lane low) (ap (cond (test e.1) (Some e.0)) (all_below rows es rest below.1))
-
-widen : (a m : ℕ) (b : Bool) → (ltb a (m + 1) && b) ≡ ((ltb a m && b) || ((a == m) && b))
-widen a m true = grind (arith, nat_tests)
-widen a m false = grind (arith, nat_tests)
-
--- so the least of the lanes' ranks is that of the earliest of all
-pub least_is : (test : Live → Bool) (g : ℕ → Option (ℕ × Live)) (rows : List (ℕ × Live)) (high : ℕ) → IsKeyed key_of g rows → Alike rows (listed key_of g rows) → Rises 0 (ranks (listed key_of g rows)) high → (lane : ℕ) (pss : List Entries) (so_far : Option ℕ) → ((l : ℕ) → Backed g (get_or pss l [])) → ArePlaced lane (map keys pss) rows → so_far ≡ earliest (and_below test lane) (listed key_of g rows) → least test so_far pss ≡ earliest test (listed key_of g rows)
-least_is test g rows high kept alike rises lane [] so_far backed placed is = is ∙ all_below test g lane rows (listed key_of g rows) alike placed
-least_is test g rows high kept alike rises lane (ps ∷ pss) so_far backed placed is =
-    let this = lane_earliest test g lane rows ps kept alike (backed 0) placed.0 in
-    let both : lesser so_far (earliest test (values ps)) ≡ earliest (and_below test (lane + 1)) (listed key_of g rows) =
-    (λ i. lesser (is i) (this i)) ∙ either (and_below test lane) (and_in test lane) (and_below test (lane + 1)) (λ x. widen (lane_of x.kind) lane (test x)) 0 (listed key_of g rows) high rises in
-    least_is test g rows high kept alike rises (lane + 1) pss (lesser so_far (earliest test (values ps))) (λ l. backed (suc l)) placed.1 both

@@ -20,7 +20,6 @@ pub record IsFound (test : Live → Bool) (g : ℕ → Option (ℕ × Live)) (es
   pub entry : ℕ × Live
   pub is : g k ≡ Some entry
   pub rank : earliest test es ≡ Some entry.0
-  pub live : find test (lives es) ≡ Some entry.1
 
 module _ (test : Live → Bool) (g : ℕ → Option (ℕ × Live)) where
   -- from what is found behind the first
@@ -30,10 +29,10 @@ module _ (test : Live → Bool) (g : ℕ → Option (ℕ × Live)) where
         | inl here ↦ (
             let one : Some j ≡ Some k = rw here at is in
             let same : j ≡ k = cc in
-            record { entry = x; is = ap g (sym same) ∙ there; rank = rw here refl; live = rw here refl })
+            record { entry = x; is = ap g (sym same) ∙ there; rank = rw here refl })
         | inr other ↦ (
             let later = behind (rw other at is) in
-            record { entry = later.entry; is = later.is; rank = rw other later.rank; live = rw other later.live })
+            record { entry = later.entry; is = later.is; rank = rw other later.rank })
       ]
 
   pub found : (ks : List ℕ) → IsKeyed itself g ks → (k : ℕ) → key_found test ks (lives (listed itself g ks)) ≡ Some k → IsFound test g (listed itself g ks) k
@@ -42,18 +41,15 @@ module _ (test : Live → Bool) (g : ℕ → Option (ℕ × Live)) where
       let e = entry_of itself g j kept.0 in
       rw e.1 (ahead j (listed itself g ks) ks k (found ks kept.2 k) e.0 e.1 (rw e.1 at is))
 
-  abbrev NoneFound : List (ℕ × Live) → Type 0
-  NoneFound es = (earliest test es ≡ None) × (find test (lives es) ≡ None)
-
-  none_ahead : (j : ℕ) (es : List (ℕ × Live)) (ks : List ℕ) → (key_found test ks (lives es) ≡ None → NoneFound es) → (x : ℕ × Live) → key_found test (j ∷ ks) (lives (x ∷ es)) ≡ None → NoneFound (x ∷ es)
+  none_ahead : (j : ℕ) (es : List (ℕ × Live)) (ks : List ℕ) → (key_found test ks (lives es) ≡ None → earliest test es ≡ None) → (x : ℕ × Live) → key_found test (j ∷ ks) (lives (x ∷ es)) ≡ None → earliest test (x ∷ es) ≡ None
   none_ahead j es ks behind x is =
       elim (cases_Bool (test x.1)) [
         | inl here ↦ (let e : Some j ≡ None = rw here at is in absurd (cc))
         | inr other ↦ (let later = behind (rw other at is) in rw other later)
       ]
 
-  pub found_none : (ks : List ℕ) → IsKeyed itself g ks → key_found test ks (lives (listed itself g ks)) ≡ None → (earliest test (listed itself g ks) ≡ None) × (find test (lives (listed itself g ks)) ≡ None)
-  found_none [] kept is = (refl, refl)
+  pub found_none : (ks : List ℕ) → IsKeyed itself g ks → key_found test ks (lives (listed itself g ks)) ≡ None → earliest test (listed itself g ks) ≡ None
+  found_none [] kept is = refl
   found_none (j ∷ ks) kept is =
       let e = entry_of itself g j kept.0 in
       rw e.1 (none_ahead j (listed itself g ks) ks (found_none ks kept.2) e.0 (rw e.1 at is))

@@ -20,6 +20,5 @@ pub mod Rows
 pub mod Tables
 pub mod Searching
 pub mod Told
-pub mod Unlinks
 pub mod Walks
 pub mod Zipped

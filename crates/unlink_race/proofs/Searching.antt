@@ -1,6 +1,6 @@
 -- The searches of a sound table in its lanes.
 use Rattle.std.proofs.Common.{◌≡◌, ◌==◌, ◌&&◌, ℕ, ◌+◌, ◌<◌, ◌≤◌, Bool, true, false, ltb, List, [], length, map, filter, get_or, Option, Some, None, refl, ap, sym, subst, ◌∙◌, zero-add, arith, inl, inr}
-use Rattle.std.specs.List.{find, position, position_or_len, zip}
+use Rattle.std.specs.List.{position, position_or_len, zip}
 use Rattle.std.proofs.lemmas.Bool.{lt-ltb, le-ltb, eq-eqb, ne_eqb, cases_eq}
 use Rattle.std.proofs.lemmas.List.{length-map}
 use Rattle.std.proofs.Math.Bool.{and-false}
@@ -15,11 +15,11 @@ use Rattle.unlink_race.specs.declared.live.LiveKind.{LiveKind}
 use Rattle.unlink_race.specs.declared.live.LiveKind.TheVariants.{Wire, Routed, Stream}
 use Rattle.unlink_race.specs.declared.live.StreamEnd.TheVariants.{Told}
 use Rattle.unlink_race.specs.Searches.{waits_at, waits_for, ended_by}
-use Rattle.unlink_race.specs.Inner.Earliest.{passing, earliest, least}
+use Rattle.unlink_race.specs.Inner.Earliest.{passing, earliest}
 use Rattle.unlink_race.specs.Inner.Lane.{lane_of}
 use Rattle.unlink_race.specs.Inner.Listed.{IsKeyed, listed}
 use Rattle.unlink_race.specs.Inner.Sound.{entry_of, in_order, lives_of, ranks_of, Rises, IsSound}
-use Rattle.unlink_race.proofs.Earliest.{rank_placed, none_placed, first_rank, earliest_passing, lives_passing, never, Alike, all_backed, keys_home, and_in, and_below, lane_passing, least_is}
+use Rattle.unlink_race.proofs.Earliest.{rank_placed, none_placed, first_rank, earliest_passing, lives_passing, Alike, all_backed, keys_home, and_in, lane_passing}
 use Rattle.unlink_race.proofs.Found.{key_found, IsFound, found, found_none}
 use Rattle.unlink_race.proofs.Halving.{rank_at_place}
 use Rattle.unlink_race.proofs.Leading.{by_key}
@@ -87,12 +87,6 @@ module _ {arena : ArenaView (ℕ × Live)} {keys : List ℕ} (s : IsSound arena 
   pub few_lives : {xs : List Live} → lives_of arena keys ≡ xs → length xs ≤ MAX_LIVE
   few_lives v = let long = ap length (sym v) ∙ length-map (in_order arena keys) (λ (e : ℕ × Live). e.1) in omega (arith, long, long_entries, s.bound)
 
-  -- the least of the lanes' first that pass is the earliest of all that pass
-  pub least_passing : (test : Live → Bool) (high : ℕ) → Rises 0 (ranks_of arena keys) high → least test None arena.lanes ≡ earliest test (in_order arena keys)
-  least_passing test high rises =
-      least_is test (entry_of arena) rows high kept alike (rw whole rises) 0 arena.lanes None (λ l. all_backed arena.lanes keyed l [] (get_or arena.lanes l []) refl) s.placed (sym (never (and_below test 0) (λ x. ap (λ b. b && test x) (le-ltb (lane_of x.kind) 0 (omega arith))) (listed key_of (entry_of arena) rows)))
-      ∙ ap (earliest test) whole
-
   module _ {xs : List Live} (v : lives_of arena keys ≡ xs) (test : Live → Bool) where
     long_lives : length xs ≡ length (in_order arena keys)
     long_lives = ap length (sym v) ∙ length-map (in_order arena keys) (λ (e : ℕ × Live). e.1)
@@ -125,14 +119,7 @@ module _ {arena : ArenaView (ℕ × Live)} {keys : List ℕ} (s : IsSound arena 
       led k is = found test (entry_of arena) keys s.kept k (sym told ∙ is)
 
       pub led_nowhere : index ≡ None → earliest test (in_order arena keys) ≡ None
-      led_nowhere is = (found_none test (entry_of arena) keys s.kept (sym told ∙ is)).0
-
-      pub finds : (k : ℕ) (e : ℕ × Live) → index ≡ Some k → entry_of arena k ≡ Some e → find test xs ≡ Some e.1
-      finds k e is there =
-          let f = led k is in
-          let same : Some f.entry ≡ Some e = sym f.is ∙ there in
-          let one : f.entry ≡ e = cc in
-          ap (find test) (sym v) ∙ f.live ∙ ap (λ (x : ℕ × Live). Some x.1) one
+      led_nowhere is = found_none test (entry_of arena) keys s.kept (sym told ∙ is)
 
       pub ranked : (k : ℕ) (e : ℕ × Live) → index ≡ Some k → entry_of arena k ≡ Some e → earliest test (in_order arena keys) ≡ Some e.0
       ranked k e is there =
@@ -140,6 +127,3 @@ module _ {arena : ArenaView (ℕ × Live)} {keys : List ℕ} (s : IsSound arena 
           let same : Some f.entry ≡ Some e = sym f.is ∙ there in
           let one : f.entry ≡ e = cc in
           f.rank ∙ ap (λ (x : ℕ × Live). Some x.0) one
-
-      pub finds_none : index ≡ None → find test xs ≡ None
-      finds_none is = ap (find test) (sym v) ∙ (found_none test (entry_of arena) keys s.kept (sym told ∙ is)).1

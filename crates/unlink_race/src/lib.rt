@@ -18,6 +18,6 @@ mod waiting;
 pub use ending::{Ending, ending_of};
 pub use iter::Iter;
 pub use live::{Live, LiveKind, StreamEnd};
-pub use lives::{Lives, NotAccepted};
-pub use unlink::{AskedBack, UnlinkTold};
+pub use lives::Lives;
+pub use unlink::AskedBack;
 pub use waiting::Waiting;

@@ -34,14 +34,14 @@ pub enum StreamEnd {
 
 impl LiveKind {
     /// Whether it waits for packets of a stream, and not for an answer with its id.
-    pub fn is_stream(&self) -> bool
+    pub(crate) fn is_stream(&self) -> bool
         ensures { result ≡ is_stream self.now }
     {
         matches!(self, LiveKind::Stream { .. })
     }
 
     /// Whether it waits for packets of a stream that ends once this route is carried out.
-    pub fn is_touched_by(&self, route: &Route) -> bool
+    fn is_touched_by(&self, route: &Route) -> bool
         ensures { result ≡ is_touched_by route.now self.now }
     {
         match self {
@@ -77,7 +77,7 @@ impl LiveKind {
     }
 
     /// Whether it changes the device's interfaces.
-    pub fn is_change(&self) -> bool
+    pub(crate) fn is_change(&self) -> bool
         ensures { result ≡ is_change self.now }
     {
         match self {

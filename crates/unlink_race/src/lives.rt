@@ -1,37 +1,22 @@
 //! The requests in flight.
 
-ghost use Rattle.std.specs.Prelude.{◌≡◌, ◌<◌, ◌≤◌, ◌||◌, ◌-◌, not, [], ◌∷◌, ◌++◌, length, filter, take, drop, replicate, slice_get, slice_set, option_copied, IfOk, OnOk, OnErr, Some};
+ghost use Rattle.std.specs.Prelude.{◌≡◌, ◌<◌, ◌≤◌, ◌||◌, ◌-◌, not, [], ◌∷◌, ◌++◌, length, filter, take, slice_get, slice_set, option_copied, IfOk, Some};
 ghost use Rattle.std.specs.List.{find, position, list_any};
-ghost use Rattle.std.specs.Result.{result_err};
-ghost use Rattle.urb_arena.specs.ArenaView.{arena_view};
-ghost use Rattle.usb_base.specs.declared.endpoint.TheConstants.{ENDPOINTS};
 ghost use Rattle.unlink_race.specs.declared.live.Live.{Live};
 ghost use Rattle.unlink_race.specs.Firsts.{without_first};
-ghost use Rattle.unlink_race.specs.Searches.{has_number, has_id, waits_for, touched_by, ended_by, changes};
+ghost use Rattle.unlink_race.specs.Searches.{has_number, has_id, waits_for, ended_by, changes};
 ghost use Rattle.unlink_race.specs.Requests.{no_requests, in_flight, without_at, left_behind, OneIsEmpty};
-ghost use Rattle.unlink_race.specs.Accepting.{refusal_of};
-ghost use Rattle.unlink_race.specs.Unlinking.{told_of, left_by, unlinked_by};
+ghost use Rattle.unlink_race.specs.Unlinking.{unlinked_by};
 
 use crate::iter::Iter;
 use crate::live::{Live, StreamEnd};
 use crate::table::Table;
-use crate::unlink::{UnlinkTold, unlink};
 use crate::waiting::Waiting;
-use control_route::Route;
 use std::alloc::Global;
 use std::marker::Model;
 use urb_arena::Arena;
 use usb_base::{ENDPOINTS, EpAddr, Memory};
 use usbip_urb::MAX_LIVE;
-
-/// Why a submit isn't accepted.
-#[derive(Clone, Copy, Debug)]
-pub enum NotAccepted {
-    /// 4,096 requests are live.
-    Full,
-    /// A request with this number is live.
-    SeqInFlight(u32),
-}
 
 /// A client's requests in flight, or those that a former client left with the host; contracts see both lists, in
 /// order of acceptance, of which one is always empty. `make` alone takes memory: that of the arena, in one request.
@@ -52,24 +37,15 @@ impl Model for Lives {
 }
 
 impl Lives {
-    /// No request, and the room for 4,096.
+    /// No request, and the room for 4,096, in a lane for each endpoint.
     pub fn make(alloc: Global) -> Result<Self, Memory>
         ensures { IfOk result (λ lives. lives ≡ no_requests) }
     {
         let arena = Arena::new(alloc, MAX_LIVE, ENDPOINTS)?;
-        Ok(Lives::over(arena))
-    }
-
-    /// No request, in an arena that is handed over: 4,096 requests fit, in a lane for each endpoint. What finds a
-    /// request lies in the value itself, and no memory is taken.
-    pub fn over(arena: Arena<(u64, Live)>) -> Self
-        requires { arena ≡ arena_view (replicate ENDPOINTS []) MAX_LIVE }
-        ensures { result ≡ no_requests }
-    {
-        Lives {
+        Ok(Lives {
             table: Table::over(arena),
             client_gone: false,
-        }
+        })
     }
 
     /// How many are live.
@@ -122,24 +98,6 @@ impl Lives {
         ensures { result ≡ list_any changes self.now.live }
     {
         !self.client_gone && self.table.has_change()
-    }
-
-    /// Takes a request in, as the last. One whose number is live is turned away, and then any where 4,096 are
-    /// live; what is turned away is dropped.
-    pub fn accept(&mut self, live: Live) -> Result<(), NotAccepted>
-        requires { self.old.abandoned ≡ [] }
-        ensures answer { result_err result ≡ refusal_of self.old.live live }
-        ensures ok { OnOk result (self.new ≡ record self.old { live = self.old.live ++ live ∷ [] }) }
-        ensures err { OnErr result (self.new ≡ self.old) }
-    {
-        if self.table.has_seqnum(live.seqnum) {
-            return Err(NotAccepted::SeqInFlight(live.seqnum));
-        }
-        if self.table.len() == MAX_LIVE {
-            return Err(NotAccepted::Full);
-        }
-        self.push(live);
-        Ok(())
     }
 
     /// Takes a request in, as the last, where there is room. Whether its number is live isn't looked for again: who
@@ -217,40 +175,6 @@ impl Lives {
         self.table.mark(place, by);
     }
 
-    /// An unlink of the request with the number `target`; `by` is the unlink's own. It takes out a stream request,
-    /// and marks any other: the first unlink is kept.
-    pub fn unlink(&mut self, target: u32, by: u32) -> UnlinkTold
-        ensures told { result ≡ told_of (find (has_number target) self.old.live) }
-        ensures left { self.new ≡ record self.old { live = left_by target by (find (has_number target) self.old.live) self.old.live } }
-    {
-        if self.client_gone {
-            return UnlinkTold::NotLive;
-        }
-        unlink(&mut self.table, target, by)
-    }
-
-    /// The live wire or route request with an id.
-    pub fn find(&self, id: u64) -> Option<&Live>
-        ensures { option_copied result ≡ find (has_id id) self.now.live }
-    {
-        if self.client_gone {
-            return None;
-        }
-        self.table.flying(id)
-    }
-
-    /// Takes it out.
-    pub fn finish(&mut self, id: u64) -> Option<Live>
-        ensures found { result ≡ find (has_id id) self.old.live }
-        ensures rest { self.new ≡ record self.old { live = without_first (has_id id) self.old.live } }
-    {
-        if self.client_gone {
-            return None;
-        }
-        let place = self.table.place_of_id(id);
-        self.table.take(place)
-    }
-
     /// The requests that wait for the stream of an endpoint, from the earliest on.
     pub fn waiting(&self, ep: EpAddr) -> Waiting<'_>
         ensures waits { result ≡ filter (waits_for ep) self.now.live }
@@ -263,14 +187,7 @@ impl Lives {
         }
     }
 
-    /// The earliest request that waits for the stream of an endpoint.
-    pub fn front(&self, ep: EpAddr) -> Option<&Live>
-        ensures { option_copied result ≡ find (waits_for ep) self.now.live }
-    {
-        self.waiting(ep).next()
-    }
-
-    /// Takes it out.
+    /// Takes out the earliest request that waits for the stream of an endpoint.
     pub fn finish_front(&mut self, ep: EpAddr) -> Option<Live>
         ensures found { result ≡ find (waits_for ep) self.old.live }
         ensures rest { self.new ≡ record self.old { live = without_first (waits_for ep) self.old.live } }
@@ -278,20 +195,7 @@ impl Lives {
         if self.client_gone {
             return None;
         }
-        let place = self.table.place_waiting(ep);
-        self.table.take(place)
-    }
-
-    /// Takes out the earliest request that waits for a stream whose interface the route touches.
-    pub fn take_touched(&mut self, route: &Route) -> Option<Live>
-        ensures found { result ≡ find (touched_by route.now) self.old.live }
-        ensures rest { self.new ≡ record self.old { live = without_first (touched_by route.now) self.old.live } }
-    {
-        if self.client_gone {
-            return None;
-        }
-        let place = self.table.place_touched(route);
-        self.table.take(place)
+        self.table.take_waiting(ep)
     }
 
     /// Drops all requests that wait for packets of a stream that ends so.
@@ -301,18 +205,6 @@ impl Lives {
         if !self.client_gone {
             self.table.drop_ended(end);
         }
-    }
-
-    /// Takes out the earliest of all that are live.
-    pub fn take_first(&mut self) -> Option<Live>
-        ensures found { result ≡ slice_get self.old.live 0 }
-        ensures rest { self.new ≡ record self.old { live = drop 1 self.old.live } }
-    {
-        if self.client_gone {
-            return None;
-        }
-        let place = self.table.place_first();
-        self.table.take(place)
     }
 
     /// Takes out the last that was taken in.
@@ -333,28 +225,6 @@ impl Lives {
     {
         self.table.drop_ended(&StreamEnd::ClientGone);
         self.client_gone = true;
-    }
-
-    /// The abandoned request with an id.
-    pub fn find_abandoned(&self, id: u64) -> Option<&Live>
-        ensures { option_copied result ≡ find (has_id id) self.now.abandoned }
-    {
-        if !self.client_gone {
-            return None;
-        }
-        self.table.flying(id)
-    }
-
-    /// Takes it out.
-    pub fn finish_abandoned(&mut self, id: u64) -> Option<Live>
-        ensures found { result ≡ find (has_id id) self.old.abandoned }
-        ensures rest { self.new ≡ record self.old { abandoned = without_first (has_id id) self.old.abandoned } }
-    {
-        if !self.client_gone {
-            return None;
-        }
-        let place = self.table.place_of_id(id);
-        self.table.take(place)
     }
 
     /// Drops the abandoned requests: the host that had them is lost.

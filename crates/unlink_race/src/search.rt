@@ -1,16 +1,14 @@
 //! Searches of the requests in their lanes, by the ranks that say when they were accepted.
 
-ghost use Rattle.std.specs.Prelude.{◌≡◌, ◌<◌, true, [], None, length, map, get_or};
+ghost use Rattle.std.specs.Prelude.{◌≡◌, ◌<◌, [], length, map, get_or};
 ghost use Rattle.std.specs.Option.{option_map};
 ghost use Rattle.urb_arena.specs.Lanes.{find_in, ByKey};
-ghost use Rattle.usb_base.specs.declared.endpoint.TheConstants.{ENDPOINTS};
 ghost use Rattle.unlink_race.specs.Searches.{ended_by};
-ghost use Rattle.unlink_race.specs.Inner.Earliest.{earliest, lesser, least};
+ghost use Rattle.unlink_race.specs.Inner.Earliest.{earliest};
 ghost use Rattle.unlink_race.specs.Inner.Rest.{rest_at, Stands, key_of_first};
 
 use crate::live::{Live, StreamEnd};
 use urb_arena::{Arena, Key};
-use usb_base::ENDPOINTS;
 
 /// The rank of the request of a key.
 pub fn rank_of(arena: &Arena<(u64, Live)>, key: Key) -> Option<u64>
@@ -43,50 +41,4 @@ pub fn earliest_in_lane(arena: &Arena<(u64, Live)>, lane: usize, end: &StreamEnd
     ensures { result ≡ earliest (ended_by end.now) (map (λ p. p.1) (get_or arena.now.lanes lane [])) }
 {
     rank_of(arena, first_from(arena, arena.front(lane), end)?)
-}
-
-/// The lesser of two ranks, where there are two.
-fn earlier(one: Option<u64>, other: Option<u64>) -> Option<u64>
-    ensures { result ≡ lesser one other }
-{
-    match (one, other) {
-        (Some(one), Some(other)) => Some(one.min(other)),
-        (None, other) => other,
-        (one, None) => one,
-    }
-}
-
-/// The rank of the first in a lane: ranks rise from its front on.
-fn first_in_lane(arena: &Arena<(u64, Live)>, lane: usize) -> Option<u64>
-    requires lane { lane < length arena.now.lanes }
-    requires keys { ByKey arena.now.lanes }
-    ensures { result ≡ earliest (λ live. true) (map (λ p. p.1) (get_or arena.now.lanes lane [])) }
-{
-    rank_of(arena, arena.front(lane)?)
-}
-
-/// The rank of the earliest of all: one of the lanes' first.
-pub fn first_of_all(arena: &Arena<(u64, Live)>) -> Option<u64>
-    requires lanes { length arena.now.lanes ≡ ENDPOINTS }
-    requires keys { ByKey arena.now.lanes }
-    ensures { result ≡ least (λ live. true) None arena.now.lanes }
-{
-    let mut first = None;
-    for lane in 0..ENDPOINTS {
-        first = earlier(first, first_in_lane(arena, lane));
-    }
-    first
-}
-
-/// The rank of the earliest in all lanes whose stream ends so: one of the lanes' earliest.
-pub fn earliest_of_all(arena: &Arena<(u64, Live)>, end: &StreamEnd) -> Option<u64>
-    requires lanes { length arena.now.lanes ≡ ENDPOINTS }
-    requires keys { ByKey arena.now.lanes }
-    ensures { result ≡ least (ended_by end.now) None arena.now.lanes }
-{
-    let mut first = None;
-    for lane in 0..ENDPOINTS {
-        first = earlier(first, earliest_in_lane(arena, lane, end));
-    }
-    first
 }

@@ -13,7 +13,7 @@ ghost use Rattle.unlink_race.specs.Inner.Indexed.{found_by};
 ghost use Rattle.unlink_race.specs.Inner.Listed.{IsKeyed};
 ghost use Rattle.unlink_race.specs.Inner.Sound.{entry_of, ranks_of, Rises, HasDealt};
 ghost use Rattle.unlink_race.specs.Unlinking.{unlinked_by};
-ghost use Rattle.unlink_race.specs.Searches.{has_number, has_id, waits_for, touched_by, ended_by, changes};
+ghost use Rattle.unlink_race.specs.Searches.{has_number, has_id, waits_for, ended_by, changes};
 
 use crate::by_number::By;
 use crate::index::Index;
@@ -21,9 +21,8 @@ use crate::iter::Iter;
 use crate::keys::Keys;
 use crate::live::{Live, StreamEnd};
 use crate::ranked::{mark, set_rank};
-use crate::search::{earliest_in_lane, earliest_of_all, first_of_all, rank_of};
+use crate::search::{earliest_in_lane, rank_of};
 use crate::waiting::Waiting;
-use control_route::Route;
 use std::marker::Model;
 use urb_arena::{Arena, Key};
 use usb_base::EpAddr;
@@ -104,8 +103,6 @@ fn next_rank(arena: &mut Arena<(u64, Live)>, keys: &[Key], next: u64) -> u64
 }
 
 impl Table {
-    ghost use Rattle.std.specs.Prelude.{Bool};
-
     /// The empty table over an arena.
     pub fn over(arena: Arena<(u64, Live)>) -> Self
         requires { arena ≡ arena_view (replicate ENDPOINTS []) MAX_LIVE }
@@ -143,29 +140,13 @@ impl Table {
         self.index.first(&self.arena, By::Id, id).is_some()
     }
 
-    /// The first request that this number finds.
-    fn found(&self, by: By, number: u64) -> Option<&Live>
-        ensures { option_copied result ≡ find (found_by by number) self.now }
-    {
-        let key = self.index.first(&self.arena, by, number)?;
-        let entry = self.arena.get(key).unwrap();
-        Some(&entry.1)
-    }
-
-    /// Where it stands.
+    /// Where the first request stands that this number finds.
     fn place_found(&self, by: By, number: u64) -> Option<usize>
         ensures { result ≡ position (found_by by number) self.now }
     {
         let key = self.index.first(&self.arena, by, number)?;
         let entry = self.arena.get(key).unwrap();
         place_ranked(&self.arena, &self.keys, entry.0)
-    }
-
-    /// The first request that flies with this id.
-    pub fn flying(&self, id: u64) -> Option<&Live>
-        ensures { option_copied result ≡ find (has_id id) self.now }
-    {
-        self.found(By::Id, id)
     }
 
     /// Where the first request with this seqnum stands.
@@ -183,7 +164,7 @@ impl Table {
     }
 
     /// Where the first request stands that waits for packets of this endpoint's stream.
-    pub fn place_waiting(&self, ep: EpAddr) -> Option<usize>
+    fn place_waiting(&self, ep: EpAddr) -> Option<usize>
         ensures { result ≡ position (waits_for ep) self.now }
     {
         // This endpoint's stream ends so, and no other.
@@ -205,23 +186,6 @@ impl Table {
         ensures { result ≡ [] }
     {
         Waiting::none(&self.arena)
-    }
-
-    /// Where the first request stands that waits for packets of an interface that the route touches.
-    pub fn place_touched(&self, route: &Route) -> Option<usize>
-        ensures { result ≡ position (touched_by route.now) self.now }
-    {
-        let end = StreamEnd::Change(*route);
-        let rank = earliest_of_all(&self.arena, &end)?;
-        place_ranked(&self.arena, &self.keys, rank)
-    }
-
-    /// Where the earliest of all stands.
-    pub fn place_first(&self) -> Option<usize>
-        ensures { result ≡ position (λ live. true) self.now }
-    {
-        let rank = first_of_all(&self.arena)?;
-        place_ranked(&self.arena, &self.keys, rank)
     }
 
     /// Whether a request changes the configuration or an interface.
@@ -288,13 +252,13 @@ impl Table {
         mark(&mut self.arena, key, by);
     }
 
-    /// Takes out the request at a place that one of the searches gave.
-    pub fn take(&mut self, place: Option<usize>) -> Option<Live>
-        requires { (test : Live → Bool) × (place ≡ position test self.old) }
-        ensures found { (test : Live → Bool) → place ≡ position test self.old → result ≡ find test self.old }
-        ensures rest { (test : Live → Bool) → place ≡ position test self.old → self.new ≡ without_first test self.old }
+    /// Takes out the first request that waits for packets of this endpoint's stream.
+    pub fn take_waiting(&mut self, ep: EpAddr) -> Option<Live>
+        ensures found { result ≡ find (waits_for ep) self.old }
+        ensures rest { self.new ≡ without_first (waits_for ep) self.old }
     {
-        Some(self.remove(place?))
+        let place = self.place_waiting(ep)?;
+        Some(self.remove(place))
     }
 
     /// Drops the requests whose stream ends so, from the last to the first: what is moved up are those that stay.

@@ -1,13 +1,11 @@
 //! Requests in flight: many calls with no memory left.
 
-ghost use Rattle.std.specs.Prelude.{◌≡◌, []};
-
 use control_route::Route;
 use std::alloc::Global;
 use std::test::Fail;
-use unlink_race::{Live, LiveKind, Lives, NotAccepted, StreamEnd};
+use unlink_race::{AskedBack, Live, LiveKind, Lives, StreamEnd};
 use usb_base::{EpAddr, EpKind};
-use usbip_urb::Descs;
+use usbip_urb::{Descs, MAX_LIVE};
 
 fn request(alloc: Global, seqnum: u32, id: u64, kind: LiveKind) -> Live {
     Live {
@@ -29,40 +27,55 @@ fn wire() -> Result<LiveKind, Fail> {
     Ok(LiveKind::Wire { ep, kind })
 }
 
-fn stream(byte: u8) -> Result<LiveKind, Fail> {
-    let ep = EpAddr::new(byte).ok_or("no endpoint")?;
+fn streaming() -> Result<EpAddr, Fail> {
+    Ok(EpAddr::new(0x82).ok_or("no endpoint")?)
+}
+
+fn stream() -> Result<LiveKind, Fail> {
+    let ep = streaming()?;
     Ok(LiveKind::Stream { ep, interface: 1 })
 }
 
-fn accept(lives: &mut Lives, live: Live) -> Result<(), NotAccepted>
-    requires { lives.old.abandoned ≡ [] }
-    ensures { lives.new.abandoned ≡ [] }
-{
-    lives.accept(live)
+// One whose number is live isn't taken in, and none where there is no room.
+fn take_in(lives: &mut Lives, live: Live) {
+    if lives.abandoned() == 0 && lives.len() < MAX_LIVE && !lives.has(live.seqnum) {
+        lives.push(live);
+    }
 }
 
-fn one_call(lives: &mut Lives, alloc: Global, seed: u32) -> Result<(), Fail>
-    requires { lives.old.abandoned ≡ [] }
-    ensures { lives.new.abandoned ≡ [] }
-{
+fn ask_back(lives: &mut Lives, target: u32, by: u32) {
+    let Some(place) = lives.place_of_number(target) else {
+        return;
+    };
+    match lives.held_at(place).asked_back() {
+        AskedBack::Already(_) => {}
+        AskedBack::Taken => {
+            lives.finish_at(place);
+        }
+        AskedBack::Cancel(_) | AskedBack::Waits => lives.mark_at(place, by),
+    }
+}
+
+fn finish(lives: &mut Lives, id: u64) {
+    if let Some(place) = lives.place_of_id(id) {
+        lives.finish_at(place);
+    }
+}
+
+fn one_call(lives: &mut Lives, alloc: Global, seed: u32) -> Result<(), Fail> {
     let number = seed >> 20;
-    let id = number as u64;
-    match seed >> 8 & 7 {
-        0 => {
-            accept(lives, request(alloc, seed, id, stream(0x82)?))?;
+    let id = u64::from(number);
+    match seed >> 8 & 15 {
+        0 | 1 => take_in(lives, request(alloc, number, id, stream()?)),
+        2..=7 => take_in(lives, request(alloc, number, id, wire()?)),
+        8 | 9 => ask_back(lives, number, seed),
+        10 | 11 => finish(lives, id),
+        12 => lives.drop_ended(&StreamEnd::Change(Route::Reset)),
+        13 => {
+            lives.finish_front(streaming()?);
         }
-        1 | 2 | 3 => {
-            let _ = lives.accept(request(alloc, number, id, wire()?));
-        }
-        4 => {
-            let _ = lives.unlink(number, seed);
-        }
-        5 => {
-            let _ = lives.finish(id);
-        }
-        6 => lives.drop_ended(&StreamEnd::Change(Route::Reset)),
         _ => {
-            let _ = lives.take_first();
+            lives.take_last();
         }
     }
     Ok(())
@@ -85,7 +98,7 @@ fn three_requests(alloc: Global) -> Result<Lives, Fail> {
     let mut lives = Lives::make(alloc)?;
     for number in 1..4u32 {
         let id = u64::from(number) + 20;
-        accept(&mut lives, request(alloc, number, id, wire()?))?;
+        take_in(&mut lives, request(alloc, number, id, wire()?));
     }
     Ok(lives)
 }

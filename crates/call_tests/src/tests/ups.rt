@@ -3,8 +3,8 @@
 use std::alloc::Global;
 use std::process::Abort;
 use std::test::Fail;
-use stream_buffers::{IsoFilling, IsoOutcome, MAX_HELD, Up};
-use usb_base::{Bytes, EpAddr, EpKind, EpRow, List, Memory, Outcome, StreamPacket, UsbStatus};
+use stream_buffers::{IsoFilling, MAX_HELD, Up};
+use usb_base::{Bytes, EpAddr, EpKind, EpRow, List, Memory, StreamPacket, UsbStatus};
 use usbip_urb::{Descs, IsoDesc};
 
 const OK: UsbStatus = UsbStatus::Success;
@@ -67,32 +67,18 @@ fn two(alloc: Global) -> Result<Descs, Memory> {
     Ok(descs)
 }
 
-// Whether a request was given these bytes.
-fn is_given(outcome: &Option<Outcome>, bytes: &[u8]) -> bool {
-    match outcome {
-        Some(outcome) => {
-            (outcome.status, outcome.done as usize) == (OK, bytes.len())
-                && outcome.body.as_slice() == bytes
-        }
-        None => false,
-    }
-}
-
-// Whether a request of two descriptors was given these bytes.
-fn is_given_iso(outcome: &Option<IsoOutcome>, bytes: &[u8]) -> bool {
-    match outcome {
-        Some(outcome) => outcome.body.as_slice() == bytes && outcome.descs.len() == 2,
-        None => false,
-    }
-}
-
-fn take(rt: &impl Abort, up: &mut Up, descs: &Descs) -> Result<(), Fail> {
-    assert!(rt; is_given(&up.cut_interrupt(4)?, &[1, 1, 2]));
-    assert!(rt; is_given_iso(&up.cut_iso(descs)?, &[3, 3, 4, 4]));
+fn take(rt: &impl Abort, up: &mut Up, descs: &Descs, out: &mut Bytes) -> Result<(), Fail> {
+    let filling = up.filling(0, 4).ok_or("it is filled")?;
+    assert!(rt; (filling.count, filling.status, filling.done) == (2, OK, 3));
+    up.behind(0).append_bodies(filling, out)?;
+    up.skip(filling.count);
+    assert!(rt; (up.len(), descs.len()) == (4, 2));
+    up.behind(0).append_pieces(descs, out)?;
+    up.skip(descs.len());
+    assert!(rt; out.as_slice() == [1, 1, 2, 3, 3, 4, 4].as_slice());
     assert!(rt; up.len() == 2);
     up.withdraw();
     assert!(rt; up.len() == 1);
-    up.skip(1);
     up.clear();
     assert!(rt; up.len() == 0);
     Ok(())
@@ -100,7 +86,13 @@ fn take(rt: &impl Abort, up: &mut Up, descs: &Descs) -> Result<(), Fail> {
 
 #[test]
 fn requests_take_packets(rt: HostRuntime) -> Result<(), Fail> {
-    take(&rt, &mut holding(rt.alloc())?, &two(rt.alloc())?)
+    let descs = two(rt.alloc())?;
+    take(
+        &rt,
+        &mut holding(rt.alloc())?,
+        &descs,
+        &mut Bytes::new(rt.alloc()),
+    )
 }
 
 // Whether one more packet is held.

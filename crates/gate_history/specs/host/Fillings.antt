@@ -4,10 +4,9 @@ use Rattle.std.specs.Prelude.{ℕ, ◌==◌, if◌then◌else◌, List, [], ◌�
 use Rattle.std.specs.Option.{option_map}
 use Rattle.usb_base.specs.declared.transfer.Outcome.{Outcome}
 use Rattle.usb_base.specs.declared.transfer.StreamPacket.{StreamPacket}
-use Rattle.stream_buffers.specs.declared.iso.IsoOutcome.{IsoOutcome}
 use Rattle.stream_buffers.specs.Cuts.{Cut}
 use Rattle.stream_buffers.specs.Interrupt.{interrupt_cut}
-use Rattle.stream_buffers.specs.Iso.{iso_cut}
+use Rattle.stream_buffers.specs.Iso.{IsoOutcome, iso_cut}
 use Rattle.gate_history.specs.declared.request.Request.{Request}
 use Rattle.gate_history.specs.client.Verdict.{none_of}
 

@@ -5,9 +5,11 @@ use Rattle.redir_wire.specs.declared.packet.Caps.{Caps}
 use Rattle.redir_wire.specs.declared.packet.RedirControl.TheVariants as plain
 use Rattle.redir_data.specs.declared.packet.RedirPacket.TheVariants.{Plain}
 use Rattle.unlink_race.specs.declared.live.Live.{Live}
-use Rattle.unlink_race.specs.Searches.{is_stream, goes_by_id}
+use Rattle.unlink_race.specs.Firsts.{without_first, change_first}
+use Rattle.unlink_race.specs.Searches.{is_stream, goes_by_id, has_number}
+use Rattle.unlink_race.specs.Unlinking.{unlinked_by}
 use Rattle.unlink_race.specs.declared.unlink.AskedBack.{AskedBack}
-use Rattle.unlink_race.specs.declared.unlink.AskedBack.TheVariants.{Already, Cancel, Taken}
+use Rattle.unlink_race.specs.declared.unlink.AskedBack.TheVariants.{Already, Cancel, Waits, Taken}
 use Rattle.usbip_urb.specs.Spelling.{spelling}
 use Rattle.usb_base.specs.declared.errno.TheConstants.{ECONNRESET}
 use Rattle.gate_history.specs.write.Answers.{ret_unlink}
@@ -33,6 +35,13 @@ abbrev pub asked_rows : ℕ → ℕ → List Live → List Live
 asked_rows target by ls = map (asked_row target by) (filter (λ l. not (is_taken_row target l)) ls)
 
 -- ---- by what becomes of the row that has the number, where one has it
+
+-- one that is taken is gone, one that the host answers is marked, and else nothing changes
+abbrev pub left_as : ℕ → ℕ → Option AskedBack → List Live → List Live
+left_as target by (Some Taken) ls = without_first (has_number target) ls
+left_as target by (Some (Cancel id)) ls = change_first (has_number target) (unlinked_by by) ls
+left_as target by (Some Waits) ls = change_first (has_number target) (unlinked_by by) ls
+left_as target by _ ls = ls
 
 -- none has it, or another unlink was first
 abbrev pub is_late : Option AskedBack → Bool

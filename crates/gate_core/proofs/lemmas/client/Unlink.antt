@@ -16,7 +16,6 @@ use Rattle.unlink_race.specs.Searches.{has_number}
 use Rattle.gate_history.specs.declared.note.Note.TheVariants as note
 use Rattle.gate_parts.specs.declared.write.outputs.Outputs.{Outputs}
 use Rattle.gate_core.specs.declared.state.kept.Kept.{Kept}
-use Rattle.unlink_race.specs.Unlinking.{left_as}
 use Rattle.unlink_race.specs.declared.unlink.AskedBack.{AskedBack}
 use Rattle.usb_base.specs.Number.{capped}
 use Rattle.usb_base.specs.declared.errno.TheConstants.{ECONNRESET}
@@ -33,7 +32,7 @@ use Rattle.gate_history.specs.write.All.{is_ret_submit, is_won_unlink}
 use Rattle.redir_data.specs.Sent.{sent_packet_bytes}
 use Rattle.gate_history.specs.step.Machine.{ask}
 use Rattle.gate_parts.specs.state.Rows.{row, row_of}
-use Rattle.gate_core.proofs.lemmas.client.AskedRows.{asked_row, is_taken_row, cancel_row, asked_rows, is_late, taken_count, taken_bytes, asked_bytes}
+use Rattle.gate_core.proofs.lemmas.client.AskedRows.{asked_row, is_taken_row, cancel_row, asked_rows, left_as, is_late, taken_count, taken_bytes, asked_bytes}
 use Rattle.gate_core.specs.inner.state.Holds.{Holds, Does}
 use Rattle.gate_history.proofs.lemmas.Lists.{Each, Each-weaker, filter-map}
 use Rattle.gate_parts.proofs.lemmas.state.Rows.{wire-row, by_id-row}

@@ -13,7 +13,7 @@ use Rattle.unlink_race.specs.declared.live.LiveKind.{LiveKind}
 use Rattle.unlink_race.specs.declared.live.LiveKind.TheVariants as live_kind
 use Rattle.unlink_race.specs.Searches.{is_stream, goes_by_id, has_number}
 use Rattle.unlink_race.specs.Firsts.{without_first, change_first}
-use Rattle.unlink_race.specs.Unlinking.{asked_as, asked_back, left_as, unlinked_by}
+use Rattle.unlink_race.specs.Unlinking.{asked_as, asked_back, unlinked_by}
 use Rattle.unlink_race.specs.declared.unlink.AskedBack.{AskedBack}
 use Rattle.unlink_race.specs.declared.unlink.AskedBack.TheVariants.{Already, Cancel, Waits, Taken}
 use Rattle.unlink_race.proofs.Firsts.{took_first, took_none}
@@ -25,7 +25,7 @@ use Rattle.usbip_urb.specs.Spelling.{spelling}
 use Rattle.usb_base.specs.declared.errno.TheConstants.{ECONNRESET}
 use Rattle.gate_history.specs.write.Answers.{ret_unlink}
 use Rattle.gate_core.specs.inner.state.Holds.{IsRow}
-use Rattle.gate_core.proofs.lemmas.client.AskedRows.{asked_row, is_target_row, is_taken_row, cancel_row, asked_rows, is_late, taken_count, taken_bytes, asked_bytes}
+use Rattle.gate_core.proofs.lemmas.client.AskedRows.{asked_row, is_target_row, is_taken_row, cancel_row, asked_rows, left_as, is_late, taken_count, taken_bytes, asked_bytes}
 
 module _ (caps : Caps) (target by : ℕ) where
   -- it is marked, or taken out

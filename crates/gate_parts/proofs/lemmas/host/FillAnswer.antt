@@ -9,7 +9,7 @@ use Rattle.usb_base.specs.Status.{errno_of}
 use Rattle.usb_base.specs.declared.transfer.Outcome.{Outcome}
 use Rattle.usbip_urb.specs.declared.packet.IsoDesc.{IsoDesc}
 use Rattle.usbip_urb.specs.Spelling.{spelling, descs_bytes}
-use Rattle.stream_buffers.specs.declared.iso.IsoOutcome.{IsoOutcome}
+use Rattle.stream_buffers.specs.Iso.{IsoOutcome}
 use Rattle.usbip_urb.specs.Errors.{is_failed, errors_of}
 use Rattle.unlink_race.specs.declared.live.Live.{Live}
 use Rattle.gate_history.specs.write.Answers.{with_given, echoed}
