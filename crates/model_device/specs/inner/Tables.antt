@@ -78,7 +78,7 @@ none_fine : Fine no_endpoints.rows
 none_fine i lt e = not_iso Invalid refl (sym (ap (λ (r : EpRow). r.kind) (get_or-replicate ENDPOINTS i no_endpoint no_endpoint (omega arith))) ∙ e)
 
 control_fine : Fine control_rows
-control_fine = set_fine (set no_endpoints.rows 0 control_row) 16 control_row (λ lt e. cc) (set_fine no_endpoints.rows 0 control_row (λ lt e. cc) none_fine)
+control_fine = set_fine (set no_endpoints.rows (endpoint_index 0) control_row) (endpoint_index 128) control_row (λ lt e. cc) (set_fine no_endpoints.rows (endpoint_index 0) control_row (λ lt e. cc) none_fine)
 
 pub table_fine : (parts : List Part) (s : DevState) → no_iso_out parts ≡ true → (i : ℕ) → i < 16 → (get_or (table_of parts s).rows i no_endpoint).kind ≢ Iso
 table_fine parts s f =
