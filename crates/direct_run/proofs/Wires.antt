@@ -1,6 +1,5 @@
 -- The bytes on the wires and what is told are those of the gateway's history and of the host's.
-use Rattle.std.proofs.Common.{◌≡◌, ℕ, zero, suc, ◌≤◌, List, [], ◌∷◌, ◌++◌, length, take, drop, Result, Ok, Err, refl, sym, ap, ◌∙◌, subst, append_assoc, arith}
-use Rattle.std.specs.Result.{IfOk}
+use Rattle.std.proofs.Common.{◌≡◌, ℕ, zero, suc, ◌≤◌, List, [], ◌∷◌, ◌++◌, length, take, drop, refl, sym, ap, ◌∙◌, subst, append_assoc, arith}
 use Rattle.std.specs.List.{flat_map}
 use Rattle.std.proofs.lemmas.List.{append_cancel_left, drop-append-le, length-append, length-drop, drop-drop, take-append-drop}
 use Rattle.std.proofs.lemmas.Grind.{flat_map-append}
@@ -32,10 +31,6 @@ use Rattle.direct_run.specs.Noted.{item_of, named}
 use Rattle.direct_run.specs.Trace.{given_of, trace, untold}
 use Rattle.direct_run.specs.Stands.{SystemRuns}
 use Rattle.direct_run.specs.inner.Doing.{DoesEvent, DoesAct}
-
-pub if-ok : {T E : Type 0} (r : Result T E) (P Q : T → Type 0) → ((v : T) → P v → Q v) → IfOk r P → IfOk r Q
-if-ok (Ok v) P Q f h = f v h
-if-ok (Err e) P Q f h = tt
 
 -- ---- an event of the gateway
 

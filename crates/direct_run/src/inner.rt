@@ -1,6 +1,6 @@
 //! What a system keeps, and how steps change it.
 
-ghost use Rattle.std.specs.Prelude.{◌≡◌, ◌++◌, [], List as ListOf, Some, None, is_some, IfOk, IfErr, OnOk, IsErr, take, drop, true};
+ghost use Rattle.std.specs.Prelude.{◌≡◌, ◌++◌, [], List as ListOf, None, is_some, IfOk, OnOk, OnErr, IsErr, take, drop, true};
 ghost use Rattle.std.specs.List.{flat_map};
 ghost use Rattle.gate_history.specs.step.Events.{Event as PastEvent, HostPiece, event_of};
 ghost use Rattle.gate_core.specs.step.Stands.{GateStands};
@@ -93,74 +93,61 @@ impl<G: Gadget> Inner<G> {
     pub fn step(&mut self, step: Step) -> Result<Told, Memory>
         ensures takes { IfOk result (λ told. (first : G) (past : ListOf PastStep) → SystemStands G.meaning first (kept_of self.old) past
             → TakesStep G.meaning first (kept_of self.new) past (step_of step.entry) told) }
+        ensures fails { OnErr result (is_some self.new.want ≡ true) }
         ensures failed { is_some self.old.want ≡ true → IsErr result × (self.new ≡ self.old) }
     {
+        if let Some(memory) = self.want {
+            return Err(memory);
+        }
+        let mut told = Told::new(self.alloc);
+        match self.take(step, &mut told) {
+            Ok(()) => Ok(told),
+            Err(memory) => {
+                self.want = Some(memory);
+                Err(memory)
+            }
+        }
+    }
+
+    /// The same, where memory has not run out. Nothing is told yet, here and in each call below.
+    fn take(&mut self, step: Step, told: &mut Told) -> Result<(), Memory>
+        requires { told.old ≡ untold }
+        ensures { OnOk result ((first : G) (past : ListOf PastStep) → SystemStands G.meaning first (kept_of self.old) past
+            → TakesStep G.meaning first (kept_of self.new) past (step_of step.entry) told.new) }
+    {
         match step {
-            Step::Client(bytes) => self.event(Event::ClientPiece(bytes)),
-            Step::ClientEnd => self.event(Event::ClientEnd),
-            Step::ToHost(count) => self.carry_to_host(count),
-            Step::ToGate(count) => self.carry_to_gate(count),
-            Step::Perform(ep) => self.perform(ep),
-            Step::Offer(ep) => self.offer(ep),
-            Step::Unplug => self.unplug(),
+            Step::Client(bytes) => self.event(Event::ClientPiece(bytes), told),
+            Step::ClientEnd => self.event(Event::ClientEnd, told),
+            Step::ToHost(count) => self.carry_to_host(count, told),
+            Step::ToGate(count) => self.carry_to_gate(count, told),
+            Step::Perform(ep) => self.perform(ep, told),
+            Step::Offer(ep) => self.offer(ep, told),
+            Step::Unplug => self.unplug(told),
         }
-    }
-
-    /// Keeps that memory has run out, where it has.
-    pub fn keep(&mut self, told: Result<Told, Memory>) -> Result<Told, Memory>
-        ensures same { result ≡ told }
-        ensures ok { OnOk result (self.new ≡ self.old) }
-        ensures err { IfErr told (λ memory. self.new ≡ record self.old { want = Some memory }) }
-    {
-        if let Err(memory) = &told {
-            self.want = Some(*memory);
-        }
-        told
-    }
-
-    /// An error where memory has run out in an earlier step.
-    fn works(&self) -> Result<(), Memory>
-        ensures failed { is_some self.now.want ≡ true → IsErr result }
-    {
-        self.want.map_or(Ok(()), Err)
     }
 
     /// So many bytes get to the host, or all there are.
-    fn carry_to_host(&mut self, count: u32) -> Result<Told, Memory>
-        ensures does { IfOk result (λ told. (first : G) (past : ListOf Act) → HostStands G.meaning first self.old.host past
-            → DoesAct G.meaning first (record (kept_of self.old) { to_host = drop count self.old.to_host }) (kept_of self.new) past (Piece (take count self.old.to_host)) told) }
-        ensures failed { is_some self.old.want ≡ true → IsErr result × (self.new ≡ self.old) }
+    fn carry_to_host(&mut self, count: u32, told: &mut Told) -> Result<(), Memory>
+        requires { told.old ≡ untold }
+        ensures { OnOk result ((first : G) (past : ListOf Act) → HostStands G.meaning first self.old.host past
+            → DoesAct G.meaning first (record (kept_of self.old) { to_host = drop count self.old.to_host }) (kept_of self.new) past (Piece (take count self.old.to_host)) told.new) }
     {
-        self.works()?;
         let piece = take_front(self.alloc, &mut self.to_host, count)?;
-        self.hear(piece.as_slice())
+        self.hear(piece.as_slice(), told)
     }
 
     /// So many bytes get to the gateway, or all there are.
-    fn carry_to_gate(&mut self, count: u32) -> Result<Told, Memory>
-        ensures does { IfOk result (λ told. (past : ListOf PastEvent) → GateStands first_id self.old.gate past
-            → DoesEvent (record (kept_of self.old) { to_gate = drop count self.old.to_gate }) (kept_of self.new) past (HostPiece (take count self.old.to_gate)) told) }
-        ensures failed { is_some self.old.want ≡ true → IsErr result × (self.new ≡ self.old) }
+    fn carry_to_gate(&mut self, count: u32, told: &mut Told) -> Result<(), Memory>
+        requires { told.old ≡ untold }
+        ensures { OnOk result ((past : ListOf PastEvent) → GateStands first_id self.old.gate past
+            → DoesEvent (record (kept_of self.old) { to_gate = drop count self.old.to_gate }) (kept_of self.new) past (HostPiece (take count self.old.to_gate)) told.new) }
     {
-        self.works()?;
         let piece = take_front(self.alloc, &mut self.to_gate, count)?;
-        self.event(Event::HostPiece(piece.as_slice()))
+        self.event(Event::HostPiece(piece.as_slice()), told)
     }
 
     /// Has the gateway take an event.
-    fn event(&mut self, event: Event) -> Result<Told, Memory>
-        ensures does { IfOk result (λ told. (past : ListOf PastEvent) → GateStands first_id self.old.gate past
-            → DoesEvent (kept_of self.old) (kept_of self.new) past (event_of event.entry) told) }
-        ensures failed { is_some self.old.want ≡ true → IsErr result × (self.new ≡ self.old) }
-    {
-        self.works()?;
-        let mut told = Told::new(self.alloc);
-        self.take_event(event, &mut told)?;
-        Ok(told)
-    }
-
-    /// The same, where nothing is told yet and memory has not run out.
-    fn take_event(&mut self, event: Event, told: &mut Told) -> Result<(), Memory>
+    fn event(&mut self, event: Event, told: &mut Told) -> Result<(), Memory>
         requires { told.old ≡ untold }
         ensures { OnOk result ((past : ListOf PastEvent) → GateStands first_id self.old.gate past
             → DoesEvent (kept_of self.old) (kept_of self.new) past (event_of event.entry) told.new) }
@@ -184,19 +171,7 @@ impl<G: Gadget> Inner<G> {
     }
 
     /// Has the host take a piece of the gateway's bytes.
-    fn hear(&mut self, bytes: &[u8]) -> Result<Told, Memory>
-        ensures does { IfOk result (λ told. (first : G) (past : ListOf Act) → HostStands G.meaning first self.old.host past
-            → DoesAct G.meaning first (kept_of self.old) (kept_of self.new) past (Piece bytes.now) told) }
-        ensures failed { is_some self.old.want ≡ true → IsErr result × (self.new ≡ self.old) }
-    {
-        self.works()?;
-        let mut told = Told::new(self.alloc);
-        self.take_piece(bytes, &mut told)?;
-        Ok(told)
-    }
-
-    /// The same, where nothing is told yet and memory has not run out.
-    fn take_piece(&mut self, bytes: &[u8], told: &mut Told) -> Result<(), Memory>
+    fn hear(&mut self, bytes: &[u8], told: &mut Told) -> Result<(), Memory>
         requires { told.old ≡ untold }
         ensures { OnOk result ((first : G) (past : ListOf Act) → HostStands G.meaning first self.old.host past
             → DoesAct G.meaning first (kept_of self.old) (kept_of self.new) past (Piece bytes.now) told.new) }
@@ -208,19 +183,7 @@ impl<G: Gadget> Inner<G> {
     }
 
     /// Has the device perform the first request of an endpoint.
-    fn perform(&mut self, ep: EpAddr) -> Result<Told, Memory>
-        ensures does { IfOk result (λ told. (first : G) (past : ListOf Act) → HostStands G.meaning first self.old.host past
-            → DoesAct G.meaning first (kept_of self.old) (kept_of self.new) past (Perform ep) told) }
-        ensures failed { is_some self.old.want ≡ true → IsErr result × (self.new ≡ self.old) }
-    {
-        self.works()?;
-        let mut told = Told::new(self.alloc);
-        self.do_perform(ep, &mut told)?;
-        Ok(told)
-    }
-
-    /// The same, where nothing is told yet and memory has not run out.
-    fn do_perform(&mut self, ep: EpAddr, told: &mut Told) -> Result<(), Memory>
+    fn perform(&mut self, ep: EpAddr, told: &mut Told) -> Result<(), Memory>
         requires { told.old ≡ untold }
         ensures { OnOk result ((first : G) (past : ListOf Act) → HostStands G.meaning first self.old.host past
             → DoesAct G.meaning first (kept_of self.old) (kept_of self.new) past (Perform ep) told.new) }
@@ -232,19 +195,7 @@ impl<G: Gadget> Inner<G> {
     }
 
     /// Offers the gateway what the device has for an endpoint.
-    fn offer(&mut self, ep: EpAddr) -> Result<Told, Memory>
-        ensures does { IfOk result (λ told. (first : G) (past : ListOf Act) → HostStands G.meaning first self.old.host past
-            → DoesAct G.meaning first (kept_of self.old) (kept_of self.new) past (Offer ep) told) }
-        ensures failed { is_some self.old.want ≡ true → IsErr result × (self.new ≡ self.old) }
-    {
-        self.works()?;
-        let mut told = Told::new(self.alloc);
-        self.do_offer(ep, &mut told)?;
-        Ok(told)
-    }
-
-    /// The same, where nothing is told yet and memory has not run out.
-    fn do_offer(&mut self, ep: EpAddr, told: &mut Told) -> Result<(), Memory>
+    fn offer(&mut self, ep: EpAddr, told: &mut Told) -> Result<(), Memory>
         requires { told.old ≡ untold }
         ensures { OnOk result ((first : G) (past : ListOf Act) → HostStands G.meaning first self.old.host past
             → DoesAct G.meaning first (kept_of self.old) (kept_of self.new) past (Offer ep) told.new) }
@@ -256,19 +207,7 @@ impl<G: Gadget> Inner<G> {
     }
 
     /// Takes the device away.
-    fn unplug(&mut self) -> Result<Told, Memory>
-        ensures does { IfOk result (λ told. (first : G) (past : ListOf Act) → HostStands G.meaning first self.old.host past
-            → DoesAct G.meaning first (kept_of self.old) (kept_of self.new) past Unplug told) }
-        ensures failed { is_some self.old.want ≡ true → IsErr result × (self.new ≡ self.old) }
-    {
-        self.works()?;
-        let mut told = Told::new(self.alloc);
-        self.do_unplug(&mut told)?;
-        Ok(told)
-    }
-
-    /// The same, where nothing is told yet and memory has not run out.
-    fn do_unplug(&mut self, told: &mut Told) -> Result<(), Memory>
+    fn unplug(&mut self, told: &mut Told) -> Result<(), Memory>
         requires { told.old ≡ untold }
         ensures { OnOk result ((first : G) (past : ListOf Act) → HostStands G.meaning first self.old.host past
             → DoesAct G.meaning first (kept_of self.old) (kept_of self.new) past Unplug told.new) }

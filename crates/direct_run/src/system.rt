@@ -52,37 +52,7 @@ impl<G: Gadget> System<G> {
         ensures fails { OnErr result (SystemHasFailed self.new) }
         ensures failed { SystemHasFailed self.old → IsErr result × (self.new ≡ self.old) }
     {
-        // Each arm makes its step anew: the borrow checker doesn't cover one that is handed on as it came.
-        match step {
-            Step::Client(bytes) => {
-                let told = self.inner.step(Step::Client(bytes));
-                self.inner.keep(told)
-            }
-            Step::ClientEnd => {
-                let told = self.inner.step(Step::ClientEnd);
-                self.inner.keep(told)
-            }
-            Step::ToHost(count) => {
-                let told = self.inner.step(Step::ToHost(count));
-                self.inner.keep(told)
-            }
-            Step::ToGate(count) => {
-                let told = self.inner.step(Step::ToGate(count));
-                self.inner.keep(told)
-            }
-            Step::Perform(ep) => {
-                let told = self.inner.step(Step::Perform(ep));
-                self.inner.keep(told)
-            }
-            Step::Offer(ep) => {
-                let told = self.inner.step(Step::Offer(ep));
-                self.inner.keep(told)
-            }
-            Step::Unplug => {
-                let told = self.inner.step(Step::Unplug);
-                self.inner.keep(told)
-            }
-        }
+        self.inner.step(step)
     }
 
     /// All items so far.
