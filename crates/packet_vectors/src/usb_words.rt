@@ -4,7 +4,9 @@ use crate::output::Output;
 use crate::reader::caps_of;
 use control_route::{Route, is_change, route_of, touches};
 use redir_wire::Caps;
-use usb_base::{EpAddr, EpKind, EpTable, Reason, Refusal, Setup, Side, Speed, UsbStatus};
+use usb_base::{
+    EpAddr, EpKind, EpTable, Reason, Refusal, Setup, Side, Speed, UsbStatus, is_in_endpoint,
+};
 
 const REASONS: [Reason; 22] = [
     Reason::Version,
@@ -110,11 +112,14 @@ pub fn push_kind(byte: &str, out: &mut Output) {
     out.line(kind_name(kind), &[]);
 }
 
-/// Appends an endpoint's place among 32 and its direction, and its byte and its kind in a table without endpoints.
+/// Appends an endpoint's place among 32 and its direction, its byte and its kind in a table without endpoints, and
+/// whether it is endpoint 0; of a byte that is no address, the direction that it has all the same.
 pub fn push_address(byte: &str, out: &mut Output) {
-    match EpAddr::new(out.read(u8::from_str_radix(byte, 16))) {
+    let byte = out.read(u8::from_str_radix(byte, 16));
+    match EpAddr::new(byte) {
         Some(ep) => push_ep(ep, out),
-        None => out.text("no address\n"),
+        None if is_in_endpoint(byte) => out.text("in, no address\n"),
+        None => out.text("out, no address\n"),
     }
 }
 
@@ -126,7 +131,11 @@ fn push_ep(ep: EpAddr, out: &mut Output) {
     );
     out.hex(&[ep.byte()]);
     out.text(" ");
-    out.line(kind_name(EpTable::none().row(ep).kind), &[]);
+    out.text(kind_name(EpTable::none().row(ep).kind));
+    if ep.is_control() {
+        out.text(", endpoint 0");
+    }
+    out.text("\n");
 }
 
 fn setup_of(bytes: &[u8], out: &mut Output) -> Setup {
@@ -136,7 +145,7 @@ fn setup_of(bytes: &[u8], out: &mut Output) -> Setup {
     Setup::read(bytes.try_into().unwrap_or([0; 8]))
 }
 
-/// Appends the fields of a setup, and the bytes that spell it.
+/// Appends the fields of a setup, the bytes that spell it, and that of endpoint 0 in its direction.
 pub fn push_setup(bytes: &[u8], out: &mut Output) {
     let setup = setup_of(bytes, out);
     let numbers = [
@@ -148,6 +157,8 @@ pub fn push_setup(bytes: &[u8], out: &mut Output) {
     ];
     out.line("setup", &numbers);
     out.hex(&setup.spell());
+    out.text(" ");
+    out.hex(&[EpAddr::control(setup.is_in()).byte()]);
     out.text("\n");
 }
 

@@ -3,6 +3,7 @@ use Rattle.std.specs.Prelude.{ℕ, Bool, true, false, if◌then◌else◌, List,
 use Rattle.usb_base.specs.declared.transfer.Outcome.{Outcome}
 use Rattle.usb_base.specs.declared.transfer.StreamPacket.{StreamPacket}
 use Rattle.usb_base.specs.Endpoint.{is_in_endpoint}
+use Rattle.usb_base.specs.declared.status.UsbStatus.{UsbStatus}
 use Rattle.usb_base.specs.Status.{status_of}
 use Rattle.usbip_urb.specs.declared.client.ClientPacket.{ClientPacket}
 use Rattle.redir_wire.specs.Table.{data_row, plain_row}
@@ -32,8 +33,8 @@ has_succeeded (Status status value) = status == 0
 has_succeeded (Data endpoint length_place o) = false
 
 -- what a status gives, with its value or without
-abbrev pub status_outcome : ℕ → Bool → ℕ → Outcome
-status_outcome status tells value = got (status_of status) (if tells then value ∷ [] else [])
+abbrev pub status_outcome : UsbStatus → Bool → ℕ → Outcome
+status_outcome status tells value = got status (if tells then value ∷ [] else [])
 
 -- ---- packets of streams
 

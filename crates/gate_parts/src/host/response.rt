@@ -16,7 +16,9 @@ use redir_data::{RedirData, StreamKind};
 use redir_wire::{Caps, DataKind, PlainKind, RedirControl, header_size};
 use std::alloc::Global;
 use unlink_race::{Live, LiveKind};
-use usb_base::{Bytes, EpKind, Memory, Outcome, Reason, Refusal, Side, StreamPacket, UsbStatus};
+use usb_base::{
+    Bytes, EpKind, Memory, Outcome, Reason, Refusal, Side, StreamPacket, UsbStatus, is_in_endpoint,
+};
 
 /// A packet of the host that answers a request by its id.
 #[derive(Drop)]
@@ -79,7 +81,9 @@ pub fn data_of(packet: RedirData) -> Option<Response>
             status,
             length,
             body,
-        } if endpoint < 0x80 => Some(data(endpoint, 2, status, u32::from(length), body)),
+        } if !is_in_endpoint(endpoint) => {
+            Some(data(endpoint, 2, status, u32::from(length), body))
+        }
         _ => None,
     }
 }
@@ -218,14 +222,20 @@ pub fn told_outcome(alloc: Global, live: &Live, response: Response) -> Result<Ou
     match response {
         Response::Data { outcome, .. } => Ok(outcome),
         Response::Status { status, value } => {
-            let tells = gets(&live.kind) && status == 0;
+            let status = UsbStatus::from_byte(status);
+            let tells = gets(&live.kind) && status.is_success();
             status_outcome(alloc, status, tells && live.wanted > 0, value)
         }
     }
 }
 
 /// What a status gives, with its value or without.
-fn status_outcome(alloc: Global, status: u8, tells: bool, value: u8) -> Result<Outcome, Memory>
+fn status_outcome(
+    alloc: Global,
+    status: UsbStatus,
+    tells: bool,
+    value: u8,
+) -> Result<Outcome, Memory>
     ensures ok { IfOk result (λ o. o ≡ status_outcome status tells value) }
     ensures err { OnErr result (tells ≡ true) }
 {
@@ -234,7 +244,7 @@ fn status_outcome(alloc: Global, status: u8, tells: bool, value: u8) -> Result<O
         body.push(value)?;
     }
     Ok(Outcome {
-        status: UsbStatus::from_byte(status),
+        status,
         done: u32::from(tells),
         body,
     })
@@ -253,11 +263,11 @@ pub fn stream_in(packet: &RedirData) -> Option<StreamIn>
     ensures { result ≡ stream_in packet.now }
 {
     match packet {
-        RedirData::Interrupt { endpoint, .. } if *endpoint >= 0x80 => Some(StreamIn {
+        RedirData::Interrupt { endpoint, .. } if is_in_endpoint(*endpoint) => Some(StreamIn {
             endpoint: *endpoint,
             kind: StreamKind::Interrupt,
         }),
-        RedirData::Iso { endpoint, .. } if *endpoint >= 0x80 => Some(StreamIn {
+        RedirData::Iso { endpoint, .. } if is_in_endpoint(*endpoint) => Some(StreamIn {
             endpoint: *endpoint,
             kind: StreamKind::Iso,
         }),

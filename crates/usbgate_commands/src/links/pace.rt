@@ -60,12 +60,8 @@ fn shortest<G: Gadget>(alloc: Global, mut gadget: G) -> Result<Option<Duration>,
 fn configuration_asked(alloc: Global) -> Transfer
     ensures { IsTransfer result }
 {
-    let ep = match EpAddr::new(0x80) {
-        Some(ep) => ep,
-        None => unreachable!(),
-    };
     Transfer {
-        ep,
+        ep: EpAddr::control(true),
         setup: Some(Setup {
             kind: FROM_DEVICE,
             request: GET_DESCRIPTOR,
