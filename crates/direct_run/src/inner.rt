@@ -90,9 +90,9 @@ impl<G: Gadget> Inner<G> {
     }
 
     /// Does a step. Once memory has run out it does nothing.
-    pub fn step(&mut self, step: Step) -> Result<Told, Memory>
+    pub fn step(&mut self, step: &Step) -> Result<Told, Memory>
         ensures takes { IfOk result (λ told. (first : G) (past : ListOf PastStep) → SystemStands G.meaning first (kept_of self.old) past
-            → TakesStep G.meaning first (kept_of self.new) past (step_of step.entry) told) }
+            → TakesStep G.meaning first (kept_of self.new) past (step_of step.now) told) }
         ensures fails { OnErr result (is_some self.new.want ≡ true) }
         ensures failed { is_some self.old.want ≡ true → IsErr result × (self.new ≡ self.old) }
     {
@@ -110,12 +110,12 @@ impl<G: Gadget> Inner<G> {
     }
 
     /// The same, where memory has not run out. Nothing is told yet, here and in each call below.
-    fn take(&mut self, step: Step, told: &mut Told) -> Result<(), Memory>
+    fn take(&mut self, step: &Step, told: &mut Told) -> Result<(), Memory>
         requires { told.old ≡ untold }
         ensures { OnOk result ((first : G) (past : ListOf PastStep) → SystemStands G.meaning first (kept_of self.old) past
-            → TakesStep G.meaning first (kept_of self.new) past (step_of step.entry) told.new) }
+            → TakesStep G.meaning first (kept_of self.new) past (step_of step.now) told.new) }
     {
-        match step {
+        match *step {
             Step::Client(bytes) => self.event(Event::ClientPiece(bytes), told),
             Step::ClientEnd => self.event(Event::ClientEnd, told),
             Step::ToHost(count) => self.carry_to_host(count, told),

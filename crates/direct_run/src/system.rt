@@ -52,7 +52,16 @@ impl<G: Gadget> System<G> {
         ensures fails { OnErr result (SystemHasFailed self.new) }
         ensures failed { SystemHasFailed self.old → IsErr result × (self.new ≡ self.old) }
     {
-        self.inner.step(step)
+        // Each arm makes its step anew: the borrow checker doesn't cover one that is handed on as it came.
+        match step {
+            Step::Client(bytes) => self.inner.step(&Step::Client(bytes)),
+            Step::ClientEnd => self.inner.step(&Step::ClientEnd),
+            Step::ToHost(count) => self.inner.step(&Step::ToHost(count)),
+            Step::ToGate(count) => self.inner.step(&Step::ToGate(count)),
+            Step::Perform(ep) => self.inner.step(&Step::Perform(ep)),
+            Step::Offer(ep) => self.inner.step(&Step::Offer(ep)),
+            Step::Unplug => self.inner.step(&Step::Unplug),
+        }
     }
 
     /// All items so far.
