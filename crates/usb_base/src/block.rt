@@ -7,6 +7,7 @@ use crate::incoming::Incoming;
 use crate::memory::Memory;
 
 /// Puts a piece at a place, over what stands there. What stands behind it stays.
+#[inline]
 pub fn put_at(block: &mut Vec<u8>, place: usize, piece: &[u8]) -> Result<(), Memory>
     requires { place ≤ length block.old.items }
     ensures ok { OnOk result (take (place + length piece.now) block.new.items ≡ take place block.old.items ++ piece.now) }
@@ -14,9 +15,27 @@ pub fn put_at(block: &mut Vec<u8>, place: usize, piece: &[u8]) -> Result<(), Mem
     ensures err { OnErr result (block.new.items ≡ block.old.items) }
     ensures wants { OnErr result (0 < length piece.now) }
 {
-    let over = piece.len().min(block.len() - place);
-    block.extend_from_slice(&piece[over..])?;
-    block[place..place + over].copy_from_slice(&piece[..over]);
+    let room = block.len() - place;
+    if piece.len() > room {
+        return put_past_end(block, place, piece);
+    }
+    block[place..place + piece.len()].copy_from_slice(piece);
+    Ok(())
+}
+
+/// Puts a piece at a place from which on less stands than it has.
+#[cold]
+#[inline(never)]
+fn put_past_end(block: &mut Vec<u8>, place: usize, piece: &[u8]) -> Result<(), Memory>
+    requires place { place ≤ length block.old.items }
+    requires past { length block.old.items < place + length piece.now }
+    ensures ok { OnOk result (take (place + length piece.now) block.new.items ≡ take place block.old.items ++ piece.now) }
+    ensures len { OnOk result (place + length piece.now ≤ length block.new.items) }
+    ensures err { OnErr result (block.new.items ≡ block.old.items) }
+{
+    let (over, behind) = piece.split_at(block.len() - place);
+    block.extend_from_slice(behind)?;
+    block[place..place + over.len()].copy_from_slice(over);
     Ok(())
 }
 

@@ -12,6 +12,9 @@ use std::alloc::Global;
 use std::marker::Model;
 use std::mem;
 
+/// Two blocks of so many bytes stay in the caches near a processor.
+const NEAR: usize = 262_144;
+
 /// The bytes of a stream that have come and are in no packet that was taken.
 #[derive(Drop)]
 pub struct ReceiveBuffer {
@@ -113,7 +116,7 @@ impl ReceiveBuffer {
     }
 
     /// Keeps the memory of an empty list for later, where that is long, and more than what it keeps so far. The other
-    /// list has that then.
+    /// list has that then. What stands in the memory of an empty list is room.
     pub fn keep_memory(&mut self, empty: &mut Bytes)
         ensures stands { self.new ≡ self.old }
         ensures empty { empty.new ≡ empty.old }
@@ -121,12 +124,11 @@ impl ReceiveBuffer {
         if !empty.is_empty() {
             return;
         }
+        empty.front = 0;
+        empty.end = 0;
         if empty.capacity() > LONG.max(self.spare.capacity()) {
-            empty.front = 0;
-            empty.end = 0;
             mem::swap(&mut self.spare, &mut empty.items);
         }
-        empty.clear();
     }
 
     /// Makes room for so many bytes more, and for all that are awaited.
@@ -148,13 +150,15 @@ impl ReceiveBuffer {
         Ok(())
     }
 
-    /// Moves the bytes to the memory that is kept for later, where they have no room for so many more and that has. So
-    /// one block goes round with the long bodies, and not two in turns, each out of the processor's cache by then.
+    /// Moves the bytes to the memory that is kept for later, where they have no room for so many more and that has, and
+    /// more than `NEAR` are awaited. So one block goes round with such long bodies, and not two in turns, each out of
+    /// the processor's cache by then; with shorter ones two do, and what stands behind a body is moved once.
     fn move_to_spare(&mut self, more: usize) -> Result<(), Memory>
         ensures { self.new ≡ self.old }
     {
         let needed = ROOM.saturating_add(self.len()).saturating_add(more);
-        if self.block.capacity() < needed && needed <= self.spare.capacity() {
+        let is_far = needed > NEAR && self.block.capacity() < needed;
+        if is_far && needed <= self.spare.capacity() {
             lengthen(&mut self.spare, ROOM)?;
             put_at(&mut self.spare, ROOM, &self.block[self.front..self.end])?;
             mem::swap(&mut self.spare, &mut self.block);
