@@ -1,4 +1,5 @@
 pub mod Number
+pub mod Lists
 pub mod Firsts
 pub mod Writes
 pub mod Incoming

@@ -32,8 +32,8 @@ pub use limits::{
 pub use list::{Bytes, List};
 pub use memory::Memory;
 pub use number::{
-    array_at, be_u16_at, be_u32_at, le_u16_at, le_u32_at, push_be_u16, push_be_u32, push_le_u16,
-    push_le_u32,
+    array_at, be_u16_at, be_u32_at, le_u16_at, le_u32_at, le_u64_at, push_be_u16, push_be_u32,
+    push_le_u16, push_le_u32, push_le_u64,
 };
 pub use packet_bytes::PacketBytes;
 pub use reason::Reason;

@@ -1,6 +1,7 @@
 //! Lists that contracts see as lists.
 
 ghost use Rattle.std.specs.Prelude.{◌≡◌, ◌++◌, ◌∷◌, [], ◌≤◌, ◌<◌, length, take, drop, IsTrue, ◌↔◌, OnOk, OnErr, IfOk};
+ghost use Rattle.usb_base.specs.Lists.{is_empty};
 
 use crate::block::{move_to, put_at};
 use crate::memory::Memory;
@@ -63,7 +64,8 @@ impl<T> List<T> {
 
     /// Whether it has none.
     pub fn is_empty(&self) -> bool
-        ensures { IsTrue result ↔ (self.now ≡ []) }
+        ensures is { result ≡ is_empty self.now }
+        ensures none { IsTrue result ↔ (self.now ≡ []) }
     {
         self.as_slice().is_empty()
     }

@@ -1,7 +1,7 @@
 //! Numbers and fixed fields at places of a packet, and at its end.
 
 ghost use Rattle.std.specs.Prelude.{◌≡◌, ◌+◌, ◌++◌, ◌≤◌, length, OnOk, OnErr};
-ghost use Rattle.std.specs.Int.{w16, w32};
+ghost use Rattle.std.specs.Int.{w16, w32, w64};
 ghost use Rattle.usb_base.specs.Number.{be, le, be_at, le_at, part};
 
 use crate::list::Bytes;
@@ -55,6 +55,15 @@ pub fn le_u32_at(bytes: &[u8], place: usize) -> u32
     u32::from_le_bytes(array_at(bytes, place))
 }
 
+/// The little-endian u64 at a place.
+#[tactic(auto, unfolding(crate::specs::Number::le_at))]
+pub fn le_u64_at(bytes: &[u8], place: usize) -> u64
+    requires { place + 8 ≤ length bytes.now }
+    ensures { result ≡ le_at w64 place bytes.now }
+{
+    u64::from_le_bytes(array_at(bytes, place))
+}
+
 /// Appends a u16, big-endian.
 #[tactic(auto, unfolding(crate::specs::Number::be))]
 pub fn push_be_u16(out: &mut Bytes, n: u16) -> Result<(), Memory>
@@ -96,5 +105,16 @@ pub fn push_le_u32(out: &mut Bytes, n: u32) -> Result<(), Memory>
 {
     let mut field = [0; 4];
     LittleEndian::write_u32(&mut field, n);
+    out.append(&field)
+}
+
+/// Appends a u64, little-endian.
+#[tactic(auto, unfolding(crate::specs::Number::le))]
+pub fn push_le_u64(out: &mut Bytes, n: u64) -> Result<(), Memory>
+    ensures ok { OnOk result (out.new ≡ out.old ++ le w64 n) }
+    ensures err { OnErr result (out.new ≡ out.old) }
+{
+    let mut field = [0; 8];
+    LittleEndian::write_u64(&mut field, n);
     out.append(&field)
 }

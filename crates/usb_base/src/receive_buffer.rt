@@ -2,6 +2,7 @@
 
 ghost use Rattle.std.specs.Prelude.{◌≡◌, ◌+◌, ◌++◌, ◌<◌, ◌≤◌, [], length, take, drop, vec_len, IsTrue, ◌↔◌, OnOk, OnErr, IfSome, IsNone};
 ghost use Rattle.usb_base.specs.Incoming.{HasCome};
+ghost use Rattle.usb_base.specs.Lists.{is_empty};
 
 use crate::block::{lengthen, move_to, put_at, read_at};
 use crate::incoming::Incoming;
@@ -66,7 +67,8 @@ impl ReceiveBuffer {
 
     /// Whether it has none.
     pub fn is_empty(&self) -> bool
-        ensures { IsTrue result ↔ (self.now ≡ []) }
+        ensures is { result ≡ is_empty self.now }
+        ensures none { IsTrue result ↔ (self.now ≡ []) }
     {
         self.as_slice().is_empty()
     }

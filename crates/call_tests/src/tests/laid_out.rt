@@ -4,7 +4,7 @@
 use std::alloc::Global;
 use std::process::Abort;
 use std::test::Fail;
-use usb_base::{Bytes, Memory, Setup};
+use usb_base::{Bytes, Memory, Setup, push_le_u64};
 
 /// What has a name, in hexadecimal; `00*8` stands for eight times 00, and ids have eight bytes behind the hellos.
 const PACKETS: &str = "
@@ -150,7 +150,7 @@ fn push_digits(out: &mut Bytes, digits: &str) -> Result<(), Memory> {
 fn push_piece(out: &mut Bytes, piece: &str) -> Result<(), Memory> {
     if let Some(id) = piece.strip_prefix('@') {
         let id: u64 = id.parse().unwrap_or(0);
-        return out.append(&id.to_le_bytes());
+        return push_le_u64(out, id);
     }
     match piece.split_once('*') {
         Some((digits, times)) => {

@@ -5,7 +5,7 @@ use Rattle.usb_base.proofs.receive_buffer.ReceiveBuffer.settle.Goals as goal
 
 pub returns-in_ok-lengthen : goal.returns-in_ok-lengthen
 returns-in_ok-lengthen c =
-    drop_all 64 (take 64 c.lengthen.new.block.items) (omega (arith, length-take 64 c.lengthen.new.block.items)) ∙ sym (c.is_empty.ensures.0 c.if-is_empty.true)
+    drop_all 64 (take 64 c.lengthen.new.block.items) (omega (arith, length-take 64 c.lengthen.new.block.items)) ∙ sym (c.is_empty.ensures.none.0 c.if-is_empty.true)
 
 pub returns-then-is_movable : goal.returns-then-is_movable
 returns-then-is_movable c =
