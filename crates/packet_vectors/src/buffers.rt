@@ -5,7 +5,7 @@ use crate::reader::caps_of;
 use crate::usb_words::kind_name;
 use packet_stream::Read;
 use redir_data::{RedirPacket, read_redir};
-use redir_wire::{Caps, RedirControl, Way};
+use redir_wire::{Caps, RedirControl, RedirState, Way};
 use usb_base::{EpAddr, EpRow};
 use usbip_urb::{Descs, IsoDesc, laid, part, total};
 
@@ -77,7 +77,8 @@ pub fn push_endpoint(words: &str, bytes: &[u8], out: &mut Output) {
 }
 
 fn push_endpoint_of(ep: EpAddr, caps: Caps, bytes: &[u8], out: &mut Output) {
-    match read_redir(out.alloc, false, caps, Way::ToGuest, bytes) {
+    let state = RedirState { first: false, caps };
+    match read_redir(out.alloc, state, Way::ToGuest, bytes) {
         Ok(Read::Whole(found, _)) => push_told_row(ep, &found.1, out),
         _ => out.refuse(),
     }

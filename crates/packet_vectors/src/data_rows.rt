@@ -6,7 +6,7 @@ use crate::reader::{Told, told_by};
 use crate::type_rows::{CAPS, longer_of};
 use packet_stream::ReadError;
 use redir_data::read_redir;
-use redir_wire::{Caps, Way};
+use redir_wire::{Caps, RedirState, Way};
 use std::alloc::Global;
 use usb_base::{Bytes, Memory, Reason};
 
@@ -128,7 +128,11 @@ fn other_front(alloc: Global, form: Form, case: Case) -> Result<Option<usize>, M
 }
 
 fn read(alloc: Global, case: Case, front: &[u8]) -> Told {
-    told_by(read_redir(alloc, false, case.caps, case.way, front))
+    let state = RedirState {
+        first: false,
+        caps: case.caps,
+    };
+    told_by(read_redir(alloc, state, case.way, front))
 }
 
 fn fixed_of(form: Form, case: Case) -> u32 {

@@ -60,9 +60,9 @@ fn of_op(alloc: Global, way: OpWay, bytes: &[u8]) -> Option<u64> {
 }
 
 fn of_redir(alloc: Global, setting: Setting, bytes: &[u8]) -> Option<u64> {
-    let Setting { first, caps, way } = setting;
-    match told_by(read_redir(alloc, first, caps, way, bytes)) {
-        Told::Short => Some(next_redir(first, caps, way, bytes) as u64),
+    let Setting { state, way } = setting;
+    match told_by(read_redir(alloc, state, way, bytes)) {
+        Told::Short => Some(next_redir(state, way, bytes) as u64),
         _ => None,
     }
 }

@@ -61,8 +61,8 @@ fn op_packet(way: OpWay, place: u64, bytes: &[u8], out: &mut Output) {
 
 /// Appends the fields of a header.
 fn header(setting: Setting, bytes: &[u8], out: &mut Output) {
-    let Setting { first, caps, way } = setting;
-    if let Ok(Read::Whole(head, _)) = read_header(first, caps, way, bytes) {
+    let Setting { state, way } = setting;
+    if let Ok(Read::Whole(head, _)) = read_header(state, way, bytes) {
         out.number("HEADER ", u64::from(head.kind), " ");
         out.number("", u64::from(head.length), " ");
         out.number("", head.id, "\n");
@@ -70,10 +70,10 @@ fn header(setting: Setting, bytes: &[u8], out: &mut Output) {
 }
 
 fn redir_packet(setting: Setting, place: u64, bytes: &[u8], out: &mut Output) {
-    let Setting { first, caps, way } = setting;
+    let Setting { state, way } = setting;
     control_writes_back();
     data_writes_back();
-    if let Ok(Read::Whole(found, size)) = read_redir(out.alloc, first, caps, way, bytes) {
+    if let Ok(Read::Whole(found, size)) = read_redir(out.alloc, state, way, bytes) {
         push_redir(place, &found.0, &found.1, out);
         push_redir_again(setting, found.0.id, &found.1, &bytes[..size], out);
     }

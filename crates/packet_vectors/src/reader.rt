@@ -5,7 +5,7 @@ ghost use Rattle.std.specs.Prelude.{◌≡◌, Ok};
 use crate::output::Output;
 use packet_stream::{Read, ReadError};
 use redir_data::read_redir;
-use redir_wire::{Caps, Way, read_header};
+use redir_wire::{Caps, RedirState, Way, read_header};
 use std::alloc::Global;
 use usbip_op::{OpWay, read_op, read_request};
 use usbip_urb::{read_client, read_ret, read_urb};
@@ -13,10 +13,8 @@ use usbip_urb::{read_client, read_ret, read_urb};
 /// What decides how a usbredir packet is read.
 #[derive(Clone, Copy)]
 pub struct Setting {
-    /// The stream's hello is still to come.
-    pub first: bool,
-    /// The capabilities that are agreed.
-    pub caps: Caps,
+    /// What its stream has told so far.
+    pub state: RedirState,
     pub way: Way,
 }
 
@@ -68,12 +66,8 @@ impl Reader {
             Reader::Ret(is_in) => told_by(read_ret(alloc, is_in, bytes)),
             Reader::Request => told_by(read_request(bytes)),
             Reader::Op(way) => told_by(read_op(alloc, way, bytes)),
-            Reader::Header(Setting { first, caps, way }) => {
-                told_by(read_header(first, caps, way, bytes))
-            }
-            Reader::Redir(Setting { first, caps, way }) => {
-                told_by(read_redir(alloc, first, caps, way, bytes))
-            }
+            Reader::Header(Setting { state, way }) => told_by(read_header(state, way, bytes)),
+            Reader::Redir(Setting { state, way }) => told_by(read_redir(alloc, state, way, bytes)),
         }
     }
 }
@@ -115,7 +109,10 @@ impl Setting {
         let way = redir_way(parts.next().unwrap_or(""), out);
         let caps = caps_of(parts.next().unwrap_or(""), out);
         let first = parts.next() == Some("first");
-        Setting { first, caps, way }
+        Setting {
+            state: RedirState { first, caps },
+            way,
+        }
     }
 }
 

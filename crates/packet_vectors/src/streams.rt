@@ -7,8 +7,8 @@ use crate::packets::push_client;
 use crate::reader::Told;
 use crate::texts::Texts;
 use packet_stream::{PacketFormat, ReadError, Stream};
-use redir_data::{FromGuest, FromHost, RedirPacket, RedirState};
-use redir_wire::Header;
+use redir_data::{FromGuest, FromHost, RedirPacket};
+use redir_wire::{Header, RedirState};
 use usbip_urb::{ClientFormat, ClientPacket};
 
 /// A format whose packets have lines.

@@ -4,7 +4,7 @@ use crate::fronts::push_answer;
 use crate::output::Output;
 use crate::reader::{Told, redir_way, told_by};
 use packet_stream::ReadError;
-use redir_wire::{Caps, Way, read_header};
+use redir_wire::{Caps, RedirState, Way, read_header};
 use usb_base::Reason;
 
 /// What a row says of a type.
@@ -56,8 +56,7 @@ const LONG: [u32; 3] = [16_777_280, 16_777_281, u32::MAX];
 /// A header to be read, and what is told beside it.
 #[derive(Clone, Copy)]
 struct Case {
-    first: bool,
-    caps: Caps,
+    state: RedirState,
     way: Way,
     number: u32,
     length: u32,
@@ -151,8 +150,7 @@ fn other_of_type(number: u32, listed: Listed) -> Option<Other> {
 fn other_with(number: u32, caps: Caps, listed: Listed) -> Option<Other> {
     for (way, first) in COMINGS {
         let case = Case {
-            first,
-            caps,
+            state: RedirState { first, caps },
             way,
             number,
             length: 0,
@@ -167,7 +165,7 @@ fn other_with(number: u32, caps: Caps, listed: Listed) -> Option<Other> {
 /// The length tells something only where the type may come.
 fn other_at(case: Case, listed: Listed) -> Option<Other> {
     match listed {
-        Listed::Sent(_) if case.first == (case.number == 0) => other_length(case, listed),
+        Listed::Sent(_) if case.state.first == (case.number == 0) => other_length(case, listed),
         _ => other_front(case, listed),
     }
 }
@@ -199,12 +197,12 @@ fn other_front(case: Case, listed: Listed) -> Option<Other> {
 
 fn read(case: Case, bytes: &[u8; 16], count: usize) -> Told {
     let front = &bytes[..count.min(16)];
-    told_by(read_header(case.first, case.caps, case.way, front))
+    told_by(read_header(case.state, case.way, front))
 }
 
 /// How many bytes the header has: an id has 64 bits where that is agreed, but for a hello's.
 fn size_of(case: Case) -> usize {
-    if !case.first && case.caps.contains(Caps::WIDE_IDS) {
+    if !case.state.first && case.state.caps.contains(Caps::WIDE_IDS) {
         16
     } else {
         12
@@ -223,7 +221,7 @@ fn said(case: Case, listed: Listed, size: usize, count: usize) -> Told {
     if count < 4 {
         return Told::Short;
     }
-    if case.first != (case.number == 0) {
+    if case.state.first != (case.number == 0) {
         return refused(0, Reason::HelloFirst);
     }
     match listed {
@@ -240,7 +238,7 @@ fn refused(place: u64, reason: Reason) -> Told {
 /// What the row of a type that is sent says of four bytes of its header or more.
 fn said_of(case: Case, form: Form, size: usize, count: usize) -> Told {
     if let Some(wanted) = form.wanted
-        && !case.caps.contains(wanted)
+        && !case.state.caps.contains(wanted)
     {
         return refused(0, Reason::NotAgreed);
     }
@@ -265,7 +263,7 @@ fn said_of(case: Case, form: Form, size: usize, count: usize) -> Told {
 /// Whether a packet of this type may have this length.
 fn is_length(case: Case, form: Form) -> bool {
     let least = match form.longer {
-        Some((capability, long)) if case.caps.contains(capability) => long,
+        Some((capability, long)) if case.state.caps.contains(capability) => long,
         _ => form.short,
     };
     match case.number {
@@ -288,12 +286,12 @@ fn push_other((case, count): Other, listed: Listed, out: &mut Output) {
 
 fn push_case(case: Case, count: usize, out: &mut Output) {
     let Case {
-        first,
-        caps: Caps(bits),
+        state: RedirState { first, caps },
         number,
         length,
         ..
     } = case;
+    let bits = caps.0;
     out.made(format!(in out.alloc;
         "type {number}, length {length}, first {first}, capabilities {bits:x}, {count} bytes: "
     ));

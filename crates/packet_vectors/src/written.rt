@@ -78,9 +78,10 @@ pub fn push_redir_again(
     bytes: &[u8],
     out: &mut Output,
 )
-    requires { CanWrite id setting.way setting.caps packet.now }
+    requires { CanWrite id setting.way setting.state.caps packet.now }
 {
-    let Setting { caps, way, .. } = setting;
+    let Setting { state, way } = setting;
+    let caps = state.caps;
     match packet {
         RedirPacket::Plain(control) => push_control_again(control, id, caps, bytes, out),
         RedirPacket::Carrying(moved) => push_moved_again(moved, id, way, caps, bytes, out),

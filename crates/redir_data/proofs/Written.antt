@@ -1,5 +1,5 @@
 -- What is written is read again.
-use Rattle.std.proofs.Common.{◌≡◌, ℕ, true, false, List, ◌++◌, length, refl, sym, ◌∙◌, arith}
+use Rattle.std.proofs.Common.{◌≡◌, ℕ, true, List, ◌++◌, length, refl, sym, ◌∙◌, arith}
 use Rattle.std.specs.Prelude.{nat_le, not, ◌==◌}
 use Rattle.std.proofs.lemmas.Bool.{le-leb}
 use Rattle.packet_stream.specs.Format.{Whole, reading}
@@ -11,6 +11,7 @@ use Rattle.redir_wire.specs.declared.kind.Kind.TheVariants.{Carrying as Carrying
 use Rattle.redir_wire.specs.declared.kind.DataKind.{DataKind}
 use Rattle.redir_wire.specs.declared.kind.DataKind.TheVariants.{Control}
 use Rattle.redir_wire.specs.Table.{plain_row, data_row, has_length, has_wanted, goes}
+use Rattle.redir_wire.specs.State.{later}
 use Rattle.redir_wire.specs.Bodies.{IsPacket}
 use Rattle.redir_wire.specs.Spelling as wire
 use Rattle.redir_wire.specs.Ranges as wire_ranges
@@ -46,12 +47,12 @@ not_first : (k : DataKind) → not ((data_row k).number == 0) ≡ true
 not_first Control = refl
 not_first k = refl
 
-pub data_written : (way : Way) (caps : Caps) (id : ℕ) (d : RedirData) → Ranges d → CanWrite id way caps d → IsPacket (transfers caps way) false caps way (header_of id caps d, d)
+pub data_written : (way : Way) (caps : Caps) (id : ℕ) (d : RedirData) → Ranges d → CanWrite id way caps d → IsPacket (transfers caps way) (later caps) way (header_of id caps d, d)
 data_written way caps id d ranges can =
     let k = (form_of d).kind in
     let kind = CarryingKind k in
     record {
-      header = is_header false caps way (header_of id caps d) (record {
+      header = is_header (later caps) way (header_of id caps d) (record {
         in_turn = not_first k;
         known = known kind;
         agreed = agreed_by caps kind (has_wanted caps) (always_agreed caps k);
@@ -67,11 +68,11 @@ data_written way caps id d ranges can =
     }
 
 pub data_again : (way : Way) (caps : Caps) (id : ℕ) (d : RedirData) (more : List ℕ) → Ranges d → CanWrite id way caps d →
-    reading (redir_packets false caps way) (packet_bytes id caps d ++ more) ≡ Whole (header_of id caps d, Carrying d) (length (packet_bytes id caps d))
+    reading (redir_packets (later caps) way) (packet_bytes id caps d ++ more) ≡ Whole (header_of id caps d, Carrying d) (length (packet_bytes id caps d))
 data_again way caps id d more ranges can =
-    read_again (redir_packets false caps way) (redir_sound false caps way) (header_of id caps d, Carrying d) more (data_written way caps id d ranges can)
+    read_again (redir_packets (later caps) way) (redir_sound (later caps) way) (header_of id caps d, Carrying d) more (data_written way caps id d ranges can)
 
 pub control_again : (way : Way) (caps : Caps) (id : ℕ) (p : RedirControl) (more : List ℕ) → wire_ranges.Ranges p → wire_written.CanWrite id caps p → goes way (plain_row (wire.kind_of p)) ≡ true →
-    reading (redir_packets (wire.is_hello p) caps way) (wire_written.packet_bytes id caps p ++ more) ≡ Whole (wire.header_of id caps p, Plain p) (length (wire_written.packet_bytes id caps p))
+    reading (redir_packets (wire_written.state_before caps p) way) (wire_written.packet_bytes id caps p ++ more) ≡ Whole (wire.header_of id caps p, Plain p) (length (wire_written.packet_bytes id caps p))
 control_again way caps id p more ranges can goes_so =
-    read_again (redir_packets (wire.is_hello p) caps way) (redir_sound (wire.is_hello p) caps way) (wire.header_of id caps p, Plain p) more (packet_written way caps id p ranges can goes_so)
+    read_again (redir_packets (wire_written.state_before caps p) way) (redir_sound (wire_written.state_before caps p) way) (wire.header_of id caps p, Plain p) more (packet_written way caps id p ranges can goes_so)

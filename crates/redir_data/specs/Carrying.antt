@@ -5,6 +5,7 @@ use Rattle.usb_base.specs.declared.reason.Reason.TheVariants.{DataLength}
 use Rattle.usb_base.specs.Number.{byte_at}
 use Rattle.packet_stream.specs.Format.{Format}
 use Rattle.redir_wire.specs.declared.packet.Caps.{Caps}
+use Rattle.redir_wire.specs.declared.state.RedirState.{RedirState}
 use Rattle.redir_wire.specs.declared.packet.Way.{Way}
 use Rattle.redir_wire.specs.declared.packet.Header.{Header}
 use Rattle.redir_wire.specs.declared.kind.DataKind.{DataKind}
@@ -37,8 +38,8 @@ transfers caps way = record {
   Fits = IsData caps way;
 }
 
-abbrev pub carrying : Bool → Caps → Way → Format (Header × RedirData) Reason
-carrying first caps way = packets (transfers caps way) first caps way
+abbrev pub carrying : RedirState → Way → Format (Header × RedirData) Reason
+carrying s way = packets (transfers s.caps way) s way
 
 -- data take memory
 abbrev pub has_data : RedirData → Bool

@@ -6,7 +6,7 @@ use Rattle.usb_base.specs.declared.reason.Reason.{Reason}
 use Rattle.usb_base.specs.Number.{le_at}
 use Rattle.packet_stream.specs.Format.{Format}
 use Rattle.packet_stream.specs.Joined.{joined}
-use Rattle.redir_wire.specs.declared.packet.Caps.{Caps}
+use Rattle.redir_wire.specs.declared.state.RedirState.{RedirState}
 use Rattle.redir_wire.specs.declared.packet.Way.{Way}
 use Rattle.redir_wire.specs.declared.packet.Header.{Header}
 use Rattle.redir_wire.specs.declared.packet.RedirControl.{RedirControl}
@@ -26,8 +26,8 @@ from_packet (h, Carrying p) = inr (h, p)
 
 -- the packets of a stream that goes this way: the hello, where it is still to come, or a later one with the agreed
 -- capabilities
-abbrev pub redir_packets : Bool → Caps → Way → Format (Header × RedirPacket) Reason
-redir_packets first caps way = joined begins_plain (λ p. (p.0, Plain p.1)) (λ p. (p.0, Carrying p.1)) from_packet (plain first caps way) (carrying first caps way)
+abbrev pub redir_packets : RedirState → Way → Format (Header × RedirPacket) Reason
+redir_packets s way = joined begins_plain (λ p. (p.0, Plain p.1)) (λ p. (p.0, Carrying p.1)) from_packet (plain s way) (carrying s way)
 
 -- only data, and the words of a hello, take memory
 abbrev pub takes_memory : Header × RedirPacket → Bool

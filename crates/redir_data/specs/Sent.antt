@@ -1,9 +1,10 @@
 -- What a side sends behind the hellos: packets, each with its id.
-use Rattle.std.specs.Prelude.{ℕ, false, List}
+use Rattle.std.specs.Prelude.{ℕ, List}
 use Rattle.redir_wire.specs.declared.packet.Caps.{Caps}
 use Rattle.redir_wire.specs.declared.packet.Header.{Header}
 use Rattle.redir_wire.specs.declared.packet.Way.{Way}
 use Rattle.redir_wire.specs.Spelling as wire
+use Rattle.redir_wire.specs.State.{later}
 use Rattle.redir_wire.specs.Written.{packet_bytes}
 use Rattle.redir_data.specs.declared.packet.RedirPacket.{RedirPacket}
 use Rattle.redir_data.specs.declared.packet.RedirPacket.TheVariants.{Plain, Carrying}
@@ -23,4 +24,4 @@ sent_packet_bytes caps (id, Carrying d) = carrying.packet_bytes id caps d
 
 -- spelled with these capabilities, it is read as it is by one who has them
 abbrev pub CanBeRead : Way → Caps → ℕ × RedirPacket → Type 0
-CanBeRead way caps p = (stream_format way (record { first = false; caps = caps })).Fits (sent_header caps p, p.1)
+CanBeRead way caps p = (stream_format way (later caps)).Fits (sent_header caps p, p.1)

@@ -13,40 +13,38 @@ ghost use Rattle.redir_data.specs.inner.Past.{packet_past, past_found, error_pas
 use crate::packet::{RedirPacket, RedirRead};
 use crate::read::{behind, take_data};
 use packet_stream::{PacketBytes, Read, ReadError};
-use redir_wire::{Caps, FIRST_DATA, Header, Way, WireError, read_control, read_header};
+use redir_wire::{Caps, FIRST_DATA, Header, RedirState, Way, WireError, read_control, read_header};
 use std::alloc::Global;
 
-/// Reads the packet at the front of what goes this way, where these capabilities are agreed. `first` says that the
-/// stream's hello hasn't come. A packet is refused as soon as the bytes of what is wrong are there, at its place
-/// from the packet's start, by the reasons of `read_header`, `read_control` and `read_data`. Only a whole packet
-/// with data, or a hello with words, takes memory; its data are copied once.
+/// Reads the packet at the front of what goes this way, where the stream has told this so far. A packet is refused as
+/// soon as the bytes of what is wrong are there, at its place from the packet's start, by the reasons of `read_header`,
+/// `read_control` and `read_data`. Only a whole packet with data, or a hello with words, takes memory; its data are
+/// copied once.
 pub fn read_redir(
     alloc: Global,
-    first: bool,
-    caps: Caps,
+    state: RedirState,
     way: Way,
     bytes: &[u8],
 ) -> Result<RedirRead, WireError>
-    ensures exact { Answers takes_memory result (reading (redir_packets first caps way) bytes.now) }
-    ensures stands { IfTold result (StandsAtFront (redir_packets first caps way) bytes.now) }
+    ensures exact { Answers takes_memory result (reading (redir_packets state way) bytes.now) }
+    ensures stands { IfTold result (StandsAtFront (redir_packets state way) bytes.now) }
 {
     let mut bytes = bytes;
-    take_redir(alloc, first, caps, way, &mut bytes)
+    take_redir(alloc, state, way, &mut bytes)
 }
 
 /// Takes the packet at the front of the bytes off them, as `read_redir` reads it.
 pub(crate) fn take_redir<B: PacketBytes>(
     alloc: Global,
-    first: bool,
-    caps: Caps,
+    state: RedirState,
     way: Way,
     bytes: &mut B,
 ) -> Result<RedirRead, WireError>
-    ensures exact { Answers takes_memory result (reading (redir_packets first caps way) (B.contents bytes.old)) }
+    ensures exact { Answers takes_memory result (reading (redir_packets state way) (B.contents bytes.old)) }
     ensures left { B.contents bytes.new ≡ bytes_left result (B.contents bytes.old) }
 {
-    match read_header(first, caps, way, bytes.as_slice()) {
-        Ok(Read::Whole(head, size)) => take_behind(alloc, head, size, caps, way, bytes),
+    match read_header(state, way, bytes.as_slice()) {
+        Ok(Read::Whole(head, size)) => take_behind(alloc, head, size, state.caps, way, bytes),
         Ok(Read::Short) => Ok(Read::Short),
         Err(error) => Err(error),
     }

@@ -3,40 +3,24 @@
 ghost use Rattle.std.specs.Prelude.{◌≡◌};
 ghost use Rattle.redir_wire.specs.declared.packet.Way.TheVariants.{ToGuest, ToHost};
 ghost use Rattle.redir_data.specs.Packets.{takes_memory as packet_takes_memory};
-ghost use Rattle.redir_data.specs.Streams.{start, advanced, after as after_packet, stream_format};
+ghost use Rattle.redir_data.specs.Streams.{advanced, after as after_packet, stream_format};
 ghost use Rattle.redir_data.specs.sound.Joined.{stream_sound};
 
 use crate::next::next_redir;
 use crate::packet::RedirPacket;
 use crate::redir::take_redir;
-use crate::state::RedirState;
 use packet_stream::{PacketFormat, Read, ReadError};
-use redir_wire::{Caps, Header, RedirControl, Way};
+use redir_wire::{Header, RedirControl, RedirState, Way};
 use std::alloc::Global;
 use std::marker::PhantomData;
 use usb_base::ReceiveBuffer;
 
-impl RedirState {
-    /// Before the hello, where nothing is agreed.
-    pub fn start() -> RedirState
-        ensures { result ≡ start }
-    {
-        RedirState {
-            first: true,
-            caps: Caps::empty(),
-        }
-    }
-
-    /// What a packet changes: a hello's capabilities are agreed where the gateway announces them, too.
-    pub fn advance(&mut self, packet: &RedirPacket)
-        ensures { self.new ≡ advanced self.old packet.now }
-    {
-        if let RedirPacket::Plain(RedirControl::Hello(hello)) = packet {
-            *self = RedirState {
-                first: false,
-                caps: hello.caps().agreed(Caps::ANNOUNCED),
-            };
-        }
+/// What a packet changes: a hello tells the state of its stream anew, and no other packet changes it.
+pub fn advance(state: &mut RedirState, packet: &RedirPacket)
+    ensures { state.new ≡ advanced state.old packet.now }
+{
+    if let RedirPacket::Plain(RedirControl::Hello(hello)) = packet {
+        *state = RedirState::after_hello(hello);
     }
 }
 
@@ -94,15 +78,15 @@ impl<S: Sender> PacketFormat for SentBy<S> {
         state: &RedirState,
         bytes: &mut ReceiveBuffer,
     ) -> Result<Read<(Header, RedirPacket)>, ReadError> {
-        take_redir(alloc, state.first, state.caps, S::WAY, bytes)
+        take_redir(alloc, *state, S::WAY, bytes)
     }
 
     fn awaited(state: &RedirState, bytes: &[u8]) -> usize {
-        next_redir(state.first, state.caps, S::WAY, bytes)
+        next_redir(*state, S::WAY, bytes)
     }
 
     fn next(state: &mut RedirState, packet: &(Header, RedirPacket)) {
-        state.advance(&packet.1);
+        advance(state, &packet.1);
     }
 
     ghost sound = { stream_sound S.WAY };

@@ -12,10 +12,11 @@ use Rattle.usb_base.specs.declared.reason.Reason.TheVariants.{UnknownType}
 use Rattle.usb_base.proofs.Numbers.{AreBytes-drop, then, le_at-append_32}
 use Rattle.packet_stream.specs.Format.{Check, wrong_at, IsSound}
 use Rattle.packet_stream.proofs.Formats.{AreSteady, stays_wrong}
-use Rattle.redir_wire.specs.declared.packet.Caps.{Caps}
+use Rattle.redir_wire.specs.declared.state.RedirState.{RedirState}
 use Rattle.redir_wire.specs.declared.packet.Way.{Way}
 use Rattle.redir_wire.specs.declared.packet.Header.{Header}
-use Rattle.redir_wire.specs.Header.{is_wide, head_size, head_bytes, header_at, type_check, head_checks, IsHeader}
+use Rattle.redir_wire.specs.State.{is_wide}
+use Rattle.redir_wire.specs.Header.{head_size, head_bytes, header_at, type_check, head_checks, IsHeader}
 use Rattle.redir_wire.specs.Bodies.{BodyCheck, Bodies, with_header, behind_head, IsPacket, packets}
 use Rattle.redir_wire.proofs.Checks.{passed, none_passed}
 use Rattle.redir_wire.proofs.Heads.{header_passed, heads_steady}
@@ -35,11 +36,11 @@ pub record IsFound {P : Type 0} (f : Bodies P) (h : Header) (b : List ℕ) : Typ
   pub kind : h.kind ≡ f.number (f.fields h b)
   pub fits : f.Fits (f.fields h b)
 
-pub record AreBodies {P : Type 0} (f : Bodies P) (first : Bool) (caps : Caps) (way : Way) : Type 0 where
+pub record AreBodies {P : Type 0} (f : Bodies P) (s : RedirState) (way : Way) : Type 0 where
   pub steady : AreSteadyBehind 0 f.checks
-  pub found : (h : Header) (b : List ℕ) → AreBytes b → IsHeader first caps way h → f.owns h.kind ≡ true → wrong_at (with_header h f.checks) b ≡ None → h.length ≤ length b → IsFound f h b
-  pub right : (p : Header × P) (more : List ℕ) → IsPacket f first caps way p → wrong_at (with_header p.0 f.checks) (f.spelling p.1 ++ more) ≡ None
-  pub fields : (p : Header × P) (more : List ℕ) → IsPacket f first caps way p → f.fields p.0 (f.spelling p.1 ++ more) ≡ p.1
+  pub found : (h : Header) (b : List ℕ) → AreBytes b → IsHeader s way h → f.owns h.kind ≡ true → wrong_at (with_header h f.checks) b ≡ None → h.length ≤ length b → IsFound f h b
+  pub right : (p : Header × P) (more : List ℕ) → IsPacket f s way p → wrong_at (with_header p.0 f.checks) (f.spelling p.1 ++ more) ≡ None
+  pub fields : (p : Header × P) (more : List ℕ) → IsPacket f s way p → f.fields p.0 (f.spelling p.1 ++ more) ≡ p.1
   pub owned : (p : P) → f.owns (f.number p) ≡ true
 
 -- ---- checks behind a header
@@ -71,27 +72,27 @@ none_of f (Some w) e = absurd cc
 
 -- ---- what is found
 
-abbrev pub headed : {P : Type 0} → Bodies P → Bool → Caps → Way → List (Check Reason)
-headed f first caps way = type_check UnknownType f.owns ∷ head_checks first caps way
+abbrev pub headed : {P : Type 0} → Bodies P → RedirState → Way → List (Check Reason)
+headed f s way = type_check UnknownType f.owns ∷ head_checks s way
 
 -- a length that was checked
-pub limit_there : {P : Type 0} (f : Bodies P) (first : Bool) (caps : Caps) (way : Way) (b : List ℕ) → wrong_at (packets f first caps way).checks b ≡ None → 8 ≤ length b → is_in_limit (le_at w32 4 b) ≡ true
-limit_there f first caps way b right there = (passed (headed f first caps way) (behind_head (is_wide first caps) f.checks) b right).0.1.1.1.1.1.0 refl there
+pub limit_there : {P : Type 0} (f : Bodies P) (s : RedirState) (way : Way) (b : List ℕ) → wrong_at (packets f s way).checks b ≡ None → 8 ≤ length b → is_in_limit (le_at w32 4 b) ≡ true
+limit_there f s way b right there = (passed (headed f s way) (behind_head (is_wide s) f.checks) b right).0.1.1.1.1.1.0 refl there
 
 size_long : (wide : Bool) (b : List ℕ) → size wide b ≤ length b → (head_size wide + le_at w32 4 b ≤ length b) × (size wide b ≡ head_size wide + le_at w32 4 b)
 size_long wide b there = let least = size_least wide in (grind (arith, common_steps), grind (arith, common_steps))
 
-found_there : {P : Type 0} (f : Bodies P) (first : Bool) (caps : Caps) (way : Way) → AreBodies f first caps way → (b : List ℕ) → AreBytes b → wrong_at (packets f first caps way).checks b ≡ None →
-    head_size (is_wide first caps) + le_at w32 4 b ≤ length b →
-    (head_bytes (is_wide first caps) (header_at (is_wide first caps) b) ++ f.spelling (f.fields (header_at (is_wide first caps) b) (drop (head_size (is_wide first caps)) b)) ≡ take (head_size (is_wide first caps) + le_at w32 4 b) b)
-    × IsPacket f first caps way (header_at (is_wide first caps) b, f.fields (header_at (is_wide first caps) b) (drop (head_size (is_wide first caps)) b))
-found_there f first caps way bodies b are right there =
-    let wide = is_wide first caps in
+found_there : {P : Type 0} (f : Bodies P) (s : RedirState) (way : Way) → AreBodies f s way → (b : List ℕ) → AreBytes b → wrong_at (packets f s way).checks b ≡ None →
+    head_size (is_wide s) + le_at w32 4 b ≤ length b →
+    (head_bytes (is_wide s) (header_at (is_wide s) b) ++ f.spelling (f.fields (header_at (is_wide s) b) (drop (head_size (is_wide s)) b)) ≡ take (head_size (is_wide s) + le_at w32 4 b) b)
+    × IsPacket f s way (header_at (is_wide s) b, f.fields (header_at (is_wide s) b) (drop (head_size (is_wide s)) b))
+found_there f s way bodies b are right there =
+    let wide = is_wide s in
     let k = head_size wide in
     let least = size_least wide in
-    let checks = passed (headed f first caps way) (behind_head wide f.checks) b right in
+    let checks = passed (headed f s way) (behind_head wide f.checks) b right in
     let own = checks.0.0 refl (omega arith) in
-    let header = header_passed first caps way b are (omega arith) checks.0.1 in
+    let header = header_passed s way b are (omega arith) checks.0.1 in
     let h = header_at wide b in
     let rest = drop k b in
     let none = none_of (past_head wide) (wrong_at (with_header h f.checks) rest) (sym (wrong_behind wide f.checks b (omega arith)) ∙ checks.1) in
@@ -102,12 +103,12 @@ found_there f first caps way bodies b are right there =
       record { header = header; kind = body.kind; length_is = sym enough; fits = body.fits },
     )
 
-found : {P : Type 0} (f : Bodies P) (first : Bool) (caps : Caps) (way : Way) → AreBodies f first caps way → (b : List ℕ) → AreBytes b → wrong_at (packets f first caps way).checks b ≡ None →
-    (packets f first caps way).size b ≤ length b →
-    ((packets f first caps way).spelling ((packets f first caps way).packet b) ≡ take ((packets f first caps way).size b) b) × (packets f first caps way).Fits ((packets f first caps way).packet b)
-found f first caps way bodies b are right there =
-    let long = size_long (is_wide first caps) b there in
-    let h = found_there f first caps way bodies b are right long.0 in
+found : {P : Type 0} (f : Bodies P) (s : RedirState) (way : Way) → AreBodies f s way → (b : List ℕ) → AreBytes b → wrong_at (packets f s way).checks b ≡ None →
+    (packets f s way).size b ≤ length b →
+    ((packets f s way).spelling ((packets f s way).packet b) ≡ take ((packets f s way).size b) b) × (packets f s way).Fits ((packets f s way).packet b)
+found f s way bodies b are right there =
+    let long = size_long (is_wide s) b there in
+    let h = found_there f s way bodies b are right long.0 in
     (h.0 ∙ ap (λ (n : ℕ). take n b) (sym long.1), h.1)
 
 -- ---- what is spelled
@@ -123,10 +124,10 @@ record Spelled {P : Type 0} (f : Bodies P) (wide : Bool) (p : Header × P) (b mo
   header : header_at wide b ≡ p.0
   behind : drop (head_size wide) b ≡ f.spelling p.1 ++ more
 
-spelled : {P : Type 0} (f : Bodies P) (first : Bool) (caps : Caps) (way : Way) (p : Header × P) (more : List ℕ) → IsPacket f first caps way p →
-    Spelled f (is_wide first caps) p ((head_bytes (is_wide first caps) p.0 ++ f.spelling p.1) ++ more) more
-spelled f first caps way p more is =
-    let wide = is_wide first caps in
+spelled : {P : Type 0} (f : Bodies P) (s : RedirState) (way : Way) (p : Header × P) (more : List ℕ) → IsPacket f s way p →
+    Spelled f (is_wide s) p ((head_bytes (is_wide s) p.0 ++ f.spelling p.1) ++ more) more
+spelled f s way p more is =
+    let wide = is_wide s in
     let all = assoc f wide p more in
     let rest = f.spelling p.1 ++ more in
     let kind_fits = is.header.kind_fits in
@@ -138,42 +139,42 @@ spelled f first caps way p more is =
       behind = ap (drop (head_size wide)) all ∙ behind_there wide p.0 rest;
     }
 
-pub number_there : {P : Type 0} (f : Bodies P) (first : Bool) (caps : Caps) (way : Way) (p : Header × P) (more : List ℕ) → IsPacket f first caps way p →
-    le_at w32 0 ((packets f first caps way).spelling p ++ more) ≡ f.number p.1
-number_there f first caps way p more is = (spelled f first caps way p more is).kind ∙ is.kind
+pub number_there : {P : Type 0} (f : Bodies P) (s : RedirState) (way : Way) (p : Header × P) (more : List ℕ) → IsPacket f s way p →
+    le_at w32 0 ((packets f s way).spelling p ++ more) ≡ f.number p.1
+number_there f s way p more is = (spelled f s way p more is).kind ∙ is.kind
 
-right : {P : Type 0} (f : Bodies P) (first : Bool) (caps : Caps) (way : Way) → AreBodies f first caps way → (p : Header × P) (more : List ℕ) → IsPacket f first caps way p →
-    wrong_at (packets f first caps way).checks ((packets f first caps way).spelling p ++ more) ≡ None
-right f first caps way bodies p more is =
-    let wide = is_wide first caps in
+right : {P : Type 0} (f : Bodies P) (s : RedirState) (way : Way) → AreBodies f s way → (p : Header × P) (more : List ℕ) → IsPacket f s way p →
+    wrong_at (packets f s way).checks ((packets f s way).spelling p ++ more) ≡ None
+right f s way bodies p more is =
+    let wide = is_wide s in
     let b = (head_bytes wide p.0 ++ f.spelling p.1) ++ more in
-    let s = spelled f first caps way p more is in
+    let there = spelled f s way p more is in
     let long : head_size wide ≤ length b = omega (arith, length-append (head_bytes wide p.0 ++ f.spelling p.1) more, length-append (head_bytes wide p.0) (f.spelling p.1), length_head wide p.0) in
     let body = bodies.right p more is in
     let none : wrong_at (behind_head wide f.checks) b ≡ None =
-    wrong_behind wide f.checks b long ∙ ap (option_map (past_head wide)) ((λ i. wrong_at (with_header (s.header i) f.checks) (s.behind i)) ∙ body) in
-    none_passed (headed f first caps way) (behind_head wide f.checks) b (λ _ _. ap f.owns (s.kind ∙ is.kind) ∙ bodies.owned p.1, passes first caps way p.0 b (header_says is.header) s.kind s.size) none
+    wrong_behind wide f.checks b long ∙ ap (option_map (past_head wide)) ((λ i. wrong_at (with_header (there.header i) f.checks) (there.behind i)) ∙ body) in
+    none_passed (headed f s way) (behind_head wide f.checks) b (λ _ _. ap f.owns (there.kind ∙ is.kind) ∙ bodies.owned p.1, passes s way p.0 b (header_says is.header) there.kind there.size) none
 
 size_by : (wide : Bool) (n m : ℕ) (b : List ℕ) → 8 ≤ length b → le_at w32 4 b ≡ n → head_size wide + n ≡ m → size wide b ≡ m
 size_by wide n m b long e f = rw (le-ltb (length b) 8 long, e) f
 
-size_there : {P : Type 0} (f : Bodies P) (first : Bool) (caps : Caps) (way : Way) (p : Header × P) (more : List ℕ) → IsPacket f first caps way p →
-    (packets f first caps way).size ((packets f first caps way).spelling p ++ more) ≡ length ((packets f first caps way).spelling p)
-size_there f first caps way p more is =
-    let wide = is_wide first caps in
+size_there : {P : Type 0} (f : Bodies P) (s : RedirState) (way : Way) (p : Header × P) (more : List ℕ) → IsPacket f s way p →
+    (packets f s way).size ((packets f s way).spelling p ++ more) ≡ length ((packets f s way).spelling p)
+size_there f s way p more is =
+    let wide = is_wide s in
     let least = size_least wide in
     let whole : length (head_bytes wide p.0 ++ f.spelling p.1) ≡ head_size wide + length (f.spelling p.1) = omega (arith, length-append (head_bytes wide p.0) (f.spelling p.1), length_head wide p.0) in
     let long : 8 ≤ length ((head_bytes wide p.0 ++ f.spelling p.1) ++ more) = omega (arith, length-append (head_bytes wide p.0 ++ f.spelling p.1) more, whole) in
-    let s = spelled f first caps way p more is in
-    size_by wide p.0.length _ ((head_bytes wide p.0 ++ f.spelling p.1) ++ more) long s.size (ap (λ (n : ℕ). head_size wide + n) is.length_is ∙ sym whole)
+    let there = spelled f s way p more is in
+    size_by wide p.0.length _ ((head_bytes wide p.0 ++ f.spelling p.1) ++ more) long there.size (ap (λ (n : ℕ). head_size wide + n) is.length_is ∙ sym whole)
 
-packet_there : {P : Type 0} (f : Bodies P) (first : Bool) (caps : Caps) (way : Way) → AreBodies f first caps way → (p : Header × P) (more : List ℕ) → IsPacket f first caps way p →
-    (packets f first caps way).packet ((packets f first caps way).spelling p ++ more) ≡ p
-packet_there f first caps way bodies p more is =
-    let s = spelled f first caps way p more is in
-    let body : f.fields (header_at (is_wide first caps) ((head_bytes (is_wide first caps) p.0 ++ f.spelling p.1) ++ more)) (drop (head_size (is_wide first caps)) ((head_bytes (is_wide first caps) p.0 ++ f.spelling p.1) ++ more)) ≡ p.1 =
-    (λ i. f.fields (s.header i) (s.behind i)) ∙ bodies.fields p more is in
-    λ i. (s.header i, body i)
+packet_there : {P : Type 0} (f : Bodies P) (s : RedirState) (way : Way) → AreBodies f s way → (p : Header × P) (more : List ℕ) → IsPacket f s way p →
+    (packets f s way).packet ((packets f s way).spelling p ++ more) ≡ p
+packet_there f s way bodies p more is =
+    let there = spelled f s way p more is in
+    let body : f.fields (header_at (is_wide s) ((head_bytes (is_wide s) p.0 ++ f.spelling p.1) ++ more)) (drop (head_size (is_wide s)) ((head_bytes (is_wide s) p.0 ++ f.spelling p.1) ++ more)) ≡ p.1 =
+    (λ i. f.fields (there.header i) (there.behind i)) ∙ bodies.fields p more is in
+    λ i. (there.header i, body i)
 
 -- ---- what stays as it is
 
@@ -193,21 +194,21 @@ behind_steady wide (c ∷ cs) n m steady le =
 size_some : (wide : Bool) (b : List ℕ) → 0 < size wide b
 size_some wide b = let least = size_least wide in grind (arith, common_steps)
 
-pub packets_steady : {P : Type 0} (f : Bodies P) (first : Bool) (caps : Caps) (way : Way) → AreSteadyBehind 0 f.checks → AreSteady 4 (packets f first caps way).checks
-packets_steady f first caps way bodies =
-    let wide = is_wide first caps in
+pub packets_steady : {P : Type 0} (f : Bodies P) (s : RedirState) (way : Way) → AreSteadyBehind 0 f.checks → AreSteady 4 (packets f s way).checks
+packets_steady f s way bodies =
+    let wide = is_wide s in
     let least = size_least wide in (
       omega arith,
       λ b more there. (refl, ap f.owns (le_at-append_32 0 b more there)),
-      heads_steady first caps way (behind_head wide f.checks) 4 (omega arith) (behind_steady wide f.checks 0 8 bodies (omega arith)),
+      heads_steady s way (behind_head wide f.checks) 4 (omega arith) (behind_steady wide f.checks 0 8 bodies (omega arith)),
     )
 
-pub packets_sound : {P : Type 0} (f : Bodies P) (first : Bool) (caps : Caps) (way : Way) → AreBodies f first caps way → IsSound (packets f first caps way)
-packets_sound f first caps way bodies = record {
-  found = λ b are none there. found f first caps way bodies b are none there;
-  right = λ p more fits. right f first caps way bodies p more fits;
-  size = λ p more fits. size_there f first caps way p more fits;
-  packet = λ p more fits. packet_there f first caps way bodies p more fits;
-  some = λ b. size_some (is_wide first caps) b;
-  steady = stays_wrong (packets f first caps way).checks 4 (packets_steady f first caps way bodies.steady);
+pub packets_sound : {P : Type 0} (f : Bodies P) (s : RedirState) (way : Way) → AreBodies f s way → IsSound (packets f s way)
+packets_sound f s way bodies = record {
+  found = λ b are none there. found f s way bodies b are none there;
+  right = λ p more fits. right f s way bodies p more fits;
+  size = λ p more fits. size_there f s way p more fits;
+  packet = λ p more fits. packet_there f s way bodies p more fits;
+  some = λ b. size_some (is_wide s) b;
+  steady = stays_wrong (packets f s way).checks 4 (packets_steady f s way bodies.steady);
 }

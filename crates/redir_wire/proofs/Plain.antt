@@ -9,6 +9,7 @@ use Rattle.usb_base.proofs.Numbers.{le_at-append_32}
 use Rattle.packet_stream.specs.Format.{wrong_at, IsSound, reading, Whole}
 use Rattle.packet_stream.proofs.Formats.{none_first, none_from, read_again}
 use Rattle.redir_wire.specs.declared.packet.Caps.{Caps}
+use Rattle.redir_wire.specs.declared.state.RedirState.{RedirState}
 use Rattle.redir_wire.specs.declared.packet.Way.{Way}
 use Rattle.redir_wire.specs.declared.packet.Header.{Header}
 use Rattle.redir_wire.specs.declared.packet.RedirControl.{RedirControl}
@@ -21,13 +22,13 @@ use Rattle.redir_wire.specs.Table.{plain_row, plain_numbered, has_length, has_wa
 use Rattle.redir_wire.specs.Header.{IsHeader}
 use Rattle.redir_wire.proofs.Says.{header_says, is_header}
 use Rattle.redir_wire.specs.Bodies.{check_behind, with_header, IsPacket}
-use Rattle.redir_wire.specs.Spelling.{kind_of, number_of, fields, length_of, header_of, is_hello}
+use Rattle.redir_wire.specs.Spelling.{kind_of, number_of, fields, length_of, header_of}
 use Rattle.redir_wire.specs.Ranges.{Ranges, IsWritable, IsControl}
 use Rattle.redir_wire.specs.Table.{fields_at}
 use Rattle.redir_wire.specs.Plain.{control_at}
 use Rattle.redir_wire.specs.Plain.{is_plain, count_check, plain}
 use Rattle.redir_wire.specs.Plain as wire
-use Rattle.redir_wire.specs.Written.{CanWrite, packet_bytes}
+use Rattle.redir_wire.specs.Written.{CanWrite, packet_bytes, state_before}
 use Rattle.redir_wire.proofs.Lengths.{length_fields}
 use Rattle.redir_wire.proofs.Behind.{length_by, is_numbered}
 use Rattle.redir_wire.proofs.Numbers.{plain_number, plain_again, says, known, number_fits, agreed_by}
@@ -48,14 +49,14 @@ found_by caps h b k e f =
       fits = subst (IsControl caps) (sym same) f.fits;
     }
 
-found_with : (first : Bool) (caps : Caps) (way : Way) (h : Header) (b : List ℕ) → AreBytes b → IsHeader first caps way h → is_plain h.kind ≡ true → wrong_at (with_header h (count_check ∷ [])) b ≡ None →
-    h.length ≤ length b → (o : Option PlainKind) → plain_numbered h.kind ≡ o → IsFound (wire.controls caps) h b
-found_with first caps way h b are header plain none there None e = absurd (is_numbered caps h plain (header_says header).its_length e)
-found_with first caps way h b are header plain none there (Some k) e =
-    let its = sym (length_by caps h k e) ∙ (header_says header).its_length in
+found_with : (s : RedirState) (way : Way) (h : Header) (b : List ℕ) → AreBytes b → IsHeader s way h → is_plain h.kind ≡ true → wrong_at (with_header h (count_check ∷ [])) b ≡ None →
+    h.length ≤ length b → (o : Option PlainKind) → plain_numbered h.kind ≡ o → IsFound (wire.controls s.caps) h b
+found_with s way h b are header plain none there None e = absurd (is_numbered s.caps h plain (header_says header).its_length e)
+found_with s way h b are header plain none there (Some k) e =
+    let its = sym (length_by s.caps h k e) ∙ (header_says header).its_length in
     let few : (plain_row k).number ≡ 4 → 4 ≤ length b → le_at w32 0 b ≤ 32 =
     λ is long. leb-true (le_at w32 0 b) 32 (none_first (check_behind h count_check) [] b none (eq-eqb h.kind 4 (plain_number h.kind k e ∙ is)) long) in
-    found_by caps h b k e (found_as caps h.length k b are its there few)
+    found_by s.caps h b k e (found_as s.caps h.length k b are its there few)
 
 -- ---- what is spelled
 
@@ -69,17 +70,17 @@ fields_there caps h c more kind again = control_by caps h (fields caps c ++ more
 count_steady : (h : Header) (b more : List ℕ) → 4 ≤ length b → count_check.passes h (b ++ more) ≡ count_check.passes h b
 count_steady h b more there = ap (λ (n : ℕ). nat_le n 32) (le_at-append_32 0 b more there)
 
-pub plain_bodies : (first : Bool) (caps : Caps) (way : Way) → AreBodies (wire.controls caps) first caps way
-plain_bodies first caps way = record {
+pub plain_bodies : (s : RedirState) (way : Way) → AreBodies (wire.controls s.caps) s way
+plain_bodies s way = record {
   steady = (omega arith, count_steady, tt);
-  found = λ h b are header plain none there. found_with first caps way h b are header plain none there (plain_numbered h.kind) refl;
-  right = λ p more is. none_from (check_behind p.0 count_check) [] (fields caps p.1 ++ more) (λ tried _. count_passes caps p.0.kind p.1 more is.kind is.fits tried) refl;
-  fields = λ p more is. fields_there caps p.0 p.1 more is.kind (fields_again caps p.0.length p.1 more is.fits is.length_is);
+  found = λ h b are header plain none there. found_with s way h b are header plain none there (plain_numbered h.kind) refl;
+  right = λ p more is. none_from (check_behind p.0 count_check) [] (fields s.caps p.1 ++ more) (λ tried _. count_passes s.caps p.0.kind p.1 more is.kind is.fits tried) refl;
+  fields = λ p more is. fields_there s.caps p.0 p.1 more is.kind (fields_again s.caps p.0.length p.1 more is.fits is.length_is);
   owned = plain_owned;
 }
 
-pub plain_sound : (first : Bool) (caps : Caps) (way : Way) → IsSound (plain first caps way)
-plain_sound first caps way = packets_sound (wire.controls caps) first caps way (plain_bodies first caps way)
+pub plain_sound : (s : RedirState) (way : Way) → IsSound (plain s way)
+plain_sound s way = packets_sound (wire.controls s.caps) s way (plain_bodies s way)
 
 -- ---- what is written
 
@@ -110,11 +111,11 @@ length_most caps (controls.EpInfo e) w = omega (arith, sent_most (has caps MAX_P
 length_most caps p w = omega arith
 
 pub packet_written : (way : Way) (caps : Caps) (id : ℕ) (p : RedirControl) → Ranges p → CanWrite id caps p → goes way (plain_row (kind_of p)) ≡ true →
-    IsPacket (wire.controls caps) (is_hello p) caps way (header_of id caps p, p)
+    IsPacket (wire.controls caps) (state_before caps p) way (header_of id caps p, p)
 packet_written way caps id p ranges can goes_so =
     let k = Plain (kind_of p) in
     record {
-      header = is_header (is_hello p) caps way (header_of id caps p) (record {
+      header = is_header (state_before caps p) way (header_of id caps p) (record {
         in_turn = in_turn (number_of p == 0);
         known = known k;
         agreed = agreed_by caps k (has_wanted caps) can.agreed;
@@ -130,6 +131,6 @@ packet_written way caps id p ranges can goes_so =
     }
 
 pub written_again : (way : Way) (caps : Caps) (id : ℕ) (p : RedirControl) (more : List ℕ) → Ranges p → CanWrite id caps p → goes way (plain_row (kind_of p)) ≡ true →
-    reading (plain (is_hello p) caps way) (packet_bytes id caps p ++ more) ≡ Whole (header_of id caps p, p) (length (packet_bytes id caps p))
+    reading (plain (state_before caps p) way) (packet_bytes id caps p ++ more) ≡ Whole (header_of id caps p, p) (length (packet_bytes id caps p))
 written_again way caps id p more ranges can goes_so =
-    read_again (plain (is_hello p) caps way) (plain_sound (is_hello p) caps way) (header_of id caps p, p) more (packet_written way caps id p ranges can goes_so)
+    read_again (plain (state_before caps p) way) (plain_sound (state_before caps p) way) (header_of id caps p, p) more (packet_written way caps id p ranges can goes_so)

@@ -5,10 +5,11 @@ use Rattle.usb_base.specs.declared.reason.Reason.{Reason}
 use Rattle.usb_base.specs.declared.reason.Reason.TheVariants.{UnknownType}
 use Rattle.usb_base.specs.Number.{le_at}
 use Rattle.packet_stream.specs.Format.{Check, check, Format}
-use Rattle.redir_wire.specs.declared.packet.Caps.{Caps}
+use Rattle.redir_wire.specs.declared.state.RedirState.{RedirState}
 use Rattle.redir_wire.specs.declared.packet.Way.{Way}
 use Rattle.redir_wire.specs.declared.packet.Header.{Header}
-use Rattle.redir_wire.specs.Header.{is_wide, head_size, head_bytes, header_at, type_check, head_checks, IsHeader}
+use Rattle.redir_wire.specs.State.{is_wide}
+use Rattle.redir_wire.specs.Header.{head_size, head_bytes, header_at, type_check, head_checks, IsHeader}
 
 -- a check of the bytes behind a header; its place counts from the first of them
 pub record BodyCheck : Type 0 where
@@ -53,18 +54,18 @@ behind_head wide (c ∷ cs) =
     ∷ behind_head wide cs
 
 -- the header is the packet's own
-pub record IsPacket {P : Type 0} (f : Bodies P) (first : Bool) (caps : Caps) (way : Way) (p : Header × P) : Type 0 where
-  pub header : IsHeader first caps way p.0
+pub record IsPacket {P : Type 0} (f : Bodies P) (s : RedirState) (way : Way) (p : Header × P) : Type 0 where
+  pub header : IsHeader s way p.0
   pub kind : p.0.kind ≡ f.number p.1
   pub length_is : p.0.length ≡ length (f.spelling p.1)
   pub fits : f.Fits p.1
 
 -- a packet of another type is none of these
-abbrev pub packets : {P : Type 0} → Bodies P → Bool → Caps → Way → Format (Header × P) Reason
-packets f first caps way = record {
-  checks = type_check UnknownType f.owns ∷ head_checks first caps way ++ behind_head (is_wide first caps) f.checks;
-  size = λ b. if nat_lt (length b) 8 then head_size (is_wide first caps) else head_size (is_wide first caps) + le_at w32 4 b;
-  packet = λ b. (header_at (is_wide first caps) b, f.fields (header_at (is_wide first caps) b) (drop (head_size (is_wide first caps)) b));
-  spelling = λ p. head_bytes (is_wide first caps) p.0 ++ f.spelling p.1;
-  Fits = IsPacket f first caps way;
+abbrev pub packets : {P : Type 0} → Bodies P → RedirState → Way → Format (Header × P) Reason
+packets f s way = record {
+  checks = type_check UnknownType f.owns ∷ head_checks s way ++ behind_head (is_wide s) f.checks;
+  size = λ b. if nat_lt (length b) 8 then head_size (is_wide s) else head_size (is_wide s) + le_at w32 4 b;
+  packet = λ b. (header_at (is_wide s) b, f.fields (header_at (is_wide s) b) (drop (head_size (is_wide s)) b));
+  spelling = λ p. head_bytes (is_wide s) p.0 ++ f.spelling p.1;
+  Fits = IsPacket f s way;
 }

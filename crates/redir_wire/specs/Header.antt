@@ -7,20 +7,16 @@ use Rattle.usb_base.specs.declared.reason.Reason.TheVariants.{HelloFirst, Unknow
 use Rattle.usb_base.specs.Number.{le, le_at}
 use Rattle.packet_stream.specs.Format.{Check, check, wrong_at, Format}
 use Rattle.redir_wire.specs.declared.packet.Caps.{Caps}
+use Rattle.redir_wire.specs.declared.state.RedirState.{RedirState}
 use Rattle.redir_wire.specs.declared.packet.Way.{Way}
 use Rattle.redir_wire.specs.declared.packet.Header.{Header}
 use Rattle.redir_wire.specs.declared.header.TheConstants.{MAX_LENGTH}
 use Rattle.redir_wire.specs.declared.kind.TheConstants.{HELLO}
 use Rattle.redir_wire.specs.declared.kind.TypeRow.{TypeRow}
-use Rattle.redir_wire.specs.declared.packet.TheConstants.Caps.{WIDE_IDS}
-use Rattle.redir_wire.specs.Capability.{has}
+use Rattle.redir_wire.specs.State.{is_wide}
 use Rattle.redir_wire.specs.Table.{row_of, kind_numbered, is_left_out, goes, has_wanted, has_length}
 
 -- ---- its bytes
-
--- ids have 64 bits where that is agreed; a hello's never has, which comes first
-abbrev pub is_wide : Bool → Caps → Bool
-is_wide first caps = not first && has caps WIDE_IDS
 
 abbrev pub head_size : Bool → ℕ
 head_size wide = if wide then 16 else 12
@@ -52,31 +48,31 @@ abbrev pub type_check : Reason → (ℕ → Bool) → Check Reason
 type_check reason passes = check 0 4 reason (λ b. passes (le_at w32 0 b))
 
 -- the greatest length is a transfer of 16 MiB and 64 bytes more, which is room for the fields of any data packet
-abbrev pub head_checks : Bool → Caps → Way → List (Check Reason)
-head_checks first caps way =
-    type_check HelloFirst (λ number. if first then number == HELLO else not (number == HELLO))
+abbrev pub head_checks : RedirState → Way → List (Check Reason)
+head_checks s way =
+    type_check HelloFirst (λ number. if s.first then number == HELLO else not (number == HELLO))
     ∷ type_check UnknownType (λ number. is_left_out number || is_some (kind_numbered number))
-    ∷ type_check NotAgreed (λ number. not (is_left_out number) && row_says (has_wanted caps) number)
+    ∷ type_check NotAgreed (λ number. not (is_left_out number) && row_says (has_wanted s.caps) number)
     ∷ type_check WrongWay (row_says (goes way))
     ∷ check 4 8 TooLong26 (λ b. nat_le (le_at w32 4 b) MAX_LENGTH)
-    ∷ check 4 8 BadLength (λ b. is_its_length caps (le_at w32 0 b) (le_at w32 4 b))
+    ∷ check 4 8 BadLength (λ b. is_its_length s.caps (le_at w32 0 b) (le_at w32 4 b))
     ∷ []
 
 -- ---- what a header is
 
 -- its bytes pass the checks, and its fields are numbers of their widths
-pub record IsHeader (first : Bool) (caps : Caps) (way : Way) (h : Header) : Type 0 where
-  pub right : wrong_at (head_checks first caps way) (head_bytes (is_wide first caps) h) ≡ None
+pub record IsHeader (s : RedirState) (way : Way) (h : Header) : Type 0 where
+  pub right : wrong_at (head_checks s way) (head_bytes (is_wide s) h) ≡ None
   pub kind_fits : h.kind < 2 ^ 32
   pub length_fits : h.length < 2 ^ 32
-  pub id_fits : IdFits (is_wide first caps) h.id
+  pub id_fits : IdFits (is_wide s) h.id
 
 -- the headers of a stream, which a packet's bytes begin with
-abbrev pub headers : Bool → Caps → Way → Format Header Reason
-headers first caps way = record {
-  checks = head_checks first caps way;
-  size = λ b. head_size (is_wide first caps);
-  packet = header_at (is_wide first caps);
-  spelling = head_bytes (is_wide first caps);
-  Fits = IsHeader first caps way;
+abbrev pub headers : RedirState → Way → Format Header Reason
+headers s way = record {
+  checks = head_checks s way;
+  size = λ b. head_size (is_wide s);
+  packet = header_at (is_wide s);
+  spelling = head_bytes (is_wide s);
+  Fits = IsHeader s way;
 }

@@ -4,6 +4,7 @@ pub mod Places
 pub mod Table
 pub mod Small
 pub mod Field
+pub mod State
 pub mod Header
 pub mod Bodies
 pub mod Spelling

@@ -2,10 +2,11 @@
 use Rattle.std.specs.Prelude.{◌≡◌, ℕ, ◌+◌, Bool, true, List, ◌++◌}
 use Rattle.usb_base.specs.declared.reason.Reason.{Reason}
 use Rattle.packet_stream.specs.Format.{Found, Whole, Short, Wrong, IsSound, reading}
-use Rattle.redir_wire.specs.declared.packet.Caps.{Caps}
+use Rattle.redir_wire.specs.declared.state.RedirState.{RedirState}
 use Rattle.redir_wire.specs.declared.packet.Way.{Way}
 use Rattle.redir_wire.specs.declared.packet.Header.{Header}
-use Rattle.redir_wire.specs.Header.{is_wide, head_size, head_bytes, IsHeader, headers}
+use Rattle.redir_wire.specs.State.{is_wide}
+use Rattle.redir_wire.specs.Header.{head_size, head_bytes, IsHeader, headers}
 use Rattle.redir_wire.specs.Bodies.{behind}
 use Rattle.redir_wire.specs.Plain.{controls, is_plain, plain}
 
@@ -18,9 +19,9 @@ found_past wide h (Wrong place reason) = Wrong (head_size wide + place) reason
 -- ---- laws
 
 abbrev pub HeadersSound : Type 0
-HeadersSound = (first : Bool) (caps : Caps) (way : Way) → IsSound (headers first caps way)
+HeadersSound = (s : RedirState) (way : Way) → IsSound (headers s way)
 
 abbrev pub ReadByParts : Type 0
 ReadByParts =
-    (first : Bool) (caps : Caps) (way : Way) (h : Header) (b : List ℕ) → IsHeader first caps way h → is_plain h.kind ≡ true →
-    reading (plain first caps way) (head_bytes (is_wide first caps) h ++ b) ≡ found_past (is_wide first caps) h (reading (behind (controls caps) h) b)
+    (s : RedirState) (way : Way) (h : Header) (b : List ℕ) → IsHeader s way h → is_plain h.kind ≡ true →
+    reading (plain s way) (head_bytes (is_wide s) h ++ b) ≡ found_past (is_wide s) h (reading (behind (controls s.caps) h) b)

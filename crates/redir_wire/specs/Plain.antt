@@ -9,6 +9,7 @@ use Rattle.packet_stream.specs.Format.{Format}
 use Rattle.redir_wire.specs.declared.packet.TheConstants.{MAX_INTERFACES}
 use Rattle.redir_wire.specs.declared.kind.TheConstants.{FIRST_DATA, INTERFACE_INFO}
 use Rattle.redir_wire.specs.declared.packet.Caps.{Caps}
+use Rattle.redir_wire.specs.declared.state.RedirState.{RedirState}
 use Rattle.redir_wire.specs.declared.packet.Way.{Way}
 use Rattle.redir_wire.specs.declared.packet.Header.{Header}
 use Rattle.redir_wire.specs.declared.packet.RedirControl.{RedirControl}
@@ -41,8 +42,8 @@ controls caps = record {
 }
 
 -- the packets of a stream that goes this way, the first one or a later one, with the capabilities that are agreed
-abbrev pub plain : Bool → Caps → Way → Format (Header × RedirControl) Reason
-plain first caps way = packets (controls caps) first caps way
+abbrev pub plain : RedirState → Way → Format (Header × RedirControl) Reason
+plain s way = packets (controls s.caps) s way
 
 -- only the words of a hello take memory
 abbrev pub takes_memory : RedirControl → Bool

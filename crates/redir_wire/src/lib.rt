@@ -11,6 +11,7 @@ mod laws;
 mod next;
 mod packet;
 mod read;
+mod state;
 mod types;
 mod write;
 
@@ -26,4 +27,5 @@ pub use packet::{
     MAX_HELLO_WORDS, MAX_INTERFACES, RedirControl, Way, WireError, Words,
 };
 pub use read::read_control;
+pub use state::RedirState;
 pub use write::{push_header, write_control};

@@ -9,6 +9,7 @@ use crate::field::Wire;
 use crate::header::is_wide;
 use crate::kind::HELLO;
 use crate::packet::{Caps, Header, RedirControl};
+use crate::state::RedirState;
 use byteorder::{ByteOrder, LittleEndian};
 use usb_base::{Bytes, Memory};
 
@@ -35,8 +36,9 @@ fn push_control(packet: &RedirControl, id: u64, caps: Caps, out: &mut Bytes) -> 
     let row = packet.kind().row();
     let kind = row.number;
     let length = packet.length(caps);
+    let first = kind == HELLO;
     push_header(
-        is_wide(kind == HELLO, caps),
+        is_wide(RedirState { first, caps }),
         &Header { kind, length, id },
         out,
     )?;

@@ -7,6 +7,7 @@ use Rattle.usb_base.specs.Number.{byte_at, part, AreBytes}
 use Rattle.usb_base.proofs.Numbers.{then, length-part, le_at-append_16}
 use Rattle.packet_stream.specs.Format.{wrong_at, IsSound}
 use Rattle.redir_wire.specs.declared.packet.Caps.{Caps}
+use Rattle.redir_wire.specs.declared.state.RedirState.{RedirState}
 use Rattle.redir_wire.specs.declared.packet.Way.{Way}
 use Rattle.redir_wire.specs.declared.packet.Header.{Header}
 use Rattle.redir_wire.specs.declared.kind.DataKind.{DataKind}
@@ -89,12 +90,12 @@ found_as caps way h b k are e agrees there =
       fits = subst (IsData caps way) (sym same) fits;
     }
 
-found_with : (first : Bool) (caps : Caps) (way : Way) (h : Header) (b : List ℕ) → AreBytes b → IsHeader first caps way h → is_plain h.kind ≡ false → wrong_at (with_header h (transfers caps way).checks) b ≡ None → h.length ≤ length b →
-    (o : Option DataKind) → data_numbered h.kind ≡ o → IsFound (transfers caps way) h b
-found_with first caps way h b are header above none there None e = absurd (is_numbered caps h above (header_says header).its_length e)
-found_with first caps way h b are header above none there (Some k) e =
-    let least = least_length caps h k e (header_says header).its_length in
-    found_as caps way h b k are e (agrees_by caps way h k b (data_number h.kind k e) none (omega arith)) there
+found_with : (s : RedirState) (way : Way) (h : Header) (b : List ℕ) → AreBytes b → IsHeader s way h → is_plain h.kind ≡ false → wrong_at (with_header h (transfers s.caps way).checks) b ≡ None → h.length ≤ length b →
+    (o : Option DataKind) → data_numbered h.kind ≡ o → IsFound (transfers s.caps way) h b
+found_with s way h b are header above none there None e = absurd (is_numbered s.caps h above (header_says header).its_length e)
+found_with s way h b are header above none there (Some k) e =
+    let least = least_length s.caps h k e (header_says header).its_length in
+    found_as s.caps way h b k are e (agrees_by s.caps way h k b (data_number h.kind k e) none (omega arith)) there
 
 -- ---- what is spelled
 
@@ -111,14 +112,14 @@ agrees caps way h d more is fits =
 fields_there : (caps : Caps) (h : Header) (d : RedirData) (more : List ℕ) → h.kind ≡ number_of d → fields_at caps h.length (form_of d).kind (fields caps d ++ more) ≡ d → data_at caps h (fields caps d ++ more) ≡ d
 fields_there caps h d more kind again = data_by caps h (fields caps d ++ more) (form_of d).kind (ap data_numbered kind ∙ data_again (form_of d).kind) ∙ again
 
-pub data_bodies : (first : Bool) (caps : Caps) (way : Way) → AreBodies (transfers caps way) first caps way
-data_bodies first caps way = record {
-  steady = steady caps way;
-  found = λ h b are header owns none there. found_with first caps way h b are header (not-true (is_plain h.kind) owns) none there (data_numbered h.kind) refl;
-  right = λ p more is. none_of caps way p.0 (form_of p.1).kind (fields caps p.1 ++ more) is.kind (λ _. agrees caps way p.0 p.1 more is.length_is is.fits);
-  fields = λ p more is. fields_there caps p.0 p.1 more is.kind (fields_again caps p.0.length p.1 more is.fits.ranges is.fits.length_fits is.length_is);
+pub data_bodies : (s : RedirState) (way : Way) → AreBodies (transfers s.caps way) s way
+data_bodies s way = record {
+  steady = steady s.caps way;
+  found = λ h b are header owns none there. found_with s way h b are header (not-true (is_plain h.kind) owns) none there (data_numbered h.kind) refl;
+  right = λ p more is. none_of s.caps way p.0 (form_of p.1).kind (fields s.caps p.1 ++ more) is.kind (λ _. agrees s.caps way p.0 p.1 more is.length_is is.fits);
+  fields = λ p more is. fields_there s.caps p.0 p.1 more is.kind (fields_again s.caps p.0.length p.1 more is.fits.ranges is.fits.length_fits is.length_is);
   owned = data_owned;
 }
 
-pub carrying_sound : (first : Bool) (caps : Caps) (way : Way) → IsSound (carrying first caps way)
-carrying_sound first caps way = packets_sound (transfers caps way) first caps way (data_bodies first caps way)
+pub carrying_sound : (s : RedirState) (way : Way) → IsSound (carrying s way)
+carrying_sound s way = packets_sound (transfers s.caps way) s way (data_bodies s way)

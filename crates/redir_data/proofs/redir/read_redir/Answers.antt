@@ -7,4 +7,4 @@ use Rattle.redir_data.proofs.redir.read_redir.Goals as goal
 pub returns-clause-stands : goal.returns-clause-stands
 returns-clause-stands c =
     let a = c.args in
-    told_stands (redir_packets a.first a.caps a.way) (redir_sound a.first a.caps a.way) takes_memory a.bytes.now (λ i. omega (arith, c.type_inv.bytes i)) c.take_redir.result c.take_redir.ensures.exact
+    told_stands (redir_packets a.state a.way) (redir_sound a.state a.way) takes_memory a.bytes.now (λ i. omega (arith, c.type_inv.bytes i)) c.take_redir.result c.take_redir.ensures.exact

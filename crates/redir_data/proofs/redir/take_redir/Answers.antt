@@ -10,14 +10,14 @@ use Rattle.redir_data.proofs.redir.take_redir.Goals as goal
 pub returns-in-Err-clause-exact : goal.returns-in-Err-clause-exact
 returns-in-Err-clause-exact g c =
     let a = c.args in
-    subst (λ (b : List ℕ). Answers takes_memory (Err c.in-Err.error) (reading (redir_packets a.first a.caps a.way) b)) c.as_slice.ensures
-    (error_same a.first a.caps a.way c.as_slice.result.now takes_memory c.in-Err.error c.in-Err.ensures.exact)
+    subst (λ (b : List ℕ). Answers takes_memory (Err c.in-Err.error) (reading (redir_packets a.state a.way) b)) c.as_slice.ensures
+    (error_same a.state a.way c.as_slice.result.now takes_memory c.in-Err.error c.in-Err.ensures.exact)
 
 pub returns-in-Ok-Short-clause-exact : goal.returns-in-Ok-Short-clause-exact
 returns-in-Ok-Short-clause-exact g c =
     let a = c.args in
-    ap (reading (redir_packets a.first a.caps a.way)) (sym c.as_slice.ensures)
-    ∙ short a.first a.caps a.way c.as_slice.result.now (rw c.in-Ok-Short.field-0-is at c.in-Ok-Short.ensures.exact)
+    ap (reading (redir_packets a.state a.way)) (sym c.as_slice.ensures)
+    ∙ short a.state a.way c.as_slice.result.now (rw c.in-Ok-Short.field-0-is at c.in-Ok-Short.ensures.exact)
 
 pub returns-in-Ok-Whole-clause-exact : goal.returns-in-Ok-Whole-clause-exact
 returns-in-Ok-Whole-clause-exact g c =
@@ -25,9 +25,9 @@ returns-in-Ok-Whole-clause-exact g c =
     let w = c.in-Ok-Whole in
     let b = c.as_slice.result.now in
     let same = c.as_slice.ensures in
-    let p = past a.first a.caps a.way b w.head w.size (rw w.field-0-is at w.ensures.stands).fits (rw w.field-0-is at w.ensures.exact) in
+    let p = past a.state a.way b w.head w.size (rw w.field-0-is at w.ensures.stands).fits (rw w.field-0-is at w.ensures.exact) in
     subst (Answers takes_memory c.take_behind.result)
-    (ap (λ (x : List ℕ). past_found a.caps a.way w.size w.head (drop w.size x)) (sym same) ∙ sym p ∙ ap (reading (redir_packets a.first a.caps a.way)) same)
+    (ap (λ (x : List ℕ). past_found a.state.caps a.way w.size w.head (drop w.size x)) (sym same) ∙ sym p ∙ ap (reading (redir_packets a.state a.way)) same)
     c.take_behind.ensures.exact
 
 pub take_behind-requires-clause-its_length : goal.take_behind-requires-clause-its_length

@@ -6,9 +6,9 @@ use Rattle.redir_wire.proofs.next.next_control.Goals as goal
 pub returns-clause-least : goal.returns-clause-least
 returns-clause-least c =
     let a = c.args in
-    awaited_least (plain a.first a.caps a.way) (plain_patient a.first a.caps a.way) a.bytes.now c.requires c.next_plain.result (c.next_plain.ensures a.way)
+    awaited_least (plain a.state a.way) (plain_patient a.state a.way) a.bytes.now c.requires c.next_plain.result (c.next_plain.ensures a.way)
 
 pub returns-clause-quiet : goal.returns-clause-quiet
 returns-clause-quiet c =
     let a = c.args in
-    stays_short (plain a.first a.caps a.way) (plain_patient a.first a.caps a.way) a.bytes.now c.requires c.next_plain.result (c.next_plain.ensures a.way)
+    stays_short (plain a.state a.way) (plain_patient a.state a.way) a.bytes.now c.requires c.next_plain.result (c.next_plain.ensures a.way)
