@@ -5,13 +5,13 @@ use Rattle.std.specs.Prelude.{zero, suc}
 use Rattle.packet_stream.specs.Split.{Position, past}
 use Rattle.packet_stream.specs.Items.{onto}
 use Rattle.redir_wire.specs.declared.packet.Header.{Header}
+use Rattle.redir_wire.specs.declared.state.RedirState.{RedirState}
 use Rattle.redir_wire.specs.declared.packet.Way.{Way}
 use Rattle.redir_wire.specs.declared.packet.Way.TheVariants.{ToGuest, ToHost}
 use Rattle.redir_wire.specs.Capability.{no_caps}
 use Rattle.redir_wire.specs.declared.packet.Caps.{Caps}
 use Rattle.redir_data.specs.declared.packet.RedirPacket.{RedirPacket}
 use Rattle.redir_data.specs.declared.packet.RedirPacket.TheVariants.{Plain}
-use Rattle.redir_data.specs.declared.state.RedirState.{RedirState}
 use Rattle.redir_data.specs.Streams.{after, stream_format}
 use Rattle.model_device.specs.Meaning.{Meaning}
 use Rattle.redir_host.proofs.lemmas.guest.Pieces.{asked}

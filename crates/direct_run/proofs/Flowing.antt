@@ -7,12 +7,12 @@ use Rattle.packet_stream.specs.Split.{Position, Splitting}
 use Rattle.packet_stream.specs.Items.{onto}
 use Rattle.packet_stream.proofs.Pieces.{wrong_items, added-right}
 use Rattle.redir_wire.specs.declared.packet.Header.{Header}
+use Rattle.redir_wire.specs.declared.state.RedirState.{RedirState}
 use Rattle.redir_wire.specs.declared.packet.Way.{Way}
 use Rattle.redir_wire.specs.declared.packet.Way.TheVariants.{ToGuest, ToHost}
 use Rattle.redir_wire.specs.Capability.{no_caps}
 use Rattle.redir_data.specs.declared.packet.RedirPacket.{RedirPacket}
 use Rattle.redir_data.specs.declared.packet.RedirPacket.TheVariants.{Plain}
-use Rattle.redir_data.specs.declared.state.RedirState.{RedirState}
 use Rattle.redir_data.specs.Streams.{after, stream_format, stream_start}
 use Rattle.usbip_urb.specs.declared.client.ClientPacket.{ClientPacket}
 use Rattle.model_device.specs.Meaning.{Meaning}

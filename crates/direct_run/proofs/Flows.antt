@@ -8,8 +8,9 @@ use Rattle.usb_base.proofs.Numbers.{AreBytes-left, AreBytes-right, AreBytes-appe
 use Rattle.redir_wire.specs.declared.packet.Caps.{Caps}
 use Rattle.redir_wire.specs.declared.packet.Way.TheVariants.{ToGuest, ToHost}
 use Rattle.redir_wire.specs.Capability.{no_caps}
+use Rattle.redir_wire.specs.State.{start}
 use Rattle.redir_data.specs.declared.packet.RedirPacket.TheVariants.{Plain}
-use Rattle.redir_data.specs.Streams.{start, after, stream_format, stream_start}
+use Rattle.redir_data.specs.Streams.{after, stream_format, stream_start}
 use Rattle.model_device.specs.Meaning.{Meaning}
 use Rattle.redir_host.specs.step.Acts.{Act, Piece, guest_bytes}
 use Rattle.redir_host.specs.guest.Guest.{guest_split}

@@ -6,10 +6,11 @@ use Rattle.std.proofs.lemmas.List.Folds.{list_any-append}
 use Rattle.std.proofs.lemmas.Grind.{flat_map-append}
 use Rattle.redir_wire.specs.declared.packet.Way.TheVariants.{ToHost}
 use Rattle.redir_wire.specs.declared.packet.RedirControl.TheVariants as plain
+use Rattle.redir_wire.specs.declared.state.RedirState.{RedirState}
+use Rattle.redir_wire.specs.State.{start, later}
 use Rattle.redir_data.specs.declared.packet.RedirPacket.{RedirPacket}
 use Rattle.redir_data.specs.declared.packet.RedirPacket.TheVariants.{Plain, Carrying}
-use Rattle.redir_data.specs.declared.state.RedirState.{RedirState}
-use Rattle.redir_data.specs.Streams.{start, advanced}
+use Rattle.redir_data.specs.Streams.{advanced}
 use Rattle.model_device.specs.Meaning.{Meaning}
 use Rattle.redir_host.specs.declared.state.host.Host.{Host}
 use Rattle.redir_host.specs.declared.state.request.Asking.{Asking}
@@ -34,7 +35,7 @@ use Rattle.redir_data.specs.Sent.{sent_header, CanBeRead, sent_packet_bytes}
 use Rattle.redir_data.specs.declared.stream_kind.StreamKind.{StreamKind}
 use Rattle.redir_data.specs.declared.stream_kind.StreamKind.TheVariants.{Iso, Interrupt}
 use Rattle.direct_run.specs.Packets.{both_caps}
-use Rattle.direct_run.proofs.Headed.{met, no-hello, unmoved}
+use Rattle.direct_run.proofs.Headed.{no-hello, unmoved}
 
 -- what is done with the device
 abbrev pub IsOwn : Item → Type 0
@@ -77,7 +78,7 @@ own-quiet {S = S} m h Unplugs own d =
 -- ---- the hello has come
 
 pub record Hears {S : Type 0} (h : Host S) : Type 0 where
-  pub guest : h.guest ≡ met both_caps
+  pub guest : h.guest ≡ later both_caps
   pub sound : IsSound h
 
 own-hears : {S : Type 0} (m : Meaning S) (h : Host S) (x : Item) → IsOwn x → Hears h → Hears (move m h x).host
@@ -100,8 +101,8 @@ packet-hears {S = S} m h p fits k =
 
 hello-hears : {S : Type 0} (m : Meaning S) (h : Host S) → IsDeaf h → Hears (packet_move m h 0 gateway_hello).host
 hello-hears {S = S} m h d =
-    let g : Host S = record h { guest = met both_caps } in
-    let known : Hears g = record { guest = refl; sound = record { requests = subst (Each (IsGuestRequest (met both_caps))) (sym d.queue) tt; streams = subst (Each (IsRunning (met both_caps))) (sym d.running) tt } } in
+    let g : Host S = record h { guest = later both_caps } in
+    let known : Hears g = record { guest = refl; sound = record { requests = subst (Each (IsGuestRequest (later both_caps))) (sym d.queue) tt; streams = subst (Each (IsRunning (later both_caps))) (sym d.running) tt } } in
     elim h.unplugged as (λ (b : Bool). Hears (cond b (quiet g) (packet_move_by m g 0 gateway_hello)).host) [ true ↦ known | false ↦ known ]
 
 -- ---- what was sent

@@ -5,7 +5,7 @@ use Rattle.std.specs.List.{flat_map}
 use Rattle.usb_base.specs.Number.{AreBytes}
 use Rattle.usb_base.proofs.Numbers.{AreBytes-right, AreBytes-append}
 use Rattle.redir_wire.specs.declared.packet.Way.TheVariants.{ToGuest}
-use Rattle.redir_data.specs.declared.state.RedirState.{RedirState}
+use Rattle.redir_wire.specs.declared.state.RedirState.{RedirState}
 use Rattle.redir_data.specs.Sent.{CanBeRead}
 use Rattle.model_device.specs.Meaning.{Meaning}
 use Rattle.redir_host.specs.declared.state.host.Host.{Host}

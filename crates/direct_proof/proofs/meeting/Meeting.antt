@@ -4,6 +4,7 @@ use Rattle.std.specs.List.{list_any, AllByRecursion as Each}
 use Rattle.std.proofs.lemmas.Bool.{both_ways, or_right}
 use Rattle.std.proofs.lemmas.List.Folds.{list_any-append}
 use Rattle.std.proofs.lemmas.List.{map-append}
+use Rattle.redir_wire.specs.State.{later}
 use Rattle.redir_data.specs.declared.packet.RedirPacket.{RedirPacket}
 use Rattle.model_device.specs.Meaning.{Meaning}
 use Rattle.redir_host.specs.declared.state.host.Host.{Host}
@@ -46,7 +47,7 @@ keep-hello {S = S} m w j rel fresh = go w.host.unplugged refl
     early = rel.before fresh
 
     g : Host S
-    g = record w.host { guest = record { first = false; caps = both_caps } }
+    g = record w.host { guest = later both_caps }
 
     unknown : is_announced w j ≡ true → ⊥
     unknown h = by (is_some w.gate.facts.connect) refl h

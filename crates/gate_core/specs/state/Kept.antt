@@ -1,8 +1,8 @@
 -- What a gate keeps of all that has come.
 use Rattle.std.specs.Prelude.{Bool}
 use Rattle.packet_stream.specs.Streams.{StreamView}
-use Rattle.redir_data.specs.declared.state.RedirState.{RedirState}
 use Rattle.gate_core.specs.declared.state.kept.Kept.{Kept}
+use Rattle.redir_wire.specs.declared.state.RedirState.{RedirState}
 
 pub record GateKept : Type 0 where
   -- what the code keeps of the items that have come; `Holds` says what each part is

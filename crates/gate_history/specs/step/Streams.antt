@@ -4,9 +4,9 @@ use Rattle.packet_stream.specs.Split.{Reader, Position, reads}
 use Rattle.usbip_urb.specs.declared.client.ClientPacket.{ClientPacket}
 use Rattle.usbip_urb.specs.ClientPackets.{client_packets}
 use Rattle.redir_wire.specs.declared.packet.Way.TheVariants.{ToGuest}
+use Rattle.redir_wire.specs.declared.state.RedirState.{RedirState}
 use Rattle.redir_wire.specs.declared.packet.Header.{Header}
 use Rattle.redir_data.specs.declared.packet.RedirPacket.{RedirPacket}
-use Rattle.redir_data.specs.declared.state.RedirState.{RedirState}
 use Rattle.redir_data.specs.Streams.{after, stream_format}
 
 -- ---- the client's: nothing that was read decides how its next packet is read

@@ -13,7 +13,7 @@ ghost use Rattle.gate_history.specs.state.Flight.{wide_ids};
 
 use control_route::Route;
 use redir_data::{RedirData, StreamKind};
-use redir_wire::{Caps, DataKind, PlainKind, RedirControl, header_size};
+use redir_wire::{Caps, DataKind, PlainKind, RedirControl, RedirState, header_size};
 use std::alloc::Global;
 use unlink_race::{Live, LiveKind};
 use usb_base::{
@@ -293,5 +293,5 @@ pub fn stream_packet(packet: RedirData) -> StreamPacket
 pub fn head_size(caps: Caps) -> u64
     ensures { result ≡ head_size (wide_ids caps) }
 {
-    header_size(false, caps) as u64
+    header_size(RedirState { first: false, caps }) as u64
 }

@@ -4,10 +4,10 @@ use Rattle.usb_base.specs.declared.reason.Reason.{Reason}
 use Rattle.packet_stream.specs.Split.{Reader, Splitting, reads, split}
 use Rattle.packet_stream.specs.Streams.{capped}
 use Rattle.packet_stream.specs.Items.{items_of}
+use Rattle.redir_wire.specs.declared.state.RedirState.{RedirState}
 use Rattle.redir_wire.specs.declared.packet.Header.{Header}
 use Rattle.redir_wire.specs.declared.packet.Way.TheVariants.{ToHost}
 use Rattle.redir_data.specs.declared.packet.RedirPacket.{RedirPacket}
-use Rattle.redir_data.specs.declared.state.RedirState.{RedirState}
 use Rattle.redir_data.specs.Streams.{after, stream_format, stream_start}
 use Rattle.redir_host.specs.step.Items.{Item, Asked, Wrong}
 

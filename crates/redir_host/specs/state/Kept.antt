@@ -1,8 +1,8 @@
 -- What a host core keeps, as plain data.
 use Rattle.std.specs.Prelude.{Bool}
 use Rattle.packet_stream.specs.Streams.{StreamView as Stream}
-use Rattle.redir_data.specs.declared.state.RedirState.{RedirState}
 use Rattle.redir_host.specs.declared.state.host.Host.{Host}
+use Rattle.redir_wire.specs.declared.state.RedirState.{RedirState}
 
 pub record HostKept (S : Type 0) : Type 0 where
   -- the guest's bytes that are no whole packet yet

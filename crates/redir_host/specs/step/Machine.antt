@@ -4,8 +4,8 @@ use Rattle.std.specs.Prelude.{ℕ, Bool, true, false, List, [], ◌∷◌}
 use Rattle.std.specs.List.{flat_map}
 use Rattle.packet_stream.specs.Folds.{rfold}
 use Rattle.packet_stream.specs.Outputs.{past_outputs, outputs}
+use Rattle.redir_wire.specs.State.{start}
 use Rattle.redir_data.specs.Sent.{sent_packet_bytes}
-use Rattle.redir_data.specs.Streams.{start}
 use Rattle.model_device.specs.Meaning.{Meaning}
 use Rattle.redir_host.specs.declared.state.host.Host.{Host}
 use Rattle.redir_host.specs.declared.write.note.HostNote.{HostNote}

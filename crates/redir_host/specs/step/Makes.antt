@@ -4,15 +4,16 @@ use Rattle.std.specs.List.{flat_map, AllByRecursion}
 use Rattle.usb_base.specs.declared.endpoint.EpTable.{EpTable}
 use Rattle.usb_base.specs.declared.transfer.Outcome.{Outcome}
 use Rattle.redir_wire.specs.declared.packet.Caps.{Caps}
+use Rattle.redir_wire.specs.declared.state.RedirState.{RedirState}
 use Rattle.redir_wire.specs.declared.packet.Header.{Header}
 use Rattle.redir_wire.specs.declared.packet.Way.TheVariants.{ToGuest, ToHost}
 use Rattle.redir_wire.specs.declared.packet.RedirControl.{RedirControl}
 use Rattle.redir_wire.specs.declared.packet.TheConstants.Caps.{WIDE_BULK_LENGTH}
 use Rattle.redir_wire.specs.Capability.{has}
-use Rattle.redir_wire.specs.Header.{is_wide, IdFits}
+use Rattle.redir_wire.specs.State.{is_wide, later}
+use Rattle.redir_wire.specs.Header.{IdFits}
 use Rattle.redir_wire.specs.Spelling.{is_hello}
 use Rattle.redir_data.specs.declared.packet.RedirPacket.{RedirPacket}
-use Rattle.redir_data.specs.declared.state.RedirState.{RedirState}
 use Rattle.redir_data.specs.Ranges.{BulkLengthFits}
 use Rattle.redir_data.specs.Spelling.{data_count}
 use Rattle.redir_data.specs.Streams.{stream_format}
@@ -59,7 +60,7 @@ IsTaken guest h p = (stream_format ToHost guest).Fits (h, p)
 
 -- only a hello may have an id of another width
 abbrev pub IdFitsOf : Caps → ℕ → RedirControl → Type 0
-IdFitsOf caps id p = is_hello p ≡ false → IdFits (is_wide false caps) id
+IdFitsOf caps id p = is_hello p ≡ false → IdFits (is_wide (later caps)) id
 
 -- the bytes of the answers of those that a change flushes
 abbrev pub flushed_bytes : Caps → Route → EpTable → List Request → List ℕ

@@ -4,10 +4,11 @@ use Rattle.usb_base.specs.Number.{AreBytes}
 use Rattle.usb_base.specs.declared.reason.Reason.{Reason}
 use Rattle.packet_stream.specs.Split.{Splitting}
 use Rattle.packet_stream.specs.Streams.{StreamView as Stream, Drained}
+use Rattle.redir_wire.specs.declared.state.RedirState.{RedirState}
 use Rattle.redir_wire.specs.declared.packet.Header.{Header}
+use Rattle.redir_wire.specs.State.{start}
 use Rattle.redir_data.specs.declared.packet.RedirPacket.{RedirPacket}
-use Rattle.redir_data.specs.declared.state.RedirState.{RedirState}
-use Rattle.redir_data.specs.Streams.{start, after}
+use Rattle.redir_data.specs.Streams.{after}
 use Rattle.model_device.specs.Meaning.{Meaning}
 use Rattle.redir_host.specs.state.Kept.{HostKept}
 use Rattle.redir_host.specs.declared.state.host.Host.{Host}

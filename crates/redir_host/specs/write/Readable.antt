@@ -4,10 +4,10 @@ use Rattle.std.specs.List.{AllByRecursion}
 use Rattle.redir_wire.specs.declared.packet.RedirControl.{RedirControl}
 use Rattle.redir_wire.specs.declared.packet.RedirControl.TheVariants as plain
 use Rattle.redir_wire.specs.declared.packet.Way.TheVariants.{ToGuest}
+use Rattle.redir_wire.specs.declared.state.RedirState.{RedirState}
 use Rattle.redir_wire.specs.Ranges.{Ranges}
 use Rattle.redir_data.specs.declared.packet.RedirPacket.{RedirPacket}
 use Rattle.redir_data.specs.declared.packet.RedirPacket.TheVariants.{Plain, Carrying}
-use Rattle.redir_data.specs.declared.state.RedirState.{RedirState}
 use Rattle.redir_data.specs.Sent.{CanBeRead}
 use Rattle.redir_data.specs.Streams.{advanced}
 use Rattle.model_device.specs.Meaning.{Meaning}

@@ -6,7 +6,7 @@ ghost use Rattle.redir_host.specs.state.Sound.{IsSound};
 
 use crate::state::queue::Queue;
 use crate::state::running::Streams;
-use redir_data::RedirState;
+use redir_wire::RedirState;
 use std::alloc::Global;
 
 /// The device, and what its guest has asked of it.

@@ -10,7 +10,8 @@ use crate::step::taker::GuestTaker;
 use crate::write::note::HostNotes;
 use model_device::Gadget;
 use packet_stream::{Stream, take_piece};
-use redir_data::{FromGuest, RedirState};
+use redir_data::FromGuest;
+use redir_wire::RedirState;
 use std::alloc::Global;
 use usb_base::{Bytes, Memory};
 

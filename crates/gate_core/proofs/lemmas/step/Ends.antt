@@ -6,8 +6,9 @@ use Rattle.packet_stream.specs.Format.{Format, IsSound, Short, reading}
 use Rattle.packet_stream.specs.Split.{Position, Splitting, reads}
 use Rattle.packet_stream.specs.Streams.{StreamView, ended, capped}
 use Rattle.redir_wire.specs.declared.packet.Way.TheVariants.{ToGuest}
-use Rattle.redir_data.specs.declared.state.RedirState.{RedirState}
-use Rattle.redir_data.specs.Streams.{start, after, stream_format, stream_start}
+use Rattle.redir_wire.specs.declared.state.RedirState.{RedirState}
+use Rattle.redir_wire.specs.State.{start}
+use Rattle.redir_data.specs.Streams.{after, stream_format, stream_start}
 use Rattle.redir_data.specs.sound.Joined.{stream_sound}
 use Rattle.redir_data.proofs.Awaits.{four_quiet}
 use Rattle.usbip_urb.specs.Sound.ClientPackets.{client_packets_sound}

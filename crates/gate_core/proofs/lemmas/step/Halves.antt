@@ -7,9 +7,9 @@ use Rattle.packet_stream.specs.Streams.{StreamView, passed, Follows, Nexts, Chan
 use Rattle.packet_stream.specs.Items.{added, onto}
 use Rattle.packet_stream.proofs.Pieces.{SideStream, items}
 use Rattle.usbip_urb.specs.declared.client.ClientPacket.{ClientPacket}
+use Rattle.redir_wire.specs.declared.state.RedirState.{RedirState}
 use Rattle.redir_wire.specs.declared.packet.Header.{Header}
 use Rattle.redir_data.specs.declared.packet.RedirPacket.{RedirPacket}
-use Rattle.redir_data.specs.declared.state.RedirState.{RedirState}
 use Rattle.gate_history.specs.declared.item.Item.{Item}
 use Rattle.gate_history.specs.step.Came.{asked, told}
 use Rattle.gate_history.specs.step.Fits.{IsItem, ItemFits}

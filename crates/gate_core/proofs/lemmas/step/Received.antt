@@ -8,9 +8,9 @@ use Rattle.usb_base.specs.Number.{AreBytes}
 use Rattle.usb_base.proofs.Numbers.{AreBytes-take}
 use Rattle.packet_stream.specs.Streams.{StreamView}
 use Rattle.packet_stream.specs.Takers.{TakenStream, TakesCome, TakesPiece as TakesBytes}
+use Rattle.redir_wire.specs.declared.state.RedirState.{RedirState}
 use Rattle.redir_wire.specs.declared.packet.Header.{Header}
 use Rattle.redir_data.specs.declared.packet.RedirPacket.{RedirPacket}
-use Rattle.redir_data.specs.declared.state.RedirState.{RedirState}
 use Rattle.usbip_urb.specs.declared.client.ClientPacket.{ClientPacket}
 use Rattle.gate_history.specs.declared.note.Note.{Note}
 use Rattle.gate_history.specs.step.Events.{Event, ClientPiece, HostPiece}

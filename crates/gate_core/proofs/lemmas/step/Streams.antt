@@ -8,9 +8,9 @@ use Rattle.packet_stream.specs.Split.{Reader, Splitting, split}
 use Rattle.packet_stream.specs.Streams.{StreamView, Left, FollowsBy, Nexts, capped}
 use Rattle.packet_stream.proofs.Following.{follows-front}
 use Rattle.redir_wire.specs.declared.packet.Caps.{Caps}
+use Rattle.redir_wire.specs.declared.state.RedirState.{RedirState}
 use Rattle.redir_wire.specs.declared.packet.Header.{Header}
 use Rattle.redir_data.specs.declared.packet.RedirPacket.{RedirPacket}
-use Rattle.redir_data.specs.declared.state.RedirState.{RedirState}
 use Rattle.redir_data.specs.Packets.{takes_memory as told_takes_memory}
 use Rattle.usbip_urb.specs.ClientPackets.{takes_memory as asked_takes_memory, client_packets}
 use Rattle.usbip_urb.specs.Sound.ClientPackets.{client_packets_sound}

@@ -3,13 +3,13 @@ use Rattle.std.proofs.Common.{ℕ, ◌≤◌, List, [], ◌∷◌, sym, subst}
 use Rattle.usbip_urb.specs.declared.packet.UrbPacket.TheVariants as urb
 use Rattle.usbip_urb.specs.declared.client.ClientPacket.TheVariants.{Op, Urb}
 use Rattle.usb_base.specs.declared.limits.TheConstants.{MAX_PACKETS}
-use Rattle.redir_data.specs.declared.state.RedirState.{RedirState}
 use Rattle.gate_history.specs.declared.item.Item.{Item}
 use Rattle.gate_history.specs.declared.item.Item.TheVariants.{Asked, ClientWrong, ClientLeft, Told, HostWrong, HostLeft}
 use Rattle.gate_history.specs.state.Sound.{HasFewPackets, DrawFresh}
 use Rattle.gate_history.proofs.lemmas.step.Rests.{counted}
 use Rattle.gate_history.proofs.lemmas.state.Flights.{item-fresh}
 use Rattle.gate_history.proofs.lemmas.write.EventsRead.{heard, ComesNow, CanCome}
+use Rattle.redir_wire.specs.declared.state.RedirState.{RedirState}
 
 few : (s : RedirState) (x : Item) → ComesNow s x → HasFewPackets x
 few s (Asked place (Op p)) comes = tt

@@ -9,14 +9,15 @@ use Rattle.packet_stream.specs.Format.{Format, IsSound}
 use Rattle.packet_stream.specs.Split.{Position, past as behind, Spells, reads, split}
 use Rattle.packet_stream.proofs.Splits.{is_splitting}
 use Rattle.redir_wire.specs.declared.packet.Caps.{Caps}
+use Rattle.redir_wire.specs.declared.state.RedirState.{RedirState}
 use Rattle.redir_wire.specs.declared.packet.Header.{Header}
 use Rattle.redir_wire.specs.declared.packet.RedirControl.TheVariants as plain
 use Rattle.redir_wire.specs.declared.packet.Way.TheVariants.{ToGuest}
+use Rattle.redir_wire.specs.State.{start}
 use Rattle.redir_wire.specs.Header.{IdFits}
 use Rattle.redir_data.specs.declared.packet.RedirPacket.{RedirPacket}
 use Rattle.redir_data.specs.declared.packet.RedirPacket.TheVariants.{Plain, Carrying}
-use Rattle.redir_data.specs.declared.state.RedirState.{RedirState}
-use Rattle.redir_data.specs.Streams.{start, advanced, after, stream_format, stream_start}
+use Rattle.redir_data.specs.Streams.{advanced, after, stream_format, stream_start}
 use Rattle.redir_data.specs.sound.Joined.{stream_sound}
 use Rattle.gate_history.specs.step.Streams.{host_reader}
 use Rattle.gate_history.specs.declared.item.Item.{Item}

@@ -18,11 +18,12 @@ use Rattle.usbip_urb.specs.declared.packet.UrbPacket.TheVariants as urb
 use Rattle.usbip_urb.specs.ClientPackets.{client_packets}
 use Rattle.usbip_urb.specs.Spelling.{words, submit_words, descs_bytes}
 use Rattle.usbip_urb.specs.Sound.ClientPackets.{client_packets_sound}
+use Rattle.redir_wire.specs.declared.state.RedirState.{RedirState}
 use Rattle.redir_wire.specs.declared.packet.Header.{Header}
 use Rattle.redir_wire.specs.declared.packet.Way.TheVariants.{ToGuest}
+use Rattle.redir_wire.specs.State.{start}
 use Rattle.redir_data.specs.declared.packet.RedirPacket.{RedirPacket}
-use Rattle.redir_data.specs.declared.state.RedirState.{RedirState}
-use Rattle.redir_data.specs.Streams.{start, after, stream_format, stream_start}
+use Rattle.redir_data.specs.Streams.{after, stream_format, stream_start}
 use Rattle.redir_data.specs.sound.Joined.{stream_sound}
 use Rattle.redir_data.proofs.Awaits.{four_quiet}
 use Rattle.gate_history.specs.step.Events.{Event, ClientPiece, ClientEnd, HostPiece, HostEnd, client_bytes, host_bytes}

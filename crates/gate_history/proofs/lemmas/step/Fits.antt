@@ -1,18 +1,19 @@
 -- A packet that is next in a stream fits its format, and so the translator can take it.
 use Rattle.std.proofs.Common.{◌≡◌, ℕ, Bool, true, false, refl, sym, subst, arith}
 use Rattle.redir_wire.specs.declared.packet.Caps.{Caps}
+use Rattle.redir_wire.specs.declared.state.RedirState.{RedirState}
 use Rattle.redir_wire.specs.declared.packet.Header.{Header}
 use Rattle.redir_wire.specs.declared.packet.RedirControl.{RedirControl}
 use Rattle.redir_wire.specs.declared.packet.RedirControl.TheVariants as plain
 use Rattle.redir_wire.specs.Capability.{no_caps}
-use Rattle.redir_wire.specs.Header.{IdFits, is_wide}
+use Rattle.redir_wire.specs.State.{is_wide}
+use Rattle.redir_wire.specs.Header.{IdFits}
 use Rattle.redir_wire.proofs.Says.{is_in_turn, header_says}
 use Rattle.redir_wire.specs.Spelling.{number_of}
 use Rattle.redir_data.specs.declared.packet.RedirData.{RedirData}
 use Rattle.redir_data.specs.declared.packet.RedirData.TheVariants as moving
 use Rattle.redir_data.specs.declared.packet.RedirPacket.{RedirPacket}
 use Rattle.redir_data.specs.declared.packet.RedirPacket.TheVariants.{Plain, Carrying}
-use Rattle.redir_data.specs.declared.state.RedirState.{RedirState}
 use Rattle.redir_wire.specs.declared.packet.Way.TheVariants.{ToGuest}
 use Rattle.redir_data.specs.Spelling as carrying
 use Rattle.redir_data.specs.Ranges.{HasItsData}
@@ -29,7 +30,7 @@ pub record IsInStep (s : RedirState) (caps : Caps) : Type 0 where
   pub caps_are : s.caps ≡ caps
   pub none_yet : s.first ≡ true → caps ≡ no_caps
 
-id_fits_by : (first : Bool) (its caps : Caps) (id : ℕ) → its ≡ caps → (first ≡ true → caps ≡ no_caps) → IdFits (is_wide first its) id → IdFits (wide_ids caps) id
+id_fits_by : (first : Bool) (its caps : Caps) (id : ℕ) → its ≡ caps → (first ≡ true → caps ≡ no_caps) → IdFits (is_wide (record { first = first; caps = its })) id → IdFits (wide_ids caps) id
 id_fits_by true its caps id same none fits = subst (λ (c : Caps). IdFits (wide_ids c) id) (sym (none refl)) fits
 id_fits_by false its caps id same none fits = subst (λ (c : Caps). IdFits (wide_ids c) id) same fits
 

@@ -25,15 +25,15 @@ use Rattle.usbip_urb.specs.Sizes.{is_out, body_size, count_of, whole_size}
 use Rattle.usbip_urb.specs.Sound.ClientPackets.{client_packets_sound}
 use Rattle.usbip_urb.specs.Sound.Limits.{limits_found}
 use Rattle.redir_wire.specs.declared.packet.Way.TheVariants.{ToGuest}
-use Rattle.redir_wire.specs.declared.packet.Caps.{Caps}
-use Rattle.redir_wire.specs.Header.{is_wide, head_size}
+use Rattle.redir_wire.specs.declared.state.RedirState.{RedirState}
+use Rattle.redir_wire.specs.State.{is_wide}
+use Rattle.redir_wire.specs.Header.{head_size}
 use Rattle.redir_wire.specs.Bodies.{Bodies, packets}
 use Rattle.redir_wire.proofs.Headers.{size}
 use Rattle.redir_wire.proofs.Packets.{limit_there}
 use Rattle.redir_wire.specs.Plain.{controls, plain}
 use Rattle.redir_data.specs.Carrying.{transfers, carrying}
 use Rattle.redir_data.specs.Packets.{begins_plain}
-use Rattle.redir_data.specs.declared.state.RedirState.{RedirState}
 use Rattle.redir_data.specs.Streams.{after, stream_format, stream_start}
 use Rattle.redir_data.specs.sound.Joined.{stream_sound}
 use Rattle.gate_history.specs.step.Events.{Event, client_bytes, host_bytes}
@@ -128,18 +128,18 @@ head-most : (wide : Bool) → head_size wide ≤ 16
 head-most true = omega arith
 head-most false = omega arith
 
-bodies-short : {P : Type 0} (f : Bodies P) (first : Bool) (caps : Caps) (b : List ℕ) → wrong_at (packets f first caps ToGuest).checks b ≡ None → length b < size (is_wide first caps) b → length b ≤ 16777295
-bodies-short f first caps b right short = go (nat_lt (length b) 8) refl short
+bodies-short : {P : Type 0} (f : Bodies P) (s : RedirState) (b : List ℕ) → wrong_at (packets f s ToGuest).checks b ≡ None → length b < size (is_wide s) b → length b ≤ 16777295
+bodies-short f s b right short = go (nat_lt (length b) 8) refl short
   where
-    go : (t : Bool) → nat_lt (length b) 8 ≡ t → length b < cond t (head_size (is_wide first caps)) (head_size (is_wide first caps) + le_at w32 4 b) → length b ≤ 16777295
-    go true e h = omega (arith, head-most (is_wide first caps))
-    go false e h = let limit = leb-true (le_at w32 4 b) 16777280 (limit_there f first caps ToGuest b right (ltb-false (length b) 8 e)) in omega (arith, limit, head-most (is_wide first caps))
+    go : (t : Bool) → nat_lt (length b) 8 ≡ t → length b < cond t (head_size (is_wide s)) (head_size (is_wide s) + le_at w32 4 b) → length b ≤ 16777295
+    go true e h = omega (arith, head-most (is_wide s))
+    go false e h = let limit = leb-true (le_at w32 4 b) 16777280 (limit_there f s ToGuest b right (ltb-false (length b) 8 e)) in omega (arith, limit, head-most (is_wide s))
 
 host-short : (s : RedirState) (b : List ℕ) → wrong_at (stream_format ToGuest s).checks b ≡ None → length b < (stream_format ToGuest s).size b → length b ≤ 16777295
 host-short s b right short =
     elim (cases_Bool (begins_plain b)) [
-      | inl plainly ↦ bodies-short (controls s.caps) s.first s.caps b (sym (joined-left begins_plain (plain s.first s.caps ToGuest) (carrying s.first s.caps ToGuest) b plainly) ∙ right) (rw plainly at short)
-      | inr other ↦ bodies-short (transfers s.caps ToGuest) s.first s.caps b (sym (joined-right begins_plain (plain s.first s.caps ToGuest) (carrying s.first s.caps ToGuest) b other) ∙ right) (rw other at short)
+      | inl plainly ↦ bodies-short (controls s.caps) s b (sym (joined-left begins_plain (plain s ToGuest) (carrying s ToGuest) b plainly) ∙ right) (rw plainly at short)
+      | inr other ↦ bodies-short (transfers s.caps ToGuest) s b (sym (joined-right begins_plain (plain s ToGuest) (carrying s ToGuest) b other) ∙ right) (rw other at short)
     ]
 
 pub host-rest : (bytes : List ℕ) → AreBytes bytes → length (host_split bytes).rest ≤ 16777295

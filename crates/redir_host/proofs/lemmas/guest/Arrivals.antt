@@ -9,9 +9,9 @@ use Rattle.packet_stream.specs.Split.{Splitting, split, further_by}
 use Rattle.packet_stream.specs.Items.{items_of, added, onto}
 use Rattle.packet_stream.proofs.Laws.{split-more}
 use Rattle.packet_stream.proofs.Pieces.{wrongs}
+use Rattle.redir_wire.specs.declared.state.RedirState.{RedirState}
 use Rattle.redir_wire.specs.declared.packet.Header.{Header}
 use Rattle.redir_data.specs.declared.packet.RedirPacket.{RedirPacket}
-use Rattle.redir_data.specs.declared.state.RedirState.{RedirState}
 use Rattle.redir_host.specs.step.Acts.{Act, Piece, Perform, Offer, Unplug, guest_bytes}
 use Rattle.redir_data.specs.Streams.{stream_start}
 use Rattle.redir_host.specs.guest.Guest.{guest_reader, guest_split, guest_items}

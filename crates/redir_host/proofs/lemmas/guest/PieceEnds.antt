@@ -12,12 +12,13 @@ use Rattle.packet_stream.specs.declared.read.ReadError.TheVariants.{Refused as I
 use Rattle.packet_stream.specs.Items.{added}
 use Rattle.packet_stream.proofs.Following.{follows-front}
 use Rattle.packet_stream.proofs.Pieces.{wrongs, added-right, added-wrong, added-front}
+use Rattle.redir_wire.specs.declared.state.RedirState.{RedirState}
 use Rattle.redir_wire.specs.declared.packet.Header.{Header}
+use Rattle.redir_wire.specs.State.{start}
 use Rattle.redir_data.specs.Packets.{takes_memory as redir_takes_memory}
 use Rattle.redir_data.specs.declared.packet.RedirPacket.{RedirPacket}
 use Rattle.redir_data.specs.declared.packet.RedirPacket.TheVariants.{Plain, Carrying}
-use Rattle.redir_data.specs.declared.state.RedirState.{RedirState}
-use Rattle.redir_data.specs.Streams.{start, stream_start}
+use Rattle.redir_data.specs.Streams.{stream_start}
 use Rattle.model_device.specs.Gadget.{IsGadget}
 use Rattle.model_device.specs.Meaning.{Meaning}
 use Rattle.redir_host.specs.declared.state.host.Host.{Host}

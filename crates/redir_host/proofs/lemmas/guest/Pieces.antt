@@ -16,12 +16,13 @@ use Rattle.packet_stream.proofs.Laws.{IsSteady, reads_steady, split-more}
 use Rattle.packet_stream.proofs.Pieces.{SideStream, added-wrong, added-none}
 use Rattle.packet_stream.proofs.Splits.{is_splitting}
 use Rattle.packet_stream.proofs.Takers.{reaches-keeps, piece-keeps}
+use Rattle.redir_wire.specs.declared.state.RedirState.{RedirState}
 use Rattle.redir_wire.specs.declared.packet.Header.{Header}
 use Rattle.redir_wire.specs.declared.packet.Way.TheVariants.{ToHost}
+use Rattle.redir_wire.specs.State.{start}
 use Rattle.redir_data.specs.Packets.{takes_memory as redir_takes_memory}
 use Rattle.redir_data.specs.declared.packet.RedirPacket.{RedirPacket}
-use Rattle.redir_data.specs.declared.state.RedirState.{RedirState}
-use Rattle.redir_data.specs.Streams.{start, after, stream_format, stream_start}
+use Rattle.redir_data.specs.Streams.{after, stream_format, stream_start}
 use Rattle.redir_data.specs.sound.Joined.{stream_sound}
 use Rattle.model_device.specs.Gadget.{IsGadget}
 use Rattle.model_device.specs.Meaning.{Meaning}

@@ -8,17 +8,18 @@ use Rattle.usb_base.specs.declared.endpoint.EpTable.{EpTable}
 use Rattle.usb_base.specs.declared.setup.Setup.{Setup}
 use Rattle.usb_base.specs.declared.transfer.Transfer.{Transfer}
 use Rattle.redir_wire.specs.declared.packet.Caps.{Caps}
+use Rattle.redir_wire.specs.declared.state.RedirState.{RedirState}
 use Rattle.redir_wire.specs.declared.packet.Header.{Header}
 use Rattle.redir_wire.specs.declared.packet.RedirControl.{RedirControl}
 use Rattle.redir_wire.specs.declared.packet.RedirControl.TheVariants as plain
 use Rattle.redir_wire.specs.declared.packet.Way.TheVariants.{ToHost}
-use Rattle.redir_wire.specs.Header.{IdFits, is_wide}
+use Rattle.redir_wire.specs.State.{is_wide, later}
+use Rattle.redir_wire.specs.Header.{IdFits}
 use Rattle.redir_wire.proofs.Says.{is_in_turn, header_says}
 use Rattle.redir_data.specs.declared.packet.RedirData.{RedirData}
 use Rattle.redir_data.specs.declared.packet.RedirData.TheVariants as moving
 use Rattle.redir_data.specs.declared.packet.RedirPacket.{RedirPacket}
 use Rattle.redir_data.specs.declared.packet.RedirPacket.TheVariants.{Plain, Carrying}
-use Rattle.redir_data.specs.declared.state.RedirState.{RedirState}
 use Rattle.redir_data.specs.Ranges.{IsData}
 use Rattle.redir_data.specs.Spelling.{data_count, number_of as data_number}
 use Rattle.redir_data.specs.Streams.{advanced}
@@ -110,7 +111,7 @@ record CanJoin (caps : Caps) (id : ℕ) (f : Form) (t : Transfer) : Type 0 where
   pub wanted_fits : WantedFits caps f t.wanted
   pub form_fits : FormFits f
 
-joins-keeps : {S : Type 0} (h : Host S) (id : ℕ) (f : Form) (t : Transfer) → IsSound h → h.guest.first ≡ false → IdFits (is_wide false h.guest.caps) id → CanJoin h.guest.caps id f t → Keeps h (queued h (is_control t.ep) id f t)
+joins-keeps : {S : Type 0} (h : Host S) (id : ℕ) (f : Form) (t : Transfer) → IsSound h → h.guest.first ≡ false → IdFits (is_wide (later h.guest.caps)) id → CanJoin h.guest.caps id f t → Keeps h (queued h (is_control t.ep) id f t)
 joins-keeps h id f t sound greeted fits can = record {
   guest = refl;
   sound = record {
@@ -126,18 +127,18 @@ joins-keeps h id f t sound greeted fits can = record {
   };
 }
 
-asked-keeps : {S : Type 0} (h : Host S) (id : ℕ) (b : Bool) (f : Form) (t : Transfer) → IsSound h → h.guest.first ≡ false → IdFits (is_wide false h.guest.caps) id → (b ≡ true → CanJoin h.guest.caps id f t) → Keeps h (data_move h id (asked_if b f t)).host
+asked-keeps : {S : Type 0} (h : Host S) (id : ℕ) (b : Bool) (f : Form) (t : Transfer) → IsSound h → h.guest.first ≡ false → IdFits (is_wide (later h.guest.caps)) id → (b ≡ true → CanJoin h.guest.caps id f t) → Keeps h (data_move h id (asked_if b f t)).host
 asked-keeps h id true f t sound greeted fits can = joins-keeps h id f t sound greeted fits (can refl)
 asked-keeps h id false f t sound greeted fits can = record { guest = refl; sound = sound }
 
-interrupt-keeps : {S : Type 0} (h : Host S) (id ep told : ℕ) (body : List ℕ) (b : Bool) → IsSound h → h.guest.first ≡ false → IdFits (is_wide false h.guest.caps) id → told < 2 ^ 16 → length body ≡ data_count ToHost ep told →
+interrupt-keeps : {S : Type 0} (h : Host S) (id ep told : ℕ) (body : List ℕ) (b : Bool) → IsSound h → h.guest.first ≡ false → IdFits (is_wide (later h.guest.caps)) id → told < 2 ^ 16 → length body ≡ data_count ToHost ep told →
     Keeps h (data_move h id (cond b Nothing (asked_if (is_other ep) form.Interrupt (record { ep = ep; setup = None; wanted = told; body = body })))).host
 interrupt-keeps h id ep told body true sound greeted fits few there = record { guest = refl; sound = sound }
 interrupt-keeps h id ep told body false sound greeted fits few there =
     asked-keeps h id (is_other ep) form.Interrupt (record { ep = ep; setup = None; wanted = told; body = body }) sound greeted fits
     (λ other. record { transfer = other-transfer ep told body other there; wanted_fits = few; form_fits = tt })
 
-data-keeps : {S : Type 0} (h : Host S) (id : ℕ) (d : RedirData) → IsSound h → h.guest.first ≡ false → IdFits (is_wide false h.guest.caps) id → IsData h.guest.caps ToHost d → Keeps h (data_move h id (asking_of d)).host
+data-keeps : {S : Type 0} (h : Host S) (id : ℕ) (d : RedirData) → IsSound h → h.guest.first ≡ false → IdFits (is_wide (later h.guest.caps)) id → IsData h.guest.caps ToHost d → Keeps h (data_move h id (asking_of d)).host
 data-keeps h id (moving.Control ep asked kind status value index told body) sound greeted fits is =
     let setup : Setup = record { kind = kind; request = asked; value = value; index = index; length = told } in
     asked-keeps h id (ep == cond (nat_lt kind 128) 0 128) (form.Control setup) (record { ep = ep; setup = Some setup; wanted = told; body = body }) sound greeted fits
@@ -200,10 +201,10 @@ started-in table k ep can = (and_parts (is_in_endpoint ep) (is_kind_of k (row_of
 
 -- ---- packets that move no data
 
-routed-keeps : {S : Type 0} (h : Host S) (id : ℕ) (f : Form) (t : Transfer) → IsSound h → h.guest.first ≡ false → IdFits (is_wide false h.guest.caps) id → IsRouted t → (t.wanted < 2 ^ 16 → WantedFits h.guest.caps f t.wanted) → FormFits f → Keeps h (queued h (is_control t.ep) id f t)
+routed-keeps : {S : Type 0} (h : Host S) (id : ℕ) (f : Form) (t : Transfer) → IsSound h → h.guest.first ≡ false → IdFits (is_wide (later h.guest.caps)) id → IsRouted t → (t.wanted < 2 ^ 16 → WantedFits h.guest.caps f t.wanted) → FormFits f → Keeps h (queued h (is_control t.ep) id f t)
 routed-keeps h id f t sound greeted fits is few form = joins-keeps h id f t sound greeted fits (record { transfer = is.transfer; wanted_fits = few is.few; form_fits = form })
 
-plain-keeps : {S : Type 0} (m : Meaning S) (h : Host S) (id : ℕ) (c : RedirControl) → IsSound h → h.guest.first ≡ false → IdFits (is_wide false h.guest.caps) id → Keeps h (packet_move_by m h id (Plain c)).host
+plain-keeps : {S : Type 0} (m : Meaning S) (h : Host S) (id : ℕ) (c : RedirControl) → IsSound h → h.guest.first ≡ false → IdFits (is_wide (later h.guest.caps)) id → Keeps h (packet_move_by m h id (Plain c)).host
 plain-keeps m h id plain.Reset sound greeted fits = record { guest = refl; sound = record { requests = sound.requests; streams = sound.streams } }
 plain-keeps m h id (plain.SetConfiguration configuration) sound greeted fits =
     routed-keeps h id (form.SetConfiguration configuration) (routed (route.SetConfig configuration)) sound greeted fits (routed-set configuration) (λ few. few) tt
@@ -227,9 +228,9 @@ keeps-all h v true sound k = record { guest = refl; sound = sound }
 keeps-all h v false sound k = k
 
 -- a packet other than the hello comes behind it
-pub later : (first : Bool) (kind number : ℕ) → is_in_turn first kind ≡ true → kind ≡ number → (number == 0) ≡ false → first ≡ false
-later true kind number turn is other = absurd (true≢false (sym turn ∙ ap (λ (n : ℕ). n == 0) is ∙ other))
-later false kind number turn is other = refl
+pub has_come : (first : Bool) (kind number : ℕ) → is_in_turn first kind ≡ true → kind ≡ number → (number == 0) ≡ false → first ≡ false
+has_come true kind number turn is other = absurd (true≢false (sym turn ∙ ap (λ (n : ℕ). n == 0) is ∙ other))
+has_come false kind number turn is other = refl
 
 pub earlier : (first : Bool) (kind : ℕ) → is_in_turn first kind ≡ true → kind ≡ 0 → first ≡ true
 earlier true kind turn is = refl
@@ -244,9 +245,9 @@ hello-sound h guest sound first = record {
 
 later-plain : {S : Type 0} (m : Meaning S) (h : Host S) (header : Header) (c : RedirControl) (number : ℕ) → IsSound h → IsTaken h.guest header (Plain c) → header.kind ≡ number → (number == 0) ≡ false → Keeps h (cond h.unplugged (quiet h) (packet_move_by m h header.id (Plain c))).host
 later-plain m h header c number sound is kind other =
-    let greeted = later h.guest.first header.kind number (header_says is.header).in_turn kind other in
+    let greeted = has_come h.guest.first header.kind number (header_says is.header).in_turn kind other in
     keeps-all h (packet_move_by m h header.id (Plain c)) h.unplugged sound
-    (plain-keeps m h header.id c sound greeted (subst (λ (b : Bool). IdFits (is_wide b h.guest.caps) header.id) greeted is.header.id_fits))
+    (plain-keeps m h header.id c sound greeted (subst (λ (b : Bool). IdFits (is_wide (record { first = b; caps = h.guest.caps })) header.id) greeted is.header.id_fits))
 
 -- a packet that moves data is no hello
 pub carried : (d : RedirData) (number : ℕ) → number ≡ data_number d → (number == 0) ≡ false
@@ -280,6 +281,6 @@ keeps-packet m h header (Plain (plain.InterruptStatus status ep)) sound is = lat
 keeps-packet m h header (Plain plain.Cancel) sound is = later-plain m h header plain.Cancel 21 sound is is.kind refl
 keeps-packet m h header (Plain plain.DisconnectAck) sound is = later-plain m h header plain.DisconnectAck 24 sound is is.kind refl
 keeps-packet m h header (Carrying d) sound is =
-    let greeted = later h.guest.first header.kind header.kind (header_says is.header).in_turn refl (carried d header.kind is.kind) in
+    let greeted = has_come h.guest.first header.kind header.kind (header_says is.header).in_turn refl (carried d header.kind is.kind) in
     keeps-all h (data_move h header.id (asking_of d)) h.unplugged sound
-    (data-keeps h header.id d sound greeted (subst (λ (b : Bool). IdFits (is_wide b h.guest.caps) header.id) greeted is.header.id_fits) is.fits)
+    (data-keeps h header.id d sound greeted (subst (λ (b : Bool). IdFits (is_wide (record { first = b; caps = h.guest.caps })) header.id) greeted is.header.id_fits) is.fits)

@@ -6,11 +6,12 @@ use Rattle.packet_stream.specs.Format.{Short}
 use Rattle.packet_stream.specs.Split.{Splitting}
 use Rattle.packet_stream.specs.Streams.{StreamView as Stream, capped}
 use Rattle.packet_stream.proofs.Laws.{reads_steady, split-is}
+use Rattle.redir_wire.specs.declared.state.RedirState.{RedirState}
 use Rattle.redir_wire.specs.declared.packet.Header.{Header}
 use Rattle.redir_wire.specs.declared.packet.Way.TheVariants.{ToHost}
+use Rattle.redir_wire.specs.State.{start}
 use Rattle.redir_data.specs.declared.packet.RedirPacket.{RedirPacket}
-use Rattle.redir_data.specs.declared.state.RedirState.{RedirState}
-use Rattle.redir_data.specs.Streams.{start, after, stream_format, stream_start}
+use Rattle.redir_data.specs.Streams.{after, stream_format, stream_start}
 use Rattle.redir_data.specs.sound.Joined.{stream_sound}
 use Rattle.redir_data.proofs.Awaits.{four_quiet}
 use Rattle.model_device.specs.Gadget.{IsGadget}

@@ -7,7 +7,6 @@ use Rattle.usb_base.specs.Endpoint.{is_control}
 use Rattle.usb_base.specs.Status.{is_success}
 use Rattle.usb_base.specs.declared.endpoint.EpTable.{EpTable}
 use Rattle.usb_base.specs.declared.transfer.Outcome.{Outcome}
-use Rattle.redir_data.specs.declared.state.RedirState.{RedirState}
 use Rattle.control_route.specs.declared.route.Route.{Route}
 use Rattle.control_route.specs.declared.route.Route.TheVariants as route
 use Rattle.model_device.specs.Gadget.{IsGadget}
@@ -32,6 +31,7 @@ use Rattle.redir_host.specs.step.Wants.{GivesSome}
 use Rattle.redir_host.specs.write.Answers.{answer}
 use Rattle.redir_host.specs.write.Output.{host_of}
 use Rattle.redir_host.proofs.lemmas.step.Makes.{reset_transfer}
+use Rattle.redir_wire.specs.declared.state.RedirState.{RedirState}
 
 -- ---- what is performed is answered
 

@@ -10,18 +10,19 @@ use Rattle.usb_base.specs.declared.status.UsbStatus.{UsbStatus}
 use Rattle.usb_base.specs.declared.status.UsbStatus.TheVariants.{Success, Inval}
 use Rattle.usb_base.specs.declared.transfer.Transfer.{Transfer}
 use Rattle.redir_wire.specs.declared.packet.Caps.{Caps}
+use Rattle.redir_wire.specs.declared.state.RedirState.{RedirState}
 use Rattle.redir_wire.specs.declared.packet.Header.{Header}
 use Rattle.redir_wire.specs.declared.packet.RedirControl.{RedirControl}
 use Rattle.redir_wire.specs.declared.packet.RedirControl.TheVariants as plain
 use Rattle.redir_wire.specs.declared.packet.Way.TheVariants.{ToGuest, ToHost}
-use Rattle.redir_wire.specs.Header.{IdFits, is_wide}
+use Rattle.redir_wire.specs.State.{is_wide, later}
+use Rattle.redir_wire.specs.Header.{IdFits}
 use Rattle.redir_wire.specs.Spelling.{is_hello}
 use Rattle.redir_wire.proofs.Says.{header_says}
 use Rattle.redir_data.specs.declared.packet.RedirData.{RedirData}
 use Rattle.redir_data.specs.declared.packet.RedirData.TheVariants as moving
 use Rattle.redir_data.specs.declared.packet.RedirPacket.{RedirPacket}
 use Rattle.redir_data.specs.declared.packet.RedirPacket.TheVariants.{Plain, Carrying}
-use Rattle.redir_data.specs.declared.state.RedirState.{RedirState}
 use Rattle.redir_data.specs.Ranges.{IsData}
 use Rattle.redir_data.specs.Sent.{CanBeRead}
 use Rattle.redir_data.specs.Streams.{advanced}
@@ -46,7 +47,7 @@ use Rattle.redir_host.specs.state.Queues.{is_cancelled_by}
 use Rattle.redir_host.specs.write.Readable.{AreRead, InRange, TakesInRange, Unless}
 use Rattle.redir_host.specs.state.Sound.{FormFits, IsGuestRequest, IsSound}
 use Rattle.redir_host.proofs.lemmas.write.Answers.{ended_fits}
-use Rattle.redir_host.proofs.lemmas.guest.Sound.{carried, earlier, later}
+use Rattle.redir_host.proofs.lemmas.guest.Sound.{carried, earlier, has_come}
 use Rattle.redir_host.proofs.lemmas.write.Readable.{answer-read, are-read, cancelled-read, facts-read, nothing-sent}
 use Rattle.redir_host.proofs.lemmas.state.Each.{each_behind, each_front, each_joined, if_found}
 use Rattle.redir_host.proofs.lemmas.write.Facts.{connect}
@@ -56,11 +57,11 @@ use Rattle.redir_host.proofs.lemmas.write.Facts.{connect}
 abbrev Reads : {S : Type 0} → Host S → Move S → Type 0
 Reads h v = Each (CanBeRead ToGuest h.guest.caps) v.sent
 
-status-read : (caps : Caps) (id : ℕ) (k : StreamKind) (status : UsbStatus) (ep : ℕ) → IdFits (is_wide false caps) id → CanBeRead ToGuest caps (id, status_of k status ep)
+status-read : (caps : Caps) (id : ℕ) (k : StreamKind) (status : UsbStatus) (ep : ℕ) → IdFits (is_wide (later caps)) id → CanBeRead ToGuest caps (id, status_of k status ep)
 status-read caps id Iso status ep fits = control_sent ToGuest caps id (plain.IsoStatus (status_byte status) ep) refl tt (record { agreed = refl; id_fits = fits; writable = tt }) refl
 status-read caps id Interrupt status ep fits = control_sent ToGuest caps id (plain.InterruptStatus (status_byte status) ep) refl tt (record { agreed = refl; id_fits = fits; writable = tt }) refl
 
-start-read : {S : Type 0} (h : Host S) (id : ℕ) (k : StreamKind) (ep : ℕ) (b : Bool) → IdFits (is_wide false h.guest.caps) id → Reads h (start_move b h id k ep)
+start-read : {S : Type 0} (h : Host S) (id : ℕ) (k : StreamKind) (ep : ℕ) (b : Bool) → IdFits (is_wide (later h.guest.caps)) id → Reads h (start_move b h id k ep)
 start-read h id k ep true fits = (status-read h.guest.caps id k Success ep fits, tt)
 start-read h id k ep false fits = (status-read h.guest.caps id k Inval ep fits, tt)
 
@@ -68,15 +69,15 @@ cancel-read : {S : Type 0} (h : Host S) (id : ℕ) (o : Option Request) → IfSo
 cancel-read h id None is = tt
 cancel-read h id (Some q) is = (cancelled-read h.guest q is.0, tt)
 
-asked-read : {S : Type 0} (h : Host S) (id : ℕ) (b : Bool) (f : Form) (t : Transfer) → IdFits (is_wide false h.guest.caps) id → FormFits f → Reads h (data_move h id (asked_if b f t))
+asked-read : {S : Type 0} (h : Host S) (id : ℕ) (b : Bool) (f : Form) (t : Transfer) → IdFits (is_wide (later h.guest.caps)) id → FormFits f → Reads h (data_move h id (asked_if b f t))
 asked-read h id true f t fits own = tt
 asked-read h id false f t fits own = (answer-read h.guest.caps 0 id f t.ep (ended Inval) fits (ended_fits h.guest.caps f t.ep Inval) own (lit< tt), tt)
 
-interrupt-read : {S : Type 0} (h : Host S) (id : ℕ) (can into : Bool) (t : Transfer) → IdFits (is_wide false h.guest.caps) id → Reads h (data_move h id (cond into Nothing (asked_if can form.Interrupt t)))
+interrupt-read : {S : Type 0} (h : Host S) (id : ℕ) (can into : Bool) (t : Transfer) → IdFits (is_wide (later h.guest.caps)) id → Reads h (data_move h id (cond into Nothing (asked_if can form.Interrupt t)))
 interrupt-read h id can true t fits = tt
 interrupt-read h id can false t fits = asked-read h id can form.Interrupt t fits tt
 
-data-read : {S : Type 0} (h : Host S) (id : ℕ) (d : RedirData) → IdFits (is_wide false h.guest.caps) id → IsData h.guest.caps ToHost d → Reads h (data_move h id (asking_of d))
+data-read : {S : Type 0} (h : Host S) (id : ℕ) (d : RedirData) → IdFits (is_wide (later h.guest.caps)) id → IsData h.guest.caps ToHost d → Reads h (data_move h id (asking_of d))
 data-read h id (moving.Control ep asked kind status value index told body) fits is =
     let setup : Setup = record { kind = kind; request = asked; value = value; index = index; length = told } in
     asked-read h id _ (form.Control setup) (record { ep = ep; setup = Some setup; wanted = told; body = body }) fits (is.ranges.0.0, is.ranges.0.1.0)
@@ -86,7 +87,7 @@ data-read h id (moving.Iso ep status told body) fits is = tt
 data-read h id (moving.Interrupt ep status told body) fits is = interrupt-read h id (is_other ep) (is_in_endpoint ep) (record { ep = ep; setup = None; wanted = told; body = body }) fits
 
 -- of one that is no hello
-plain-read : {S : Type 0} (m : Meaning S) (h : Host S) (id : ℕ) (c : RedirControl) → is_hello c ≡ false → IsSound h → IdFits (is_wide false h.guest.caps) id → Reads h (packet_move_by m h id (Plain c))
+plain-read : {S : Type 0} (m : Meaning S) (h : Host S) (id : ℕ) (c : RedirControl) → is_hello c ≡ false → IsSound h → IdFits (is_wide (later h.guest.caps)) id → Reads h (packet_move_by m h id (Plain c))
 plain-read m h id (plain.Hello x) other sound fits = absurd (true≢false other)
 plain-read m h id (plain.StartIso ep pkts_per_urb no_urbs) other sound fits = start-read h id Iso ep (can_start (m.table h.gadget) Iso ep) fits
 plain-read m h id (plain.StopIso ep) other sound fits = (status-read h.guest.caps id Iso Success ep fits, tt)
@@ -127,9 +128,9 @@ hello-read {S = S} m lawful h g xs first greeted before b fit = subst (λ (l : L
 later-read : {S : Type 0} (m : Meaning S) (h : Host S) (header : Header) (c : RedirControl) (number : ℕ) (xs : List (ℕ × RedirPacket)) → IsSound h → IsTaken h.guest header (Plain c) → header.kind ≡ number → (number == 0) ≡ false → is_hello c ≡ false → AreRead h.guest xs →
     AreRead h.guest (xs ++ (cond h.unplugged (quiet h) (packet_move_by m h header.id (Plain c))).sent)
 later-read m h header c number xs sound is kind other same before =
-    let greeted = later h.guest.first header.kind number (header_says is.header).in_turn kind other in
+    let greeted = has_come h.guest.first header.kind number (header_says is.header).in_turn kind other in
     read-more h.guest xs (cond h.unplugged (quiet h) (packet_move_by m h header.id (Plain c))).sent before
-    (read-all h (packet_move_by m h header.id (Plain c)) h.unplugged greeted (plain-read m h header.id c same sound (subst (λ (b : Bool). IdFits (is_wide b h.guest.caps) header.id) greeted is.header.id_fits)))
+    (read-all h (packet_move_by m h header.id (Plain c)) h.unplugged greeted (plain-read m h header.id c same sound (subst (λ (b : Bool). IdFits (is_wide (record { first = b; caps = h.guest.caps })) header.id) greeted is.header.id_fits)))
 
 pub packet-read : {S : Type 0} (m : Meaning S) → IsGadget m → (h : Host S) (header : Header) (p : RedirPacket) (xs : List (ℕ × RedirPacket)) → IsSound h → IsTaken h.guest header p → TakesInRange m h p → AreRead h.guest xs →
     AreRead (advanced h.guest p) (xs ++ (packet_move m h header.id p).sent)
@@ -156,6 +157,6 @@ packet-read m lawful h header (Plain (plain.InterruptStatus status ep)) xs sound
 packet-read m lawful h header (Plain plain.Cancel) xs sound is fit before = later-read m h header plain.Cancel 21 xs sound is is.kind refl refl before
 packet-read m lawful h header (Plain plain.DisconnectAck) xs sound is fit before = later-read m h header plain.DisconnectAck 24 xs sound is is.kind refl refl before
 packet-read m lawful h header (Carrying d) xs sound is fit before =
-    let greeted = later h.guest.first header.kind header.kind (header_says is.header).in_turn refl (carried d header.kind is.kind) in
+    let greeted = has_come h.guest.first header.kind header.kind (header_says is.header).in_turn refl (carried d header.kind is.kind) in
     read-more h.guest xs (cond h.unplugged (quiet h) (data_move h header.id (asking_of d))).sent before
-    (read-all h (data_move h header.id (asking_of d)) h.unplugged greeted (data-read h header.id d (subst (λ (b : Bool). IdFits (is_wide b h.guest.caps) header.id) greeted is.header.id_fits) is.fits))
+    (read-all h (data_move h header.id (asking_of d)) h.unplugged greeted (data-read h header.id d (subst (λ (b : Bool). IdFits (is_wide (record { first = b; caps = h.guest.caps })) header.id) greeted is.header.id_fits) is.fits))

@@ -1,7 +1,7 @@
 use Rattle.std.proofs.Common.{false, [], refl, ap, ◌∙◌}
 use Rattle.packet_stream.specs.Streams.{StreamView}
-use Rattle.redir_data.specs.declared.state.RedirState.{RedirState}
 use Rattle.gate_core.proofs.lemmas.step.Ends.{stands-first}
+use Rattle.redir_wire.specs.declared.state.RedirState.{RedirState}
 use Rattle.gate_core.proofs.step.inner.Inner.make.Goals as goal
 
 pub returns : goal.returns

@@ -1,7 +1,7 @@
 use Rattle.std.proofs.Common.{false, [], refl, ap, ◌∙◌}
 use Rattle.packet_stream.specs.Streams.{StreamView as Stream}
-use Rattle.redir_data.specs.declared.state.RedirState.{RedirState}
 use Rattle.redir_host.proofs.lemmas.step.Stands.{stands-first}
+use Rattle.redir_wire.specs.declared.state.RedirState.{RedirState}
 use Rattle.redir_host.proofs.step.inner.Inner.new.Goals as goal
 
 pub returns : goal.returns
