@@ -11,9 +11,10 @@ use Rattle.stream_buffers.specs.Cuts.{Cut}
 use Rattle.model_device.specs.Meaning.{Meaning}
 use Rattle.gate_history.proofs.lemmas.Lists.{Each}
 use Rattle.usb_base.specs.declared.errno.TheConstants.{ECONNRESET, EREMOTEIO}
+use Rattle.usb_base.specs.Lists.{is_empty}
 use Rattle.gate_history.specs.step.Marks.{Submission}
 use Rattle.gate_history.specs.declared.request.Request.{Request}
-use Rattle.gate_history.specs.client.Verdict.{is_wire, goes_by_id, none_of}
+use Rattle.gate_history.specs.client.Verdict.{is_wire, goes_by_id}
 use Rattle.gate_history.specs.host.Fillings.{Given, Transferred, Isochronous}
 use Rattle.gate_history.specs.client.Ends.{is_waiting, is_cancelled, answers_by}
 use Rattle.gate_history.specs.write.Answers.{fails_if_short, ret_unlink, with_outcome, with_given}
@@ -83,7 +84,7 @@ good-done r o = go o.status
     short false e = true≢false (sym e)
 
     go : (status : UsbStatus) → is_good (with_outcome r (record { status = status; done = o.done; body = o.body })) ≡ true → is_cancelled status ≡ false
-    go Cancelled e = absurd (short (r.is_in && none_of r.descs && not (is_failed ECONNRESET) && nat_lt o.done r.transfer.wanted && fails_if_short r.flags) e)
+    go Cancelled e = absurd (short (r.is_in && is_empty r.descs && not (is_failed ECONNRESET) && nat_lt o.done r.transfer.wanted && fails_if_short r.flags) e)
     go _ e = refl
 
 good-done_by : (s : Submission) (o : Outcome) (unlinker : Option ℕ) → list_any is_good (answers_by s o unlinker) ≡ true → is_cancelled o.status ≡ false

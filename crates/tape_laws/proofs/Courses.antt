@@ -5,13 +5,14 @@ use Rattle.std.proofs.Math.Bool.{and-false}
 use Rattle.usb_base.specs.Number.{AreBytes}
 use Rattle.usb_base.proofs.Numbers.{AreBytes-take, AreBytes-drop}
 use Rattle.usb_base.specs.declared.side.Side.TheVariants.{Client, Host}
+use Rattle.usb_base.specs.Lists.{is_empty}
 use Rattle.gate_outside.specs.declared.turn.Turn.{Turn}
 use Rattle.gate_outside.specs.declared.turn.Turn.TheVariants.{Piece, Wait, Fail}
 use Rattle.gate_outside.specs.Turns.{pending, answer, given, after}
 use Rattle.bridge_run.specs.declared.course.serve_end.ServeEnd.TheVariants as end
 use Rattle.bridge_run.specs.events.Events.{LinkEvent, ClientComes, ClientQuiet, SidePiece, SideEnd}
 use Rattle.bridge_run.specs.events.Prescribed.{Prescribed, gained, refuses, drops, first_of}
-use Rattle.bridge_run.specs.written.Recorded.{lines_of, has_any, is_last, is_full, written_if, waiting_if}
+use Rattle.bridge_run.specs.written.Recorded.{lines_of, is_last, is_full, written_if, waiting_if}
 use Rattle.bridge_run.specs.course.Course.{Setting, Course, Next, Making, AtDoor, AtClient, AtHost, AtEnd, Takes}
 use Rattle.bridge_run.specs.declared.course.polling.TheConstants.{POLL_LIMIT}
 use Rattle.bridge_run.specs.course.Calls.{Outcome, Goes, Stops, is_due, lines_with, put, settle, ends_next, take_event, come, heard, poll, gathered, make, call, and_then, calls}
@@ -117,7 +118,7 @@ bytes-if : (t : Bool) (turns : List Turn) → SendBytes turns → SendBytes (con
 bytes-if true turns h = tt
 bytes-if false turns h = h
 
-any-none : {X : Type 0} → (xs : List X) → has_any xs ≡ false → xs ≡ []
+any-none : {X : Type 0} → (xs : List X) → not (is_empty xs) ≡ false → xs ≡ []
 any-none [] is = refl
 any-none (x ∷ xs) is = cc
 
@@ -152,7 +153,7 @@ put-gathers p first e c false is g fit fits =
     let lines = lines_of e refused in
     let for_client = gained p.to_client c.events e in
     let for_host = gained p.to_host c.events e in
-    let none = neither (has_any for_client) (has_any for_host) (has_any refused || p.lets_go (e ∷ c.events)) (is_last c) (is_full (lines_with p e c)) is in
+    let none = neither (not (is_empty for_client)) (not (is_empty for_host)) (not (is_empty refused) || p.lets_go (e ∷ c.events)) (is_last c) (is_full (lines_with p e c)) is in
     record {
       taped = g.taped;
       later = e ∷ g.later;

@@ -1,12 +1,13 @@
 //! The command `model`: the steps of a tape are done with a gateway and a modelled device.
 
-ghost use Rattle.std.specs.Prelude.{◌≡◌, ◌++◌, ◌||◌, [], List, IfOk, OnOk, OnErr, IsSome};
+ghost use Rattle.std.specs.Prelude.{◌≡◌, ◌++◌, ◌||◌, not, [], List, IfOk, OnOk, OnErr, IsSome};
+ghost use Rattle.usb_base.specs.Lists.{is_empty};
 ghost use Rattle.direct_run.specs.Stands.{SystemStands};
 ghost use Rattle.direct_run.specs.Steps.{Step as PastStep};
 ghost use Rattle.direct_run.specs.Trace.{told_first};
 ghost use Rattle.usbgate_tapes.specs.model.Model.{model, step_said};
 ghost use Rattle.usbgate_tapes.specs.Text.{told_text};
-ghost use Rattle.usbgate_tapes.specs.inner.model.Model.{HasDone, TakesSaid, has_some};
+ghost use Rattle.usbgate_tapes.specs.inner.model.Model.{HasDone, TakesSaid};
 
 pub mod device;
 pub mod load;
@@ -49,7 +50,7 @@ impl<G: Gadget> ModelRun<G> {
     fn print(&mut self, alloc: Global, told: &Told, text: &mut Bytes) -> Result<(), Memory>
         ensures text { OnOk result (text.new ≡ text.old ++ told_text told.now) }
         ensures system { self.new.system ≡ self.old.system }
-        ensures refused { OnOk result (self.new.refused ≡ (self.old.refused || has_some told.now.refusals)) }
+        ensures refused { OnOk result (self.new.refused ≡ (self.old.refused || not (is_empty told.now.refusals))) }
     {
         push_told(alloc, told, text)?;
         self.refused |= !told.refusals.is_empty();

@@ -1,8 +1,9 @@
 -- What is known of the doors, and what they tell.
-use Rattle.std.specs.Prelude.{◌≡◌, ◌⊎◌, ◌≤◌, ◌+◌, ℕ, ◌||◌, Bool, true, false, if◌then◌else◌, List, [], ◌∷◌, ◌++◌, Option, Some, IfSome}
+use Rattle.std.specs.Prelude.{◌≡◌, ◌⊎◌, ◌≤◌, ◌+◌, ℕ, ◌||◌, not, Bool, true, false, if◌then◌else◌, List, [], ◌∷◌, ◌++◌, Option, Some, IfSome}
 use Rattle.usb_base.specs.Number.{capped}
 use Rattle.usb_base.specs.declared.side.Side.{Side}
 use Rattle.usb_base.specs.declared.side.Side.TheVariants.{Client, Host}
+use Rattle.usb_base.specs.Lists.{is_empty}
 use Rattle.gate_outside.specs.declared.turn.Turn.{Turn}
 use Rattle.gate_outside.specs.Faults.{Rose}
 use Rattle.gate_outside.specs.Link.{Link, Door}
@@ -10,7 +11,7 @@ use Rattle.session_tape.specs.Tapes.{Counts, OneFault}
 use Rattle.bridge_run.specs.declared.course.serve_end.ServeEnd.{ServeEnd}
 use Rattle.bridge_run.specs.declared.course.serve_end.ServeEnd.TheVariants.{Ended, LinkFault, WriteFault, Idle}
 use Rattle.bridge_run.specs.events.Events.{LinkEvent}
-use Rattle.bridge_run.specs.written.Recorded.{has_any, event_line}
+use Rattle.bridge_run.specs.written.Recorded.{event_line}
 use Rattle.bridge_run.specs.course.Course.{Course}
 
 pub record Outside : Type 0 where
@@ -148,7 +149,7 @@ pub record IsRecordedUntold (ran_out : List LinkEvent → LinkEvent → List ℕ
   pub sent_client : List ℕ
   pub sent_host : List ℕ
   pub stopped : ran_out before.events event sent_client sent_host
-  pub some : (has_any sent_client || has_any sent_host) ≡ true
+  pub some : (not (is_empty sent_client) || not (is_empty sent_host)) ≡ true
   pub held-is : held ≡ before.recorded ++ (before.waiting ++ event_line event)
   pub lost : List ℕ
   pub all-is : behind.recorded ≡ held ++ lost

@@ -1,15 +1,15 @@
 -- Where memory ran out within an event, and what of the event had been sent to each side by then. What is served says
 -- it of the event's items; the loop wants memory too, for the lines of refusals and for those of a recording.
-use Rattle.std.specs.Prelude.{◌≡◌, ◌⊎◌, ℕ, ◌||◌, Bool, true, false, List, []}
+use Rattle.std.specs.Prelude.{◌≡◌, ◌⊎◌, ℕ, ◌||◌, not, Bool, true, false, List, []}
+use Rattle.usb_base.specs.Lists.{is_empty}
 use Rattle.bridge_run.specs.events.Events.{LinkEvent, ClientComes, ClientQuiet}
 use Rattle.bridge_run.specs.events.Prescribed.{Prescribed, gained}
-use Rattle.bridge_run.specs.written.Recorded.{has_any}
 
 -- all that the event sends was sent, and a side that it refuses couldn't be told
 pub record Untold (p : Prescribed) (events : List LinkEvent) (e : LinkEvent) (client host : List ℕ) : Type 0 where
   pub client-is : client ≡ gained p.to_client events e
   pub host-is : host ≡ gained p.to_host events e
-  pub refuses : has_any (gained p.refusals events e) ≡ true
+  pub refuses : not (is_empty (gained p.refusals events e)) ≡ true
 
 -- the event has a line on a tape
 abbrev pub is_recorded : LinkEvent → Bool
@@ -20,7 +20,7 @@ is_recorded e = true
 -- a tape is made, and the event's lines couldn't be put to those that wait for it: nothing was sent
 pub record Unrecorded (taped : Bool) (p : Prescribed) (events : List LinkEvent) (e : LinkEvent) (client host : List ℕ) : Type 0 where
   pub is_taped : taped ≡ true
-  pub has_lines : (is_recorded e || has_any (gained p.refusals events e)) ≡ true
+  pub has_lines : (is_recorded e || not (is_empty (gained p.refusals events e))) ≡ true
   pub client-is : client ≡ []
   pub host-is : host ≡ []
 

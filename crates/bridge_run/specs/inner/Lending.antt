@@ -1,6 +1,7 @@
 -- What acts make of a lent device's host and of its output, and what is kept of the events.
-use Rattle.std.specs.Prelude.{◌≡◌, ◌⊎◌, ℕ, true, if◌then◌else◌, List, [], ◌++◌}
+use Rattle.std.specs.Prelude.{◌≡◌, ◌⊎◌, ℕ, not, true, if◌then◌else◌, List, [], ◌++◌}
 use Rattle.usb_base.specs.declared.refusal.Refusal.{Refusal}
+use Rattle.usb_base.specs.Lists.{is_empty}
 use Rattle.model_device.specs.Meaning.{Meaning}
 use Rattle.redir_host.specs.state.Kept.{HostKept as Core}
 use Rattle.redir_host.specs.step.Acts.{Act}
@@ -11,7 +12,6 @@ use Rattle.bridge_run.specs.declared.served.lent.Lent.{Lent}
 use Rattle.bridge_run.specs.declared.served.lent.Use.{Use}
 use Rattle.bridge_run.specs.declared.served.lent.Use.TheVariants.{Perform, Offer}
 use Rattle.bridge_run.specs.events.Events.{LinkEvent}
-use Rattle.bridge_run.specs.written.Recorded.{has_any}
 use Rattle.bridge_run.specs.served.Lent.{acts_of, has_come}
 use Rattle.bridge_run.specs.served.LentStops.{ActsStop}
 
@@ -37,7 +37,7 @@ pub record StopsBehind {S : Type 0} (m : Meaning S) (s : S) (past acts : List Ac
   pub given : List ℕ
   pub sends : host_out m s acts ≡ host_out m s past ++ given
   pub sent : new_out ≡ old_out ++ given
-  pub refuses : has_any refusals ≡ true
+  pub refuses : not (is_empty refusals) ≡ true
 
 abbrev pub Halts : {S : Type 0} → Meaning S → S → List Act → List Act → List Refusal → List ℕ → List ℕ → Type 0
 Halts m s past acts refusals old_out new_out = StopsIn m s past acts old_out new_out ⊎ StopsBehind m s past acts refusals old_out new_out

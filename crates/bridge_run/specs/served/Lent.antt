@@ -1,10 +1,11 @@
 -- What the events of a modelled device send that is lent to a guest, and which they refuse: the guest is the client,
 -- and what is done with the device's host goes by the events.
-use Rattle.std.specs.Prelude.{ℕ, Bool, true, false, if◌then◌else◌, List, [], ◌∷◌, ◌++◌, None}
+use Rattle.std.specs.Prelude.{ℕ, not, Bool, true, false, if◌then◌else◌, List, [], ◌∷◌, ◌++◌, None}
 use Rattle.std.specs.List.{flat_map, list_any}
 use Rattle.usb_base.specs.declared.side.Side.TheVariants.{Client}
 use Rattle.usb_base.specs.Endpoint.{in_endpoints, out_endpoints}
 use Rattle.usb_base.specs.declared.refusal.Refusal.{Refusal}
+use Rattle.usb_base.specs.Lists.{is_empty}
 use Rattle.model_device.specs.Meaning.{Meaning}
 use Rattle.redir_host.specs.declared.write.note.HostNote.{HostNote}
 use Rattle.redir_host.specs.declared.write.note.HostNote.TheVariants as note
@@ -12,7 +13,6 @@ use Rattle.redir_host.specs.step.Acts.{Act, Piece, Perform, Offer}
 use Rattle.redir_host.specs.write.Output.{host_out, act_notes}
 use Rattle.bridge_run.specs.events.Events.{LinkEvent, ClientComes, ClientQuiet, SidePiece}
 use Rattle.bridge_run.specs.events.Prescribed.{Prescribed}
-use Rattle.bridge_run.specs.written.Recorded.{has_any}
 
 -- ---- what is done with the device in a round
 
@@ -37,7 +37,7 @@ refused_by m s acts e = []
 
 -- the acts behind an event: where a piece of the guest's bytes is refused, nothing more is done
 abbrev pub acts_behind : {S : Type 0} → Meaning S → S → List Act → LinkEvent → List Act
-acts_behind m s acts (SidePiece Client b) = if has_any (refused_by m s acts (SidePiece Client b)) then Piece b ∷ acts else used (Piece b ∷ acts)
+acts_behind m s acts (SidePiece Client b) = if not (is_empty (refused_by m s acts (SidePiece Client b))) then Piece b ∷ acts else used (Piece b ∷ acts)
 acts_behind m s acts ClientQuiet = used acts
 acts_behind m s acts e = acts
 

@@ -1,7 +1,8 @@
 -- The lines of an event on a tape: what came, and a comment for each refusal. When they are written.
-use Rattle.std.specs.Prelude.{ℕ, ◌==◌, ltb, ◌&&◌, ◌||◌, not, Bool, true, false, if◌then◌else◌, List, [], ◌∷◌, ◌++◌, length}
+use Rattle.std.specs.Prelude.{ℕ, ◌==◌, ltb, ◌&&◌, ◌||◌, not, Bool, if◌then◌else◌, List, [], ◌++◌, length}
 use Rattle.std.specs.List.{flat_map}
 use Rattle.usb_base.specs.declared.refusal.Refusal.{Refusal}
+use Rattle.usb_base.specs.Lists.{is_empty}
 use Rattle.session_tape.specs.Lines.{piece_line, end_line, refusal_comment}
 use Rattle.bridge_run.specs.declared.written.recording.TheConstants.{WAITING_LIMIT}
 use Rattle.bridge_run.specs.events.Events.{LinkEvent, SidePiece, SideEnd}
@@ -18,13 +19,9 @@ lines_of e refusals = event_line e ++ flat_map refusal_comment refusals
 
 -- ---- when lines are written
 
-abbrev pub has_any : {X : Type 0} → List X → Bool
-has_any [] = false
-has_any (x ∷ xs) = true
-
 -- an event sends bytes to a side, refuses one, or lets the client go
 abbrev pub sends_any : List ℕ → List ℕ → List Refusal → Bool → Bool
-sends_any to_client to_host refusals lets_go = has_any to_client || (has_any to_host || (has_any refusals || lets_go))
+sends_any to_client to_host refusals lets_go = not (is_empty to_client) || (not (is_empty to_host) || (not (is_empty refusals) || lets_go))
 
 -- no link is up, or all is taken that may be
 abbrev pub is_last : Course → Bool

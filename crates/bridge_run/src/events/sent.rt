@@ -1,11 +1,12 @@
 //! What an event sends.
 
-ghost use Rattle.std.specs.Prelude.{◌≡◌, ◌++◌, ◌||◌, [], OnOk, OnErr, false, true};
+ghost use Rattle.std.specs.Prelude.{◌≡◌, ◌++◌, ◌||◌, not, [], OnOk, OnErr, false, true};
 ghost use Rattle.usb_base.specs.declared.side.Side.TheVariants.{Client};
 ghost use Rattle.std.specs.List.{flat_map};
+ghost use Rattle.usb_base.specs.Lists.{is_empty};
 ghost use Rattle.usb_base.specs.Refusal.{refusal_line};
 ghost use Rattle.bridge_run.specs.events.Prescribed.{refuses as among, first_of};
-ghost use Rattle.bridge_run.specs.written.Recorded.{has_any as any_in, sends_any};
+ghost use Rattle.bridge_run.specs.written.Recorded.{sends_any};
 
 use std::alloc::Global;
 use usb_base::{Bytes, List, Memory, Refusal, Side};
@@ -52,14 +53,14 @@ impl Sent {
     pub fn is_any(&self) -> bool
         ensures { result ≡ sends_any self.now.to_client self.now.to_host self.now.refusals self.now.lets_go }
     {
-        self.has_bytes() || has_any(self.refusals.as_slice()) || self.lets_go
+        self.has_bytes() || !self.refusals.is_empty() || self.lets_go
     }
 
     /// Whether bytes go to a side.
     pub fn has_bytes(&self) -> bool
-        ensures { result ≡ (any_in self.now.to_client || any_in self.now.to_host) }
+        ensures { result ≡ (not (is_empty self.now.to_client) || not (is_empty self.now.to_host)) }
     {
-        has_any(self.to_client.as_slice()) || has_any(self.to_host.as_slice())
+        !self.to_client.is_empty() || !self.to_host.is_empty()
     }
 
     /// Whether the side is refused.
@@ -86,20 +87,11 @@ impl Sent {
     /// Appends the lines of the refusals.
     pub fn push_lines(&self, alloc: Global, text: &mut Bytes) -> Result<(), Memory>
         ensures written { OnOk result (text.new ≡ text.old ++ flat_map refusal_line self.now.refusals) }
-        ensures wants { OnErr result (any_in self.now.refusals ≡ true) }
+        ensures wants { OnErr result (not (is_empty self.now.refusals) ≡ true) }
     {
         for refusal in self.refusals.as_slice() {
             refusal.line(alloc, text)?;
         }
         Ok(())
-    }
-}
-
-fn has_any<T>(items: &[T]) -> bool
-    ensures { result ≡ any_in items.now }
-{
-    match items {
-        [] => false,
-        _ => true,
     }
 }

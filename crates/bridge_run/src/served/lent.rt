@@ -1,15 +1,15 @@
 //! A modelled device, lent to a guest, as what is served.
 
-ghost use Rattle.std.specs.Prelude.{◌≡◌, ◌++◌, ◌||◌, [], true, if◌then◌else◌, List as ListOf, OnOk, OnErr, IfOk};
+ghost use Rattle.std.specs.Prelude.{◌≡◌, ◌++◌, ◌||◌, not, [], true, if◌then◌else◌, List as ListOf, OnOk, OnErr, IfOk};
 ghost use Rattle.std.specs.List.{flat_map, list_any};
 ghost use Rattle.redir_host.specs.step.Acts.{Act};
 ghost use Rattle.redir_host.specs.step.Machine.{is_refusal};
 ghost use Rattle.redir_host.specs.step.Stands.{DoesAct, HostStands, StopsInAct};
 ghost use Rattle.usb_base.specs.declared.side.Side.TheVariants.{Client};
+ghost use Rattle.usb_base.specs.Lists.{is_empty};
 ghost use Rattle.bridge_run.specs.events.Events.{SidePiece, event_of, is_quiet};
 ghost use Rattle.bridge_run.specs.served.Lent.{each, used, acts_behind, is_coming, refused_by, refusal_in};
 ghost use Rattle.bridge_run.specs.inner.Lending.{Acts, StopsIn, Halts, IsLent, act_of};
-ghost use Rattle.bridge_run.specs.written.Recorded.{has_any};
 
 use crate::events::event::LinkEvent;
 use crate::events::sent::Sent;
@@ -212,7 +212,7 @@ fn has_refusal(notes: &HostNotes) -> bool
 /// Appends the refusals among the notes, which are of the client's side.
 fn push_refusals(notes: &HostNotes, refusals: &mut List<Refusal>) -> Result<(), Memory>
     ensures pushed { OnOk result (refusals.new ≡ refusals.old ++ flat_map refusal_in notes.now) }
-    ensures wants { OnErr result (has_any (flat_map refusal_in notes.now) ≡ true) }
+    ensures wants { OnErr result (not (is_empty (flat_map refusal_in notes.now)) ≡ true) }
 {
     for note in notes.as_slice() {
         if let HostNote::Refused { place, reason } = *note {

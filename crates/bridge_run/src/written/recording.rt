@@ -1,13 +1,14 @@
 //! What is recorded of an event.
 
-ghost use Rattle.std.specs.Prelude.{◌≡◌, ◌++◌, ◌||◌, ℕ, List as ListOf, true, OnOk, OnErr, IfErr, IfSome};
+ghost use Rattle.std.specs.Prelude.{◌≡◌, ◌++◌, ◌||◌, not, ℕ, List as ListOf, true, OnOk, OnErr, IfErr, IfSome};
 ghost use Rattle.std.specs.List.{flat_map};
 ghost use Rattle.std.specs.Io.KnownBytes.{append_known};
+ghost use Rattle.usb_base.specs.Lists.{is_empty};
 ghost use Rattle.session_tape.specs.Lines.{refusal_comment};
 ghost use Rattle.session_tape.specs.Tapes.{GrowsInPart};
 ghost use Rattle.bridge_run.specs.events.Events.{event_of};
 ghost use Rattle.bridge_run.specs.events.RanOut.{is_recorded};
-ghost use Rattle.bridge_run.specs.written.Recorded.{has_any, event_line, lines_of, is_full as are_full, written_if, waiting_if};
+ghost use Rattle.bridge_run.specs.written.Recorded.{event_line, lines_of, is_full as are_full, written_if, waiting_if};
 ghost use Rattle.bridge_run.specs.inner.Coming.{CanRecord, event_with};
 ghost use Rattle.bridge_run.specs.inner.Follows.{IsCutEnd};
 ghost use Rattle.bridge_run.specs.inner.Recording.{TapeFaults};
@@ -39,7 +40,7 @@ fn record_event<T: Tape>(
     ensures made { T.made tape.new ≡ T.made tape.old }
     ensures cause { TapeFaults result (T.counts tape.old) (T.counts tape.new) }
     ensures cut { IfErr result IsCutEnd }
-    ensures wants { IfErr result (λ end. end ≡ ServeEnd.Memory → (T.made tape.old ≡ true) × ((is_recorded (event_of event.entry) || has_any sent.now.refusals) ≡ true)) }
+    ensures wants { IfErr result (λ end. end ≡ ServeEnd.Memory → (T.made tape.old ≡ true) × ((is_recorded (event_of event.entry) || not (is_empty sent.now.refusals)) ≡ true)) }
 {
     if !tape.is_made() {
         return Ok(());
@@ -66,7 +67,7 @@ pub fn record_coming<T: Tape>(
     ensures made { T.made tape.new ≡ T.made tape.old }
     ensures cause { TapeFaults result (T.counts tape.old) (T.counts tape.new) }
     ensures cut { IfErr result IsCutEnd }
-    ensures wants { IfErr result (λ end. (piece : ListOf ℕ) → end ≡ ServeEnd.Memory → (T.made tape.old ≡ true) × ((is_recorded (event_with piece coming.entry) || has_any sent.now.refusals) ≡ true)) }
+    ensures wants { IfErr result (λ end. (piece : ListOf ℕ) → end ≡ ServeEnd.Memory → (T.made tape.old ≡ true) × ((is_recorded (event_with piece coming.entry) || not (is_empty sent.now.refusals)) ≡ true)) }
 {
     match coming {
         Coming::Event(event) => record_event(alloc, event, sent, due, waiting, tape),
@@ -117,7 +118,7 @@ fn push_event(event: LinkEvent, text: &mut Bytes) -> Result<(), Memory>
 
 fn push_refusals(alloc: Global, refusals: &List<Refusal>, text: &mut Bytes) -> Result<(), Memory>
     ensures pushed { OnOk result (text.new ≡ text.old ++ flat_map refusal_comment refusals.now) }
-    ensures wants { OnErr result (has_any refusals.now ≡ true) }
+    ensures wants { OnErr result (not (is_empty refusals.now) ≡ true) }
 {
     for refusal in refusals.as_slice() {
         push_refusal(alloc, refusal, text)?;

@@ -1,9 +1,7 @@
 -- A submit that goes by an id is asked of the host as what it asks, and the host's answer is read as what came of it.
-use Rattle.std.proofs.Common.{◌≡◌, ℕ, zero, suc, ◌==◌, ◌&&◌, Bool, true, false, cond, [], ◌∷◌, length, take, Option, Some, None, refl, sym, ap, ◌∙◌, arith, unwrap_or, slice_index}
+use Rattle.std.proofs.Common.{◌≡◌, ℕ, ◌&&◌, Bool, true, false, cond, [], ◌∷◌, length, take, Option, Some, None, refl, sym, ap, ◌∙◌, unwrap_or, slice_index}
 use Rattle.usb_base.specs.declared.setup.Setup.{Setup}
 use Rattle.usb_base.specs.declared.transfer.Outcome.{Outcome}
-use Rattle.usb_base.specs.declared.status.UsbStatus.{UsbStatus}
-use Rattle.usb_base.specs.declared.status.UsbStatus.TheVariants.{Success, Cancelled, Inval, IoError, Stall, Timeout, Babble, Other}
 use Rattle.usb_base.specs.Status.{status_of, status_byte, is_success}
 use Rattle.redir_data.specs.declared.packet.RedirPacket.{RedirPacket}
 use Rattle.control_route.specs.declared.route.Route.{Route}
@@ -48,20 +46,6 @@ performed-as m h e = go e.load.verdict
     go (Stream row) = refl
 
 -- ---- the gateway sees what came of it
-
-named-success : (status : UsbStatus) → IsNamed status → (status_byte status == 0) ≡ is_success status
-named-success Success h = refl
-named-success Cancelled h = refl
-named-success Inval h = refl
-named-success IoError h = refl
-named-success Stall h = refl
-named-success Timeout h = refl
-named-success Babble h = refl
-named-success (Other zero) h = absurd (is-not h)
-  where
-    is-not : Success ≡ Other zero → ⊥
-    is-not e = cc
-named-success (Other (suc n)) h = grind arith
 
 -- an answer that is read, and what is seen of it
 pub record IsSeen (r : Request) (v : Verdict) (configuration : ℕ) (o : Outcome) (p : RedirPacket) : Type 0 where
@@ -109,19 +93,19 @@ answer-seen r (Routed x) configuration o fits named = go x r.transfer.setup refl
 
     go : (y : Route) (setup : Option Setup) → r.transfer.setup ≡ setup → FitsRoute y r.transfer setup → IsSeen r (Routed y) configuration o (answer_by configuration (form_by r (Routed y)) (queued_transfer (record { request = r; verdict = Routed y })).ep o)
     go y None is fit = absurd fit
-    go (route.SetConfig value) (Some s) is fit = record { response = Status (status_byte o.status) configuration; response-is = refl; seen-is = no-byte configuration (status_byte o.status == 0) }
-    go route.Reset (Some s) is fit = record { response = Status (status_byte o.status) configuration; response-is = refl; seen-is = no-byte configuration (status_byte o.status == 0) }
-    go (route.SetAlt interface alt) (Some s) is fit = record { response = Status (status_byte o.status) alt; response-is = refl; seen-is = no-byte alt (status_byte o.status == 0) }
+    go (route.SetConfig value) (Some s) is fit = record { response = Status (status_byte o.status) configuration; response-is = refl; seen-is = no-byte configuration (is_success (status_of (status_byte o.status))) }
+    go route.Reset (Some s) is fit = record { response = Status (status_byte o.status) configuration; response-is = refl; seen-is = no-byte configuration (is_success (status_of (status_byte o.status))) }
+    go (route.SetAlt interface alt) (Some s) is fit = record { response = Status (status_byte o.status) alt; response-is = refl; seen-is = no-byte alt (is_success (status_of (status_byte o.status))) }
     go route.GetConfig (Some s) is fit = record {
       response = Status (status_byte o.status) configuration;
       response-is = refl;
-      seen-is = (λ i. got (named i) (cond (named-success o.status named i && true) (take r.transfer.wanted (configuration ∷ [])) []))
+      seen-is = (λ i. got (named i) (cond (is_success (named i) && true) (take r.transfer.wanted (configuration ∷ [])) []))
           ∙ same r.transfer.wanted configuration (is_success o.status) ∙ one r.transfer.wanted configuration (is_success o.status) ∙ wanted s is fit.1 configuration;
     }
     go (route.GetAlt interface) (Some s) is fit = record {
       response = Status (status_byte o.status) (alt_in o);
       response-is = refl;
-      seen-is = (λ i. got (named i) (cond (named-success o.status named i && true) (take r.transfer.wanted (alt_in o ∷ [])) []))
+      seen-is = (λ i. got (named i) (cond (is_success (named i) && true) (take r.transfer.wanted (alt_in o ∷ [])) []))
           ∙ one r.transfer.wanted (slice_index o.body 0) (is_success o.status) ∙ wanted s is fit.1 (slice_index o.body 0);
     }
     go route.Local (Some s) is fit = absurd (fit.3 refl)

@@ -4,6 +4,7 @@ use Rattle.std.specs.List.{flat_map}
 use Rattle.std.proofs.lemmas.Bool.{both_ways, and_parts}
 use Rattle.usb_base.specs.declared.side.Side.TheVariants.{Client}
 use Rattle.usb_base.specs.declared.reason.Reason.TheVariants.{AlreadyImported}
+use Rattle.usb_base.specs.Lists.{is_empty}
 use Rattle.usbip_op.specs.declared.packet.OpPacket.{OpPacket}
 use Rattle.usbip_op.specs.declared.packet.OpPacket.TheVariants as op
 use Rattle.usbip_urb.specs.declared.client.ClientPacket.TheVariants.{Op, Urb}
@@ -16,7 +17,6 @@ use Rattle.gate_history.specs.client.Submits.{Pending}
 use Rattle.gate_history.specs.client.Ends.{ends}
 use Rattle.gate_history.specs.client.Replies.{list_reply, import_reply, failed_import, is_exported}
 use Rattle.gate_history.specs.write.Output.{present}
-use Rattle.gate_history.specs.client.Verdict.{none_of}
 use Rattle.gate_history.specs.state.State.{State}
 use Rattle.gate_history.specs.state.Sound.{IsSound}
 use Rattle.gate_history.specs.step.Machine.{live_after}
@@ -109,7 +109,7 @@ keep-import {S = S} m w j place status busid rel sound out = go w.gate.client_ov
     fails : st.client_over ≡ false → importable st busid ≡ None → Keeps m w j made
     fails on e = keeps-replied m w j j made (replied_world w) failed_import (moved on None e ∙ replied-made w failed_import) (replied-related m w j rel) refl
 
-    none-is : {X : Type 0} (xs : List X) → none_of xs ≡ true → xs ≡ []
+    none-is : {X : Type 0} (xs : List X) → is_empty xs ≡ true → xs ≡ []
     none-is [] h = refl
     none-is (x ∷ xs) h = absurd (true≢false (sym h))
 
@@ -117,11 +117,11 @@ keep-import {S = S} m w j place status busid rel sound out = go w.gate.client_ov
     no-fence None h = refl
     no-fence (Some x) h = absurd (true≢false (sym h))
 
-    succeeds : st.client_over ≡ false → (c : Connect) → (is_exported busid && none_of st.abandoned && is_none st.fence) ≡ true → st.facts.connect ≡ Some c → importable st busid ≡ Some c → Keeps m w j made
+    succeeds : st.client_over ≡ false → (c : Connect) → (is_exported busid && is_empty st.abandoned && is_none st.fence) ≡ true → st.facts.connect ≡ Some c → importable st busid ≡ Some c → Keeps m w j made
     succeeds on c may known e = keeps-import
       where
-        parts : (none_of st.abandoned ≡ true) × (is_none st.fence ≡ true)
-        parts = let a = and_parts (is_exported busid && none_of st.abandoned) (is_none st.fence) may in ((and_parts (is_exported busid) (none_of st.abandoned) a.0).1, a.1)
+        parts : (is_empty st.abandoned ≡ true) × (is_none st.fence ≡ true)
+        parts = let a = and_parts (is_exported busid && is_empty st.abandoned) (is_none st.fence) may in ((and_parts (is_exported busid) (is_empty st.abandoned) a.0).1, a.1)
 
         empty : st.abandoned ≡ []
         empty = none-is st.abandoned parts.0
@@ -190,9 +190,9 @@ keep-import {S = S} m w j place status busid rel sound out = go w.gate.client_ov
 
     go : (b : Bool) → st.client_over ≡ b → Keeps m w j made
     go true over = keeps-quiet m w j j made w (ap (λ (b : Bool). cond b (quiet w) (gate_made as_deeds w (mark_of st (Asked place (Op (op.ReqImport status busid)))))) over) rel refl
-    go false on = by (is_exported busid && none_of st.abandoned && is_none st.fence) refl st.facts.connect refl
+    go false on = by (is_exported busid && is_empty st.abandoned && is_none st.fence) refl st.facts.connect refl
       where
-        by : (b : Bool) → (is_exported busid && none_of st.abandoned && is_none st.fence) ≡ b → (o : Option Connect) → st.facts.connect ≡ o → Keeps m w j made
+        by : (b : Bool) → (is_exported busid && is_empty st.abandoned && is_none st.fence) ≡ b → (o : Option Connect) → st.facts.connect ≡ o → Keeps m w j made
         by false barred o e = fails on (ap (λ (b : Bool). cond b st.facts.connect None) barred)
         by true may None e = fails on (ap (λ (b : Bool). cond b st.facts.connect None) may ∙ e)
         by true may (Some c) e = succeeds on c may e (ap (λ (b : Bool). cond b st.facts.connect None) may ∙ e)

@@ -1,11 +1,11 @@
 -- The host does something: some of what it holds leaves, and it sends answers and facts.
-use Rattle.std.proofs.Common.{◌≡◌, ℕ, ◌||◌, Bool, true, false, cond, List, [], ◌∷◌, ◌++◌, map, Option, Some, None, is_some, if◌then◌else◌, ◌==◌, refl, sym, ap, ◌∙◌, subst}
+use Rattle.std.proofs.Common.{◌≡◌, ℕ, ◌||◌, Bool, true, false, cond, List, [], ◌∷◌, ◌++◌, map, Option, Some, None, is_some, if◌then◌else◌, refl, sym, ap, ◌∙◌, subst}
 use Rattle.std.specs.List.{list_any, AllByRecursion as Each}
 use Rattle.std.proofs.lemmas.Bool.{both_ways, or_parts}
 use Rattle.std.proofs.Math.Bool.{or-false}
 use Rattle.std.proofs.lemmas.List.Folds.{list_any-append}
 use Rattle.std.proofs.lemmas.List.{map-append}
-use Rattle.usb_base.specs.Status.{status_byte}
+use Rattle.usb_base.specs.Status.{status_of, status_byte, is_success}
 use Rattle.redir_data.specs.declared.packet.RedirPacket.{RedirPacket}
 use Rattle.model_device.specs.Meaning.{Meaning}
 use Rattle.redir_host.specs.declared.state.host.Host.{Host}
@@ -128,8 +128,8 @@ answer-tells f c = go (form_of c.load)
     maybe false configuration = record { table = refl; interfaces = refl; connect = refl }
 
     go : (x : Form) → TellsLittle f (tell f (fact_of (answer_by c.configuration x (queued_transfer c.load).ep c.outcome)))
-    go (form.SetConfiguration asked) = maybe (status_byte c.outcome.status == 0) c.configuration
-    go form.GetConfiguration = maybe (status_byte c.outcome.status == 0) c.configuration
+    go (form.SetConfiguration asked) = maybe (is_success (status_of (status_byte c.outcome.status))) c.configuration
+    go form.GetConfiguration = maybe (is_success (status_of (status_byte c.outcome.status))) c.configuration
     go _ = record { table = refl; interfaces = refl; connect = refl }
 
 -- ---- the host

@@ -24,12 +24,13 @@ use Rattle.usb_base.specs.declared.errno.TheConstants.{ENOENT, EBUSY, EINVAL, EM
 use Rattle.gate_history.specs.step.Meaning.{verdict_of, situation}
 use Rattle.gate_history.specs.declared.request.Request.{Request}
 use Rattle.usb_base.specs.Setup.{is_in_setup}
+use Rattle.usb_base.specs.Lists.{is_empty}
 use Rattle.gate_history.specs.client.Requests.{request_of}
 use Rattle.gate_history.specs.state.State.{State}
 use Rattle.gate_history.specs.declared.verdict.Pipe.TheVariants.{InterruptOut}
 use Rattle.gate_history.specs.declared.verdict.Verdict.{Verdict}
 use Rattle.gate_history.specs.declared.verdict.Verdict.TheVariants.{Now, Wire, IsoOut, Stream}
-use Rattle.gate_history.specs.client.Verdict.{none_of, by_route, by_setup, by_kind, is_control, is_invalid, is_narrow, by_transfer, verdict}
+use Rattle.gate_history.specs.client.Verdict.{by_route, by_setup, by_kind, is_control, is_invalid, is_narrow, by_transfer, verdict}
 use Rattle.gate_history.specs.client.Carried.{IsDirected}
 use Rattle.gate_history.proofs.lemmas.client.Carried.{is_request}
 use Rattle.direct_run.specs.Moves.{World}
@@ -55,7 +56,7 @@ module _ (here : Situation) (r : Request) where
 
   setup-shows : (s : Setup) → ShowsIso here r (by_setup r s)
   setup-shows s =
-      unless (not (none_of r.descs)) EINVAL _ (λ none.
+      unless (not (is_empty r.descs)) EINVAL _ (λ none.
       unless (not (s.length == 0) && not (beq (is_in_setup s) r.is_in)) EINVAL _ (λ one.
       unless (not (s.length == r.transfer.wanted)) EINVAL _ (λ same.
       route-shows (route_of s))))
@@ -80,7 +81,7 @@ module _ (here : Situation) (r : Request) where
           unless here.changing ENOENT _ (λ still.
           unless (is_invalid here.row.kind) ENOENT _ (λ valid.
           unless (is_control here.row.kind) EINVAL _ (λ moves.
-          unless (beq (is_iso here.row.kind) (none_of r.descs)) EINVAL _ (λ iso.
+          unless (beq (is_iso here.row.kind) (is_empty r.descs)) EINVAL _ (λ iso.
           unless (not (laid r.descs r.transfer.wanted)) EINVAL _ (λ lies.
           unless (is_narrow here r here.row.kind && nat_lt MAX_NARROW r.transfer.wanted) EMSGSIZE _ (λ narrow.
           kind-shows still has here.row.kind refl))))))

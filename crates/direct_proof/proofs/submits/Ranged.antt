@@ -30,12 +30,13 @@ use Rattle.gate_history.specs.state.Flight.{wide_bulk}
 use Rattle.gate_history.specs.step.Meaning.{verdict_of, situation}
 use Rattle.gate_history.specs.declared.request.Request.{Request}
 use Rattle.usb_base.specs.Setup.{is_in_setup}
+use Rattle.usb_base.specs.Lists.{is_empty}
 use Rattle.gate_history.specs.client.Requests.{request_of, address}
 use Rattle.gate_history.specs.state.State.{State}
 use Rattle.gate_history.specs.declared.verdict.Pipe.TheVariants.{Control, InterruptOut}
 use Rattle.gate_history.specs.declared.verdict.Verdict.{Verdict}
 use Rattle.gate_history.specs.declared.verdict.Verdict.TheVariants.{Now, Wire, Routed, IsoOut, Stream}
-use Rattle.gate_history.specs.client.Verdict.{none_of, by_route, by_setup, by_kind, is_invalid, is_narrow, by_endpoint, by_transfer, verdict, goes_by_id}
+use Rattle.gate_history.specs.client.Verdict.{by_route, by_setup, by_kind, is_invalid, is_narrow, by_endpoint, by_transfer, verdict, goes_by_id}
 use Rattle.gate_history.specs.client.Verdict as of_kind
 use Rattle.gate_history.specs.client.Carried.{IsDirected, IsRequest, IsCarried}
 use Rattle.gate_history.proofs.lemmas.client.Carried.{is_request, carried}
@@ -110,7 +111,7 @@ route-fits r s route.Bad has way is long = tt
 
 setup-fits : (r : Request) (s : Setup) → r.transfer.setup ≡ Some s → r.transfer.ep ≡ address (is_in_setup s) 0 → FitsIt (by_setup r s) r
 setup-fits r s has way =
-    unless (not (none_of r.descs)) EINVAL _ r (λ none.
+    unless (not (is_empty r.descs)) EINVAL _ r (λ none.
     unless (not (s.length == 0) && not (beq (is_in_setup s) r.is_in)) EINVAL _ r (λ one.
     unless (not (s.length == r.transfer.wanted)) EINVAL _ r (λ same.
     route-fits r s (route_of s) has way refl (eqb-true s.length r.transfer.wanted (not-false (s.length == r.transfer.wanted) same)))))
@@ -130,7 +131,7 @@ endpoint-fits : (here : Situation) (r : Request) → r.transfer.setup ≡ None �
 endpoint-fits here r none other way few =
     unless (is_invalid here.row.kind) ENOENT _ r (λ valid.
     unless (of_kind.is_control here.row.kind) EINVAL _ r (λ moves.
-    unless (beq (is_iso here.row.kind) (none_of r.descs)) EINVAL _ r (λ iso.
+    unless (beq (is_iso here.row.kind) (is_empty r.descs)) EINVAL _ r (λ iso.
     unless (not (laid r.descs r.transfer.wanted)) EINVAL _ r (λ lies.
     unless (is_narrow here r here.row.kind && nat_lt MAX_NARROW r.transfer.wanted) EMSGSIZE _ r (λ narrow.
     kind-fits here r here.row here.row.kind none other way few narrow)))))

@@ -1,7 +1,7 @@
 -- What is made of a submit: the first of these rules that applies. What they go by beside the request is a record of
 -- plain facts, and they are read without the rest of the gate.
 use Rattle.std.specs.Bool.{beq}
-use Rattle.std.specs.Prelude.{◌==◌, ◌&&◌, nat_lt, nat_le, not, Bool, true, false, if◌then◌else◌, List, [], ◌∷◌, Option, Some, None, pos}
+use Rattle.std.specs.Prelude.{◌==◌, ◌&&◌, nat_lt, nat_le, not, Bool, true, false, if◌then◌else◌, Option, Some, None, pos}
 use Rattle.usb_base.specs.Endpoint.{is_iso}
 use Rattle.usb_base.specs.declared.setup.Setup.{Setup}
 use Rattle.usb_base.specs.declared.endpoint.EpKind.{EpKind}
@@ -22,10 +22,7 @@ use Rattle.gate_history.specs.declared.verdict.Verdict.TheVariants.{Now, Wire, R
 use Rattle.gate_history.specs.declared.request.Request.{Request}
 use Rattle.usb_base.specs.declared.errno.TheConstants.{ENOENT, EBUSY, EINVAL, EMSGSIZE, ESHUTDOWN}
 use Rattle.usb_base.specs.Setup.{is_in_setup}
-
-abbrev pub none_of : {A : Type 0} → List A → Bool
-none_of [] = true
-none_of (x ∷ xs) = false
+use Rattle.usb_base.specs.Lists.{is_empty}
 
 -- ---- endpoint 0
 
@@ -37,7 +34,7 @@ by_route r = Routed r
 
 abbrev pub by_setup : Request → Setup → Verdict
 by_setup r s =
-    if not (none_of r.descs) then Now EINVAL
+    if not (is_empty r.descs) then Now EINVAL
     else if not (s.length == 0) && not (beq (is_in_setup s) r.is_in) then Now EINVAL
     else if not (s.length == r.transfer.wanted) then Now EINVAL
     else by_route (route_of s)
@@ -69,7 +66,7 @@ abbrev pub by_endpoint : Situation → Request → Verdict
 by_endpoint here r =
     if is_invalid here.row.kind then Now ENOENT
     else if is_control here.row.kind then Now EINVAL
-    else if beq (is_iso here.row.kind) (none_of r.descs) then Now EINVAL
+    else if beq (is_iso here.row.kind) (is_empty r.descs) then Now EINVAL
     else if not (laid r.descs r.transfer.wanted) then Now EINVAL
     else if is_narrow here r here.row.kind && nat_lt MAX_NARROW r.transfer.wanted then Now EMSGSIZE
     else by_kind r here.row here.row.kind

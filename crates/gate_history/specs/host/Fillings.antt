@@ -4,11 +4,11 @@ use Rattle.std.specs.Prelude.{ℕ, ◌==◌, if◌then◌else◌, List, [], ◌�
 use Rattle.std.specs.Option.{option_map}
 use Rattle.usb_base.specs.declared.transfer.Outcome.{Outcome}
 use Rattle.usb_base.specs.declared.transfer.StreamPacket.{StreamPacket}
+use Rattle.usb_base.specs.Lists.{is_empty}
 use Rattle.stream_buffers.specs.Cuts.{Cut}
 use Rattle.stream_buffers.specs.Interrupt.{interrupt_cut}
 use Rattle.stream_buffers.specs.Iso.{IsoOutcome, iso_cut}
 use Rattle.gate_history.specs.declared.request.Request.{Request}
-use Rattle.gate_history.specs.client.Verdict.{none_of}
 
 -- what packets give to a request: an interrupt transfer, or an isochronous one
 pub data Given : Type 0 where
@@ -33,7 +33,7 @@ cut_as kind cut = record { gives = kind cut.gives; leaves = cut.leaves }
 -- one with isochronous packets is given a packet for each of them
 abbrev pub cut_of : ℕ → Request → List StreamPacket → Option (Cut Given)
 cut_of max_packet r packets =
-    if none_of r.descs then option_map (cut_as Transferred) (interrupt_cut max_packet r.transfer.wanted packets)
+    if is_empty r.descs then option_map (cut_as Transferred) (interrupt_cut max_packet r.transfer.wanted packets)
     else option_map (cut_as Isochronous) (iso_cut r.descs packets)
 
 -- ---- of all that wait, in order

@@ -8,7 +8,7 @@ use Rattle.usb_base.specs.declared.reason.Reason.TheVariants.{Mismatch}
 use Rattle.usb_base.specs.declared.refusal.Refusal.{Refusal}
 use Rattle.usb_base.specs.declared.status.UsbStatus.{UsbStatus}
 use Rattle.usb_base.specs.declared.transfer.Outcome.{Outcome}
-use Rattle.usb_base.specs.Status.{status_of}
+use Rattle.usb_base.specs.Status.{status_of, is_success}
 use Rattle.usb_base.specs.Endpoint.{is_in_endpoint}
 use Rattle.redir_wire.specs.declared.kind.DataKind.{DataKind}
 use Rattle.redir_wire.specs.declared.kind.DataKind.TheVariants as data_kind
@@ -105,4 +105,4 @@ got status body = record { status = status; done = length body; body = body }
 
 abbrev pub told_outcome : Request → Verdict → Response → Outcome
 told_outcome r v (Data endpoint length_place o) = o
-told_outcome r v (Status status value) = got (status_of status) (if (status == 0) && gets v then take r.transfer.wanted (value ∷ []) else [])
+told_outcome r v (Status status value) = got (status_of status) (if is_success (status_of status) && gets v then take r.transfer.wanted (value ∷ []) else [])

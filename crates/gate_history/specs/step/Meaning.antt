@@ -1,5 +1,5 @@
 -- What an item means, by what the past says: its effect, the fact that it tells, and the ids of its packets.
-use Rattle.std.specs.Prelude.{ℕ, ◌+◌, ◌==◌, ◌&&◌, not, Bool, if◌then◌else◌, List, [], ◌∷◌, ◌++◌, length, map, filter, Option, Some, None, is_none}
+use Rattle.std.specs.Prelude.{ℕ, ◌+◌, ◌&&◌, not, Bool, if◌then◌else◌, List, [], ◌∷◌, ◌++◌, length, map, filter, Option, Some, None, is_none}
 use Rattle.std.specs.List.{find}
 use Rattle.std.specs.Option.{option_map_or}
 use Rattle.usb_base.specs.declared.side.Side.{Side}
@@ -11,7 +11,8 @@ use Rattle.usb_base.specs.declared.transfer.Outcome.{Outcome}
 use Rattle.usb_base.specs.declared.transfer.StreamPacket.{StreamPacket}
 use Rattle.usb_base.specs.Endpoint.{row_of, is_in_endpoint}
 use Rattle.stream_buffers.specs.Held.{is_full}
-use Rattle.usb_base.specs.Status.{status_of}
+use Rattle.usb_base.specs.Status.{status_of, is_success}
+use Rattle.usb_base.specs.Lists.{is_empty}
 use Rattle.usbip_op.specs.declared.packet.OpPacket.TheVariants as op
 use Rattle.usbip_urb.specs.declared.packet.UrbPacket.TheVariants as urb
 use Rattle.redir_wire.specs.declared.packet.Connect.{Connect}
@@ -34,7 +35,7 @@ use Rattle.gate_history.specs.client.Requests.{request_of}
 use Rattle.gate_history.specs.declared.verdict.Situation.{Situation}
 use Rattle.gate_history.specs.declared.verdict.Verdict.{Verdict}
 use Rattle.gate_history.specs.declared.verdict.Verdict.TheVariants.{Stream}
-use Rattle.gate_history.specs.client.Verdict.{verdict, none_of, goes_by_id}
+use Rattle.gate_history.specs.client.Verdict.{verdict, goes_by_id}
 use Rattle.gate_history.specs.step.Marks.{Submission, Fact, Connected, Interfaces, Endpoints, Configuration, Effect, Idle, Replies, Imports, Opens, Waits, Arrives, Unlinks, Agrees, Answers, StreamTold, Disconnects, Ends, Refuses, Mark}
 use Rattle.gate_history.specs.state.Sides.{refusal}
 use Rattle.gate_history.specs.state.Ids.{last_of}
@@ -56,7 +57,7 @@ refused side place reason = Refuses (refusal side place reason)
 -- the device that an import of this bus id gets. An import waits until the host has answered all that an earlier client
 -- left, and the last stop of its streams
 abbrev pub importable : State → List ℕ → Option Connect
-importable st busid = if is_exported busid && none_of st.abandoned && is_none st.fence then st.facts.connect else None
+importable st busid = if is_exported busid && is_empty st.abandoned && is_none st.fence then st.facts.connect else None
 
 abbrev pub imported_as : State → Option Connect → Effect
 imported_as st connect = option_map_or (λ c. Imports (import_reply st.facts c)) connect (Replies failed_import)
@@ -161,7 +162,7 @@ abbrev pub fact_of : RedirPacket → Option Fact
 fact_of (Plain (plain.Connect connect)) = Some (Connected connect)
 fact_of (Plain (plain.InterfaceInfo info)) = Some (Interfaces info)
 fact_of (Plain (plain.EpInfo info)) = Some (Endpoints (table_of info))
-fact_of (Plain (plain.ConfigurationStatus status configuration)) = if status == 0 then Some (Configuration configuration) else None
+fact_of (Plain (plain.ConfigurationStatus status configuration)) = if is_success (status_of status) then Some (Configuration configuration) else None
 fact_of _ = None
 
 abbrev pub told_by : Item → Option Fact

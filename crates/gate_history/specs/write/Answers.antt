@@ -10,8 +10,8 @@ use Rattle.usbip_urb.specs.declared.packet.UrbPacket.TheVariants as urb
 use Rattle.usbip_urb.specs.Buffers.{total}
 use Rattle.usbip_urb.specs.Errors.{is_failed, errors_of}
 use Rattle.usb_base.specs.declared.errno.TheConstants.{EREMOTEIO}
+use Rattle.usb_base.specs.Lists.{is_empty}
 use Rattle.gate_history.specs.declared.request.Request.{Request}
-use Rattle.gate_history.specs.client.Verdict.{none_of}
 use Rattle.gate_history.specs.host.Fillings.{Given, Transferred, Isochronous}
 
 -- an answer has its request's number, and zeros in the other fields of its head
@@ -24,7 +24,7 @@ fails_if_short flags = not (bit_and flags URB_SHORT_NOT_OK == 0)
 
 abbrev pub told_status : Request → ℤ → ℕ → ℤ
 told_status r status actual =
-    if r.is_in && none_of r.descs && not (is_failed status) && nat_lt actual r.transfer.wanted && fails_if_short r.flags then EREMOTEIO else status
+    if r.is_in && is_empty r.descs && not (is_failed status) && nat_lt actual r.transfer.wanted && fails_if_short r.flags then EREMOTEIO else status
 
 abbrev pub ret_submit : Request → ℤ → ℕ → List ℕ → List IsoDesc → UrbPacket
 ret_submit r status actual body descs = urb.RetSubmit (record {

@@ -1,10 +1,10 @@
 -- Answers as the code has them, and what a request in flight makes of them by its row.
-use Rattle.std.specs.Prelude.{ℕ, Bool, true, false, if◌then◌else◌, List, [], ◌∷◌, length, filter, Option, Some, None, ◌≡◌, ◌==◌}
+use Rattle.std.specs.Prelude.{ℕ, Bool, true, false, if◌then◌else◌, List, [], ◌∷◌, length, filter, Option, Some, None, ◌≡◌}
 use Rattle.usb_base.specs.declared.transfer.Outcome.{Outcome}
 use Rattle.usb_base.specs.declared.transfer.StreamPacket.{StreamPacket}
 use Rattle.usb_base.specs.Endpoint.{is_in_endpoint}
 use Rattle.usb_base.specs.declared.status.UsbStatus.{UsbStatus}
-use Rattle.usb_base.specs.Status.{status_of}
+use Rattle.usb_base.specs.Status.{status_of, is_success}
 use Rattle.usbip_urb.specs.declared.client.ClientPacket.{ClientPacket}
 use Rattle.redir_wire.specs.Table.{data_row, plain_row}
 use Rattle.redir_data.specs.declared.packet.RedirData.{RedirData}
@@ -29,7 +29,7 @@ response_view (raw.Status status value) = Status status value
 
 -- a status of success
 abbrev pub has_succeeded : Response → Bool
-has_succeeded (Status status value) = status == 0
+has_succeeded (Status status value) = is_success (status_of status)
 has_succeeded (Data endpoint length_place o) = false
 
 -- what a status gives, with its value or without

@@ -1,6 +1,7 @@
 -- What an event that comes has sent before the loop writes it, and what is served stands for then.
-use Rattle.std.proofs.Common.{◌≡◌, ℕ, Bool, true, false, List, [], sym, ap, ◌∙◌, subst, inr, append-nil}
+use Rattle.std.proofs.Common.{◌≡◌, ℕ, not, Bool, true, false, List, [], sym, ap, ◌∙◌, subst, inr, append-nil}
 use Rattle.usb_base.specs.declared.refusal.Refusal.{Refusal}
+use Rattle.usb_base.specs.Lists.{is_empty}
 use Rattle.bridge_run.specs.events.Events.{LinkEvent}
 use Rattle.bridge_run.specs.declared.events.sent.Sent.{Sent}
 use Rattle.bridge_run.specs.declared.course.rounds.Rounds.{Rounds}
@@ -9,7 +10,6 @@ use Rattle.bridge_run.specs.course.Course.{Course}
 use Rattle.bridge_run.specs.course.Outside.{Outside, Written}
 use Rattle.bridge_run.specs.inner.Follows.{IsServing}
 use Rattle.bridge_run.specs.inner.Sends.{SendsAll, SendsPart, IsPart, nothing}
-use Rattle.bridge_run.specs.written.Recorded.{has_any}
 
 pub cleared : (sent : Sent) → sent.to_client ≡ [] → sent.to_host ≡ [] → sent.refusals ≡ [] → sent.lets_go ≡ false → sent ≡ nothing
 cleared sent client host refusals lets_go =
@@ -24,9 +24,9 @@ part-of runs_out p events e sent s =
     subst (λ (b : List ℕ). IsPart runs_out p events e b sent.to_host) (sym s.to_client) (subst (λ (b : List ℕ). IsPart runs_out p events e s.client b) (sym s.to_host) s.part)
 
 -- it was taken, and its refusals couldn't be told
-pub untold-part : (runs_out : List LinkEvent → LinkEvent → List ℕ → List ℕ → Type 0) (p : Prescribed) (events : List LinkEvent) (e : LinkEvent) (sent : Sent) → SendsAll p events e nothing sent → has_any sent.refusals ≡ true → IsPart runs_out p events e sent.to_client sent.to_host
+pub untold-part : (runs_out : List LinkEvent → LinkEvent → List ℕ → List ℕ → Type 0) (p : Prescribed) (events : List LinkEvent) (e : LinkEvent) (sent : Sent) → SendsAll p events e nothing sent → not (is_empty sent.refusals) ≡ true → IsPart runs_out p events e sent.to_client sent.to_host
 untold-part runs_out p events e sent s some = record {
   to_client = record { more = []; is = sym s.client ∙ sym (append-nil sent.to_client) };
   to_host = record { more = []; is = sym s.host ∙ sym (append-nil sent.to_host) };
-  ran_out = inr (record { client-is = s.client; host-is = s.host; refuses = ap (λ (rs : List Refusal). has_any rs) (sym s.refusals) ∙ some });
+  ran_out = inr (record { client-is = s.client; host-is = s.host; refuses = ap (λ (rs : List Refusal). not (is_empty rs)) (sym s.refusals) ∙ some });
 }

@@ -1,9 +1,10 @@
 -- A session's log, as memory runs out.
-use Rattle.std.proofs.Common.{◌≡◌, ◌⊎◌, ℕ, ◌||◌, Bool, true, false, cond, List, [], ◌∷◌, ◌++◌, is_some, Err, refl, sym, ap, ◌∙◌, subst, inl, inr, append-nil, append_assoc}
+use Rattle.std.proofs.Common.{◌≡◌, ◌⊎◌, ℕ, ◌||◌, not, Bool, true, false, cond, List, [], ◌∷◌, ◌++◌, is_some, Err, refl, sym, ap, ◌∙◌, subst, inl, inr, append-nil, append_assoc}
 use Rattle.std.proofs.lemmas.Bool.{false≢true, or_parts, or_left}
 use Rattle.usb_base.specs.Writes.{Begins}
 use Rattle.usb_base.specs.declared.side.Side.TheVariants.{Client, Host}
 use Rattle.usb_base.specs.declared.refusal.Refusal.{Refusal}
+use Rattle.usb_base.specs.Lists.{is_empty}
 use Rattle.gate_outside.specs.Calls.{Call, went}
 use Rattle.session_tape.specs.Tapes.{Counts}
 use Rattle.bridge_run.specs.events.Events.{LinkEvent}
@@ -12,7 +13,7 @@ use Rattle.bridge_run.specs.declared.events.sent.Sent.{Sent}
 use Rattle.bridge_run.specs.declared.course.serve_end.ServeEnd.{ServeEnd}
 use Rattle.bridge_run.specs.declared.course.serve_end.ServeEnd.TheVariants as end
 use Rattle.bridge_run.specs.events.Prescribed.{Prescribed, gained}
-use Rattle.bridge_run.specs.written.Recorded.{has_any, written_if}
+use Rattle.bridge_run.specs.written.Recorded.{written_if}
 use Rattle.bridge_run.specs.written.Ups.{client_at, client_behind, host_at, host_since, to_clients, sent_to_host, told_of}
 use Rattle.bridge_run.specs.log.Asks.{Ask}
 use Rattle.bridge_run.specs.events.RanOut.{Untold, is_recorded, RanOut}
@@ -25,7 +26,7 @@ use Rattle.bridge_run.specs.inner.Stopping.{IsStopping, HasStopped, StopFailed, 
 use Rattle.bridge_run.proofs.lemmas.log.Log.{before-same, taking-fault, front-whole, front-of-more, front-in}
 use Rattle.bridge_run.proofs.lemmas.log.Sink.{told-all, part-more}
 
-has-none : (xs : List ℕ) → has_any xs ≡ false → xs ≡ []
+has-none : (xs : List ℕ) → not (is_empty xs) ≡ false → xs ≡ []
 has-none [] is = refl
 has-none (x ∷ xs) is = absurd (false≢true (sym is))
 
@@ -70,10 +71,10 @@ none-written gives runs_out terms p e events k client host begun now none-client
   host = unsent (host_at e (host_since (is_some terms.host) p events)) (sent_to_host (is_some terms.host) p events) (went Host s.calls) host s.written.host none-host;
 }
 
-pub stop-none : {D : Type 0} → (gives : D → Call → D → Type 0) (runs_out : List LinkEvent → LinkEvent → List ℕ → List ℕ → Type 0) (terms : Terms) (p : Prescribed) (e : LinkEvent) (events : List LinkEvent) (k : Rounds) (client host : List ℕ) (begun now : D) → (has_any client || has_any host) ≡ false
+pub stop-none : {D : Type 0} → (gives : D → Call → D → Type 0) (runs_out : List LinkEvent → LinkEvent → List ℕ → List ℕ → Type 0) (terms : Terms) (p : Prescribed) (e : LinkEvent) (events : List LinkEvent) (k : Rounds) (client host : List ℕ) (begun now : D) → (not (is_empty client) || not (is_empty host)) ≡ false
     → IsPart runs_out p events e client host → IsStopping gives terms p e events k begun now → HasStopped gives runs_out terms p e events begun now
 stop-none gives runs_out terms p e events k client host begun now none part s =
-    none-written gives runs_out terms p e events k client host begun now (has-none client (or_parts (has_any client) (has_any host) none).0) (has-none host (or_parts (has_any client) (has_any host) none).1)
+    none-written gives runs_out terms p e events k client host begun now (has-none client (or_parts (not (is_empty client)) (not (is_empty host)) none).0) (has-none host (or_parts (not (is_empty client)) (not (is_empty host)) none).1)
     (why runs_out terms.taped p events e client host part.ran_out) s
 
 -- its line couldn't be recorded
@@ -92,7 +93,7 @@ stop-failed gives terms p e events k begun now s = record {
 }
 
 pub stop-tape : {D : Type 0} → (x : ServeEnd) (old new : Counts) (gives : D → Call → D → Type 0) (runs_out : List LinkEvent → LinkEvent → List ℕ → List ℕ → Type 0) (terms : Terms) (p : Prescribed) (e : LinkEvent) (events : List LinkEvent) (k : Rounds) (made : Bool) (refusals : List Refusal) (begun now : D)
-    → TapeFaults {T = Unit {0}} (Err x) old new → (x ≡ end.Memory → (made ≡ true) × ((is_recorded e || has_any refusals) ≡ true)) → refusals ≡ [] → terms.taped ≡ made → IsStopping gives terms p e events k begun now
+    → TapeFaults {T = Unit {0}} (Err x) old new → (x ≡ end.Memory → (made ≡ true) × ((is_recorded e || not (is_empty refusals)) ≡ true)) → refusals ≡ [] → terms.taped ≡ made → IsStopping gives terms p e events k begun now
     → StopLogs x gives runs_out terms p e events begun now
 stop-tape (end.Ended refused) old new gives runs_out terms p e events k made refusals begun now is wants none taped s = absurd is
 stop-tape end.Idle old new gives runs_out terms p e events k made refusals begun now is wants none taped s = absurd is
@@ -103,7 +104,7 @@ stop-tape end.Memory old new gives runs_out terms p e events k made refusals beg
     none-written gives runs_out terms p e events k [] [] begun now refl refl
     (inr (inr (record {
       is_taped = taped ∙ (wants refl).0;
-      has_lines = or_left (is_recorded e) (has_any (gained p.refusals events e)) (alone (is_recorded e) (ap (λ (rs : List Refusal). is_recorded e || has_any rs) (sym none) ∙ (wants refl).1));
+      has_lines = or_left (is_recorded e) (not (is_empty (gained p.refusals events e))) (alone (is_recorded e) (ap (λ (rs : List Refusal). is_recorded e || not (is_empty rs)) (sym none) ∙ (wants refl).1));
       client-is = refl;
       host-is = refl;
     }))) s
@@ -216,7 +217,7 @@ stop-logs (end.LinkFault side) gives runs_out tells terms p e events begun now t
 
 -- all was sent, and its lines couldn't be recorded, before anything is written
 pub tape-logs : {D : Type 0} → (x : ServeEnd) (old new : Counts) (gives : D → Call → D → Type 0) (stands : List LinkEvent → Type 0) (runs_out : List LinkEvent → LinkEvent → List ℕ → List ℕ → Type 0) (tells : List ℕ → Type 0) (terms : Terms) (p : Prescribed) (asks : List Ask) (e : LinkEvent) (k : Rounds) (sent : Sent) (lines : List ℕ) (made : Bool) (begun now : D)
-    → TapeFaults {T = Unit {0}} (Err x) old new → (x ≡ end.Memory → (made ≡ true) × ((is_recorded e || has_any sent.refusals) ≡ true)) → terms.taped ≡ made → (t : IsTaking gives stands tells terms p asks e k begun now) → Prepared p t.events e sent lines
+    → TapeFaults {T = Unit {0}} (Err x) old new → (x ≡ end.Memory → (made ≡ true) × ((is_recorded e || not (is_empty sent.refusals)) ≡ true)) → terms.taped ≡ made → (t : IsTaking gives stands tells terms p asks e k begun now) → Prepared p t.events e sent lines
     → Logged x gives runs_out tells terms p begun now
 tape-logs (end.Ended refused) old new gives stands runs_out tells terms p asks e k sent lines made begun now is wants taped t prepared = absurd is
 tape-logs end.Idle old new gives stands runs_out tells terms p asks e k sent lines made begun now is wants taped t prepared = absurd is
@@ -228,7 +229,7 @@ tape-logs end.Memory old new gives stands runs_out tells terms p asks e k sent l
     (none-written gives runs_out terms p e t.events k [] [] begun now refl refl
     (inr (inr (record {
       is_taped = taped ∙ (wants refl).0;
-      has_lines = ap (λ (rs : List Refusal). is_recorded e || has_any rs) (sym prepared.refusals) ∙ (wants refl).1;
+      has_lines = ap (λ (rs : List Refusal). is_recorded e || not (is_empty rs)) (sym prepared.refusals) ∙ (wants refl).1;
       client-is = refl;
       host-is = refl;
     })))

@@ -1,11 +1,12 @@
 -- What is done with a lent device's host, act by act and event by event.
-use Rattle.std.proofs.Common.{◌≡◌, ℕ, ◌||◌, Bool, true, false, cond, List, [], ◌∷◌, ◌++◌, length, drop, Result, Ok, Err, refl, sym, ap, ◌∙◌, subst, append-nil, append_assoc}
+use Rattle.std.proofs.Common.{◌≡◌, ℕ, ◌||◌, not, Bool, true, false, cond, List, [], ◌∷◌, ◌++◌, length, drop, Result, Ok, Err, refl, sym, ap, ◌∙◌, subst, append-nil, append_assoc}
 use Rattle.std.specs.List.{flat_map, list_any}
 use Rattle.std.specs.Result.{OnOk}
 use Rattle.std.proofs.Math.Seq.{drop-append_seam}
 use Rattle.std.proofs.Math.Bool.{or-false}
 use Rattle.usb_base.specs.declared.side.Side.TheVariants.{Client}
 use Rattle.usb_base.specs.declared.refusal.Refusal.{Refusal}
+use Rattle.usb_base.specs.Lists.{is_empty}
 use Rattle.model_device.specs.Meaning.{Meaning}
 use Rattle.redir_host.specs.state.Kept.{HostKept as Core}
 use Rattle.redir_host.specs.declared.write.note.HostNote.{HostNote}
@@ -18,7 +19,6 @@ use Rattle.redir_host.proofs.lemmas.step.Acts.{act-out}
 use Rattle.bridge_run.specs.declared.served.lent.Lent.{Lent}
 use Rattle.bridge_run.specs.declared.events.sent.Sent.{Sent}
 use Rattle.bridge_run.specs.events.Events.{LinkEvent, SidePiece}
-use Rattle.bridge_run.specs.written.Recorded.{has_any}
 use Rattle.bridge_run.specs.served.Lent.{each, used, refusal_in, acts_behind, acts_of, is_coming, has_come, refused_by, lent_refusals, lent_sends}
 use Rattle.bridge_run.specs.inner.Sends.{SendsAll}
 use Rattle.bridge_run.specs.inner.Lending.{Acts, IsLent}
@@ -58,7 +58,7 @@ midway-more act m s j k past all left ep rest old out new is x does = record {
 
 -- ---- a piece
 
-pub any-refused : (notes : List HostNote) → has_any (flat_map refusal_in notes) ≡ list_any is_refusal notes
+pub any-refused : (notes : List HostNote) → not (is_empty (flat_map refusal_in notes)) ≡ list_any is_refusal notes
 any-refused [] = refl
 any-refused (note.Refused place reason ∷ notes) = refl
 any-refused (note.Cancelled id ∷ notes) = any-refused notes
@@ -67,7 +67,7 @@ any-refused (note.Cancelled id ∷ notes) = any-refused notes
 pub piece-refused : {S : Type 0} (m : Meaning S) (s : S) (k : Core S) (past : List Act) (b : List ℕ) (notes : List HostNote) (old new : List ℕ) (refused : Bool) → TakesAct m s k past (Piece b) old new [] notes → list_any is_refusal notes ≡ refused
     → acts_behind m s past (SidePiece Client b) ≡ cond refused (Piece b ∷ past) (used (Piece b ∷ past))
 piece-refused m s k past b notes old new refused takes is =
-    ap (λ (x : Bool). cond x (Piece b ∷ past) (used (Piece b ∷ past))) (ap (λ (ns : List HostNote). has_any (flat_map refusal_in ns)) (sym takes.told) ∙ any-refused notes ∙ is)
+    ap (λ (x : Bool). cond x (Piece b ∷ past) (used (Piece b ∷ past))) (ap (λ (ns : List HostNote). not (is_empty (flat_map refusal_in ns))) (sym takes.told) ∙ any-refused notes ∙ is)
 
 pub heard-refused : {S : Type 0} (m : Meaning S) (s : S) (k : Core S) (past : List Act) (b : List ℕ) (notes : List HostNote) (old new : List ℕ) → TakesAct m s k past (Piece b) old new [] notes → list_any is_refusal notes ≡ true
     → Acts m s k past (acts_behind m s past (SidePiece Client b)) old new

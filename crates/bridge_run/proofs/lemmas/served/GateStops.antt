@@ -1,10 +1,11 @@
 -- Where memory runs out as a gate takes an event, and what it had sent by then.
-use Rattle.std.proofs.Common.{◌≡◌, ◌⊎◌, ℕ, suc, Bool, true, false, cond, List, [], ◌∷◌, ◌++◌, length, Option, Some, refl, sym, ap, ◌∙◌, subst, inl, inr, arith, append-nil, append_assoc}
+use Rattle.std.proofs.Common.{◌≡◌, ◌⊎◌, ℕ, suc, not, Bool, true, false, cond, List, [], ◌∷◌, ◌++◌, length, Option, Some, refl, sym, ap, ◌∙◌, subst, inl, inr, arith, append-nil, append_assoc}
 use Rattle.std.specs.List.{cons_option, flat_map}
 use Rattle.std.specs.Prelude.{IsSomeAnd}
 use Rattle.std.proofs.lemmas.Grind.{flat_map-append}
 use Rattle.usb_base.specs.Writes.{Begins}
 use Rattle.usb_base.specs.declared.refusal.Refusal.{Refusal}
+use Rattle.usb_base.specs.Lists.{is_empty}
 use Rattle.packet_stream.specs.Items.{onto}
 use Rattle.gate_history.specs.step.Events.{Event as GateEvent}
 use Rattle.gate_history.specs.declared.item.Item.{Item}
@@ -28,7 +29,6 @@ use Rattle.gate_history.specs.write.Refusals.{refusal_in}
 use Rattle.bridge_run.specs.served.Gate.{gate_event, gate_events, gate_notes, gate_sends}
 use Rattle.bridge_run.specs.served.GateStops.{GateStops, gate_runs_out}
 use Rattle.bridge_run.specs.events.Prescribed.{gained}
-use Rattle.bridge_run.specs.written.Recorded.{has_any}
 use Rattle.bridge_run.specs.inner.Sends.{SendsPart}
 use Rattle.bridge_run.proofs.lemmas.served.Acts.{gained-is}
 use Rattle.bridge_run.proofs.lemmas.served.Gate.{gained-of}
@@ -114,7 +114,7 @@ gate-stops setting first events e ge kept old new is x =
 
 -- all was sent, and its refusals couldn't be told
 pub gate-untold : (setting : AfterLoss) (first : ℕ) (past : List LinkEvent) (e : LinkEvent) (ge : GateEvent) (kept : GateKept) (old new : Sent) (notes : List Note) → gate_event e ≡ Some ge
-    → TakesEvent first kept (gate_events past) ge old.to_client new.to_client old.to_host new.to_host notes → has_any (flat_map refusal_in notes) ≡ true → SendsPart (gate_runs_out first) (gate_sends setting first) past e old new
+    → TakesEvent first kept (gate_events past) ge old.to_client new.to_client old.to_host new.to_host notes → not (is_empty (flat_map refusal_in notes)) ≡ true → SendsPart (gate_runs_out first) (gate_sends setting first) past e old new
 gate-untold setting first past e ge kept old new notes is t some =
     let p = gate_sends setting first in
     let came : gate_events (e ∷ past) ≡ ge ∷ gate_events past = ap (λ (o : Option GateEvent). cons_option o (gate_events past)) is in
@@ -128,6 +128,6 @@ gate-untold setting first past e ge kept old new notes is t some =
       part = record {
         to_client = record { more = []; is = sym (append-nil (gained p.to_client past e)) };
         to_host = record { more = []; is = sym (append-nil (gained p.to_host past e)) };
-        ran_out = inr (record { client-is = refl; host-is = refl; refuses = ap (λ (rs : List Refusal). has_any rs) (gained-is (p.refusals past) (flat_map refusal_in notes) (p.refusals (e ∷ past)) refused) ∙ some });
+        ran_out = inr (record { client-is = refl; host-is = refl; refuses = ap (λ (rs : List Refusal). not (is_empty rs)) (gained-is (p.refusals past) (flat_map refusal_in notes) (p.refusals (e ∷ past)) refused) ∙ some });
       };
     }

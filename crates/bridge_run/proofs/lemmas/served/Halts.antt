@@ -1,5 +1,5 @@
 -- Where memory runs out as a lent device's host is used, and what had been sent by then.
-use Rattle.std.proofs.Common.{◌≡◌, ℕ, ◌||◌, Bool, true, false, cond, List, [], ◌∷◌, ◌++◌, Result, Ok, Err, refl, sym, ap, ◌∙◌, inl, inr, append-nil, append_assoc, fold}
+use Rattle.std.proofs.Common.{◌≡◌, ℕ, ◌||◌, not, Bool, true, false, cond, List, [], ◌∷◌, ◌++◌, Result, Ok, Err, refl, sym, ap, ◌∙◌, inl, inr, append-nil, append_assoc, fold}
 use Rattle.std.specs.List.{flat_map, list_any}
 use Rattle.std.specs.Result.{OnErr}
 use Rattle.usb_base.specs.Writes.{Begins}
@@ -20,8 +20,8 @@ use Rattle.bridge_run.specs.declared.served.lent.Use.TheVariants.{Perform, Offer
 use Rattle.bridge_run.specs.declared.events.sent.Sent.{Sent}
 use Rattle.bridge_run.specs.events.Events.{LinkEvent, SidePiece}
 use Rattle.bridge_run.specs.events.Prescribed.{gained}
-use Rattle.bridge_run.specs.written.Recorded.{has_any}
 use Rattle.usb_base.specs.Endpoint.{in_endpoints, out_endpoints}
+use Rattle.usb_base.specs.Lists.{is_empty}
 use Rattle.bridge_run.specs.served.Lent.{each, used, refusal_in, acts_behind, acts_of, is_coming, has_come, lent_bytes, refused_by, lent_refusals, lent_sends}
 use Rattle.bridge_run.specs.served.LentStops.{ActsStop, LentStops}
 use Rattle.bridge_run.specs.events.RanOut.{RanOutWithin}
@@ -122,7 +122,7 @@ behind-more false acts = used-more acts
 -- memory ran out within the piece
 pub stop-piece : {S : Type 0} (m : Meaning S) (s : S) (past : List Act) (b old new : List ℕ) (refusals : List Refusal) → StopsInAct m s past (Piece b) old new → Halts m s past (acts_behind m s past (SidePiece Client b)) refusals old new
 stop-piece m s past b old new refusals x =
-    let later = behind-more (has_any (refused_by m s past (SidePiece Client b))) (Piece b ∷ past) in
+    let later = behind-more (not (is_empty (refused_by m s past (SidePiece Client b)))) (Piece b ∷ past) in
     inl (record {
       given = given_by bytes_of m (host_of m s past) x.taken;
       stops = record {
@@ -138,11 +138,11 @@ stop-piece m s past b old new refusals x =
     })
 
 -- it was taken, and its refusal couldn't be told
-pub stop-refused : {S : Type 0} (m : Meaning S) (s : S) (k : Core S) (past : List Act) (b : List ℕ) (notes : List HostNote) (old new : List ℕ) → TakesAct m s k past (Piece b) old new [] notes → has_any (flat_map refusal_in notes) ≡ true
+pub stop-refused : {S : Type 0} (m : Meaning S) (s : S) (k : Core S) (past : List Act) (b : List ℕ) (notes : List HostNote) (old new : List ℕ) → TakesAct m s k past (Piece b) old new [] notes → not (is_empty (flat_map refusal_in notes)) ≡ true
     → Halts m s past (acts_behind m s past (SidePiece Client b)) (refused_by m s past (SidePiece Client b)) old new
 stop-refused m s k past b notes old new takes some =
     let a = heard-refused m s k past b notes old new takes (sym (any-refused notes) ∙ some) in
-    inr (record { given = a.given; sends = a.sends; sent = a.sent; refuses = ap (λ (ns : List HostNote). has_any (flat_map refusal_in ns)) (sym takes.told) ∙ some })
+    inr (record { given = a.given; sends = a.sends; sent = a.sent; refuses = ap (λ (ns : List HostNote). not (is_empty (flat_map refusal_in ns))) (sym takes.told) ∙ some })
 
 -- it was taken, and memory ran out as the device was used
 pub stop-used : {S : Type 0} (m : Meaning S) (s : S) (j : Core S) (past : List Act) (b : List ℕ) (notes : List HostNote) (old out new : List ℕ) (refusals : List Refusal) → TakesAct m s j past (Piece b) old out [] notes → list_any is_refusal notes ≡ false
@@ -234,4 +234,4 @@ lent-part m s old mid past e sent sent' lent halts came empty client host = go h
     go (inr x) =
         let is = handed x.given x.sent ∙ handed-is (has_come past) (is_coming e) (host_out m s acts) x.given (host_out m s behind) old.waiting (old.waiting ++ x.given) x.sends lent.waiting refl in
         let refused = gained-is (lent_refusals m s past) (refused_by m s acts e) (lent_refusals m s (e ∷ past)) refl in
-        sends (record { more = []; is = sym is ∙ sym (append-nil sent'.to_client) }) (inr (record { client-is = is; host-is = refl; refuses = ap has_any refused ∙ x.refuses }))
+        sends (record { more = []; is = sym is ∙ sym (append-nil sent'.to_client) }) (inr (record { client-is = is; host-is = refl; refuses = ap (λ (rs : List Refusal). not (is_empty rs)) refused ∙ x.refuses }))

@@ -4,6 +4,7 @@ use Rattle.std.proofs.lemmas.Bool.{false≢true, cond_both, ltb-true, not-false}
 use Rattle.usb_base.specs.declared.side.Side.{Side}
 use Rattle.usb_base.specs.declared.side.Side.TheVariants.{Client, Host}
 use Rattle.usb_base.specs.declared.refusal.Refusal.{Refusal}
+use Rattle.usb_base.specs.Lists.{is_empty}
 use Rattle.gate_outside.specs.declared.turn.Turn.{Turn}
 use Rattle.gate_outside.specs.declared.turn.Polled.{Polled}
 use Rattle.gate_outside.specs.declared.turn.Polled.TheVariants.{Took, NotYet, Ended, Failed}
@@ -13,7 +14,7 @@ use Rattle.bridge_run.specs.declared.course.serve_end.ServeEnd.TheVariants as en
 use Rattle.bridge_run.specs.events.Events.{LinkEvent, SideEnd}
 use Rattle.bridge_run.specs.events.Prescribed.{Prescribed, gained, refuses, drops, first_of}
 use Rattle.bridge_run.specs.declared.written.recording.TheConstants.{WAITING_LIMIT}
-use Rattle.bridge_run.specs.written.Recorded.{has_any, sends_any, is_last, is_full, waiting_if}
+use Rattle.bridge_run.specs.written.Recorded.{sends_any, is_last, is_full, waiting_if}
 use Rattle.bridge_run.specs.course.Course.{Setting, Course, Next, Making, AtDoor, AtClient, AtHost, AtEnd, Takes}
 use Rattle.bridge_run.specs.declared.course.polling.TheConstants.{POLL_LIMIT}
 use Rattle.bridge_run.specs.course.Calls.{Outcome, Goes, Stops, course_of, sends_now, is_due, lines_with, put, settle, ends_next, take_event, come, turned, heard, poll, gathered, rest, call, and_then, calls}
@@ -22,7 +23,7 @@ use Rattle.bridge_run.specs.course.Serves.{Reaches, NoneWaits, EndsSo, CutShort,
 
 -- ---- an event behind which it ends
 
-refuses-any : (side : Side) (refused : List Refusal) → refuses side refused ≡ true → has_any refused ≡ true
+refuses-any : (side : Side) (refused : List Refusal) → refuses side refused ≡ true → not (is_empty refused) ≡ true
 refuses-any side [] is = absurd (false≢true is)
 refuses-any side (r ∷ refused) is = refl
 
@@ -42,7 +43,7 @@ last-due false false false false false false by_client by_host z full f g is = r
 over-due : (p : Prescribed) (e : LinkEvent) (c : Course) → (not (put p e c).client_up && not (put p e c).host_up) ≡ true → is_due p e c ≡ true
 over-due p e c is =
     let refused = gained p.refusals c.events e in
-    last-due c.client_up c.host_up (has_any (gained p.to_client c.events e)) (has_any (gained p.to_host c.events e)) (has_any refused) (p.lets_go (e ∷ c.events)) (refuses Client refused) (refuses Host refused) (c.left == 0) (is_full (lines_with p e c))
+    last-due c.client_up c.host_up (not (is_empty (gained p.to_client c.events e))) (not (is_empty (gained p.to_host c.events e))) (not (is_empty refused)) (p.lets_go (e ∷ c.events)) (refuses Client refused) (refuses Host refused) (c.left == 0) (is_full (lines_with p e c))
     (refuses-any Client refused) (refuses-any Host refused) is
 
 spent : (sends down z full : Bool) → z ≡ true → ((sends || (down || z)) || full) ≡ true
@@ -54,7 +55,7 @@ spent false false false full is = absurd (false≢true is)
 spent-due : (p : Prescribed) (e : LinkEvent) (c : Course) → (c.left == 0) ≡ true → is_due p e c ≡ true
 spent-due p e c is =
     let refused = gained p.refusals c.events e in
-    spent (has_any (gained p.to_client c.events e) || (has_any (gained p.to_host c.events e) || (has_any refused || p.lets_go (e ∷ c.events)))) (not c.client_up && not c.host_up) (c.left == 0) (is_full (lines_with p e c)) is
+    spent (not (is_empty (gained p.to_client c.events e)) || (not (is_empty (gained p.to_host c.events e)) || (not (is_empty refused) || p.lets_go (e ∷ c.events)))) (not c.client_up && not c.host_up) (c.left == 0) (is_full (lines_with p e c)) is
 
 -- behind lines that are due nothing waits
 due-none : (p : Prescribed) (e : LinkEvent) (c : Course) → is_due p e c ≡ true → (put p e c).waiting ≡ []

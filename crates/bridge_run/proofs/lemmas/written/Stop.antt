@@ -1,18 +1,19 @@
 -- What is written of an event that memory ran out in.
-use Rattle.std.proofs.Common.{◌≡◌, ℕ, ◌||◌, Bool, true, false, cond, List, [], ◌∷◌, ◌++◌, Option, Some, None, IfSome, refl, sym, ap, ◌∙◌, subst, inl, inr, append-nil, append_assoc}
+use Rattle.std.proofs.Common.{◌≡◌, ℕ, ◌||◌, not, Bool, true, false, cond, List, [], ◌∷◌, ◌++◌, Option, Some, None, IfSome, refl, sym, ap, ◌∙◌, subst, inl, inr, append-nil, append_assoc}
 use Rattle.std.proofs.lemmas.Bool.{false≢true}
 use Rattle.std.specs.List.{flat_map}
 use Rattle.std.specs.Io.KnownBytes.{append_known}
 use Rattle.std.proofs.Math.Bool.{or-true}
 use Rattle.usb_base.specs.Writes.{Begins}
 use Rattle.usb_base.specs.declared.refusal.Refusal.{Refusal}
+use Rattle.usb_base.specs.Lists.{is_empty}
 use Rattle.session_tape.specs.Lines.{refusal_comment}
 use Rattle.session_tape.specs.Tapes.{GrowsInPart}
 use Rattle.gate_outside.specs.declared.turn.Turn.{Turn}
 use Rattle.gate_outside.specs.Link.{Link, Door}
 use Rattle.bridge_run.specs.events.Events.{LinkEvent}
 use Rattle.bridge_run.specs.events.Prescribed.{Prescribed, gained}
-use Rattle.bridge_run.specs.written.Recorded.{has_any, event_line, lines_of, is_last, is_full, written_if}
+use Rattle.bridge_run.specs.written.Recorded.{event_line, lines_of, is_last, is_full, written_if}
 use Rattle.bridge_run.specs.course.Course.{Course}
 use Rattle.bridge_run.specs.course.Calls.{put, is_due, lines_with}
 use Rattle.bridge_run.specs.course.Outside.{Outside, Written, Shows, Tells, IsTold, IsBetween, IsTaped, HasLines, Cut}
@@ -21,22 +22,22 @@ use Rattle.bridge_run.proofs.lemmas.written.Put.{more_if, wrote-shows, between-a
 
 -- ---- its lines are due
 
-has-more : (xs ys all : List ℕ) → all ≡ xs ++ ys → has_any xs ≡ true → has_any all ≡ true
+has-more : (xs ys all : List ℕ) → all ≡ xs ++ ys → not (is_empty xs) ≡ true → not (is_empty all) ≡ true
 has-more [] ys all is some = absurd (false≢true some)
-has-more (x ∷ xs) ys all is some = ap has_any is
+has-more (x ∷ xs) ys all is some = ap (λ (l : List ℕ). not (is_empty l)) is
 
 any-of : (a b x y rest : Bool) → (a || b) ≡ true → (a ≡ true → x ≡ true) → (b ≡ true → y ≡ true) → (x || (y || rest)) ≡ true
 any-of true b x y rest some first second = ap (λ (z : Bool). z || (y || rest)) (first refl)
 any-of false b x y rest some first second = ap (λ (z : Bool). x || (z || rest)) (second some) ∙ or-true x
 
 -- bytes were sent of it
-due-bytes : (p : Prescribed) (c : Course) (e : LinkEvent) (client host : List ℕ) → Begins client (gained p.to_client c.events e) → Begins host (gained p.to_host c.events e) → (has_any client || has_any host) ≡ true → is_due p e c ≡ true
+due-bytes : (p : Prescribed) (c : Course) (e : LinkEvent) (client host : List ℕ) → Begins client (gained p.to_client c.events e) → Begins host (gained p.to_host c.events e) → (not (is_empty client) || not (is_empty host)) ≡ true → is_due p e c ≡ true
 due-bytes p c e client host f g some =
     let x = gained p.to_client c.events e in
     let y = gained p.to_host c.events e in
     let rs = gained p.refusals c.events e in
     ap (λ (b : Bool). (b || is_last c) || is_full (lines_with p e c))
-    (any-of (has_any client) (has_any host) (has_any x) (has_any y) (has_any rs || p.lets_go (e ∷ c.events)) some (has-more client f.more x f.is) (has-more host g.more y g.is))
+    (any-of (not (is_empty client)) (not (is_empty host)) (not (is_empty x)) (not (is_empty y)) (not (is_empty rs) || p.lets_go (e ∷ c.events)) some (has-more client f.more x f.is) (has-more host g.more y g.is))
 
 -- so that they are all that the call records
 all-lines : (p : Prescribed) (c : Course) (e : LinkEvent) → is_due p e c ≡ true → (put p e c).recorded ≡ (c.recorded ++ (c.waiting ++ event_line e)) ++ flat_map refusal_comment (gained p.refusals c.events e)
@@ -51,7 +52,7 @@ all-lines p c e due =
 -- what the event had sent before memory ran out, and what of that is written
 pub record Sent (ran_out : List LinkEvent → LinkEvent → List ℕ → List ℕ → Type 0) (c : Course) (e : LinkEvent) (client host : List ℕ) (w : Outside) (out : Written) : Type 0 where
   pub stopped : ran_out c.events e client host
-  pub some : (has_any client || has_any host) ≡ true
+  pub some : (not (is_empty client) || not (is_empty host)) ≡ true
   pub to_client : IsBetween c.to_client w.client.written (cond c.client_up (c.to_client ++ client) c.to_client)
   pub to_host : IsBetween c.to_host w.host.written (cond c.host_up (c.to_host ++ host) c.to_host)
   pub told : IsTold out c.told
@@ -83,7 +84,7 @@ recorded-line {ran_out = ran_out} p c e w out client host sent (Some held) known
     ))
 
 stop-recorded : (ran_out : List LinkEvent → LinkEvent → List ℕ → List ℕ → Type 0) (p : Prescribed) (c : Course) (e : LinkEvent) (client host : List ℕ) (refusals : List Refusal) (w : Outside) (out out' : Written) (waiting : List ℕ) → Sent ran_out c e client host w out' → Begins client (gained p.to_client c.events e) → Begins host (gained p.to_host c.events e)
-    → (has_any client || has_any host) ≡ true → refusals ≡ [] → waiting ≡ out.waiting → IsTaped out c → out'.tape ≡ append_known out.tape (waiting ++ lines_of e refusals) → IfSome out'.tape (λ held. HasLines ran_out w out' c (put p e c) held)
+    → (not (is_empty client) || not (is_empty host)) ≡ true → refusals ≡ [] → waiting ≡ out.waiting → IsTaped out c → out'.tape ≡ append_known out.tape (waiting ++ lines_of e refusals) → IfSome out'.tape (λ held. HasLines ran_out w out' c (put p e c) held)
 stop-recorded ran_out p c e client host refusals w out out' waiting sent f g some none same taped is =
     recorded-line {ran_out = ran_out} p c e w out' client host sent out.tape out'.tape out.waiting (due-bytes p c e client host f g some) taped
     (is ∙ ap (λ (l : List ℕ). append_known out.tape (l ++ lines_of e refusals)) same ∙ ap (λ (rs : List Refusal). append_known out.tape (out.waiting ++ (event_line e ++ flat_map refusal_comment rs))) none)
@@ -110,7 +111,7 @@ recorded-part ran_out p c e w out (Some held) known' waiting due has grows clien
     ))
 
 pub stop-unrecorded : (ran_out : List LinkEvent → LinkEvent → List ℕ → List ℕ → Type 0) (p : Prescribed) (c : Course) (e : LinkEvent) (client host : List ℕ) (refusals : List Refusal) (w : Outside) (out out' : Written) (waiting : List ℕ) → Begins client (gained p.to_client c.events e) → Begins host (gained p.to_host c.events e)
-    → (has_any client || has_any host) ≡ true → refusals ≡ [] → waiting ≡ out.waiting → Tells w out c → IsTold out' c.told → GrowsInPart out.tape out'.tape (waiting ++ lines_of e refusals) → IfSome out'.tape (λ held. HasLines ran_out w out' c (put p e c) held)
+    → (not (is_empty client) || not (is_empty host)) ≡ true → refusals ≡ [] → waiting ≡ out.waiting → Tells w out c → IsTold out' c.told → GrowsInPart out.tape out'.tape (waiting ++ lines_of e refusals) → IfSome out'.tape (λ held. HasLines ran_out w out' c (put p e c) held)
 stop-unrecorded ran_out p c e client host refusals w out out' waiting f g some none same t told grows =
     recorded-part ran_out p c e w out' out.tape out'.tape out.waiting (due-bytes p c e client host f g some) t.tape
     (subst (λ (rs : List Refusal). GrowsInPart out.tape out'.tape (out.waiting ++ (event_line e ++ flat_map refusal_comment rs))) none (subst (λ (l : List ℕ). GrowsInPart out.tape out'.tape (l ++ lines_of e refusals)) same grows))
@@ -171,7 +172,7 @@ stop-cut p c e client host w w' out out' f g t told client-turns host-turns door
 
 -- and its line is recorded
 pub stop-written : {ran_out : List LinkEvent → LinkEvent → List ℕ → List ℕ → Type 0} → (p : Prescribed) (c : Course) (e : LinkEvent) (client host : List ℕ) (refusals : List Refusal) (w w' : Outside) (out out' : Written) (waiting : List ℕ) → ran_out c.events e client host → Begins client (gained p.to_client c.events e) → Begins host (gained p.to_host c.events e)
-    → (has_any client || has_any host) ≡ true → refusals ≡ [] → waiting ≡ out.waiting → out'.tape ≡ append_known out.tape (waiting ++ lines_of e refusals) → Tells w out c → IsTold out' c.told → w'.client.turns ≡ Some c.client → w'.host.turns ≡ Some c.host → w'.door ≡ w.door
+    → (not (is_empty client) || not (is_empty host)) ≡ true → refusals ≡ [] → waiting ≡ out.waiting → out'.tape ≡ append_known out.tape (waiting ++ lines_of e refusals) → Tells w out c → IsTold out' c.told → w'.client.turns ≡ Some c.client → w'.host.turns ≡ Some c.host → w'.door ≡ w.door
     → IsBetween c.to_client w'.client.written (cond c.client_up (c.to_client ++ client) c.to_client) → IsBetween c.to_host w'.host.written (cond c.host_up (c.to_host ++ host) c.to_host) → Cut ran_out w' out' c (put p e c)
 stop-written {ran_out = ran_out} p c e client host refusals w w' out out' waiting stopped f g some none same is t told client-turns host-turns door to_client to_host =
     stop-cut p c e client host w w' out out' f g t told client-turns host-turns door to_client to_host

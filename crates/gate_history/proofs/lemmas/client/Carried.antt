@@ -30,6 +30,7 @@ use Rattle.control_route.specs.Routes.{route_of}
 use Rattle.usb_base.specs.declared.errno.TheConstants.{ENOENT, EBUSY, EINVAL, EMSGSIZE, ESHUTDOWN}
 use Rattle.gate_history.specs.declared.request.Request.{Request}
 use Rattle.usb_base.specs.Setup.{is_in_setup}
+use Rattle.usb_base.specs.Lists.{is_empty}
 use Rattle.gate_history.specs.client.Requests.{request_of, transfer_by, address}
 use Rattle.gate_history.specs.declared.verdict.Pipe.{Pipe}
 use Rattle.gate_history.specs.declared.verdict.Pipe.TheVariants.{Control, Bulk, InterruptOut}
@@ -37,7 +38,7 @@ use Rattle.gate_history.specs.declared.verdict.Situation.{Situation}
 use Rattle.gate_history.specs.declared.verdict.TheConstants.{MAX_NARROW}
 use Rattle.gate_history.specs.declared.verdict.Verdict.{Verdict}
 use Rattle.gate_history.specs.declared.verdict.Verdict.TheVariants.{Now, Wire, IsoOut, Stream}
-use Rattle.gate_history.specs.client.Verdict.{none_of, by_route, by_setup, by_kind, is_control, is_invalid, is_narrow, by_endpoint, by_transfer, verdict}
+use Rattle.gate_history.specs.client.Verdict.{by_route, by_setup, by_kind, is_control, is_invalid, is_narrow, by_endpoint, by_transfer, verdict}
 use Rattle.gate_history.specs.client.Carried.{IsDirected, IsRequest, HasItsSetup, LengthFits, IsSent, IsCarried}
 use Rattle.gate_history.specs.state.Flight.{wide_ids, wide_bulk}
 use Rattle.gate_history.specs.write.Packets.{no_setup, wire_packet}
@@ -103,7 +104,7 @@ by_endpoint-carried : (here : Situation) (r : Request) → IsRequest r → is_in
 by_endpoint-carried here r is way =
     unless here.wide (is_invalid here.row.kind) ENOENT _ r (λ valid.
     unless here.wide (is_control here.row.kind) EINVAL _ r (λ other.
-    unless here.wide (beq (is_iso here.row.kind) (none_of r.descs)) EINVAL _ r (λ iso.
+    unless here.wide (beq (is_iso here.row.kind) (is_empty r.descs)) EINVAL _ r (λ iso.
     unless here.wide (not (laid r.descs r.transfer.wanted)) EINVAL _ r (λ lies.
     unless here.wide (is_narrow here r here.row.kind && nat_lt MAX_NARROW r.transfer.wanted) EMSGSIZE _ r (λ fits.
     by_kind-carried here r here.row here.row.kind way is.body (not-false _ lies) is.few_bytes (data-way r.is_in r.transfer.ep r.transfer.wanted _ way is.body) fits)))))
@@ -127,7 +128,7 @@ setup-data false true length wanted n one same e = e ∙ sym (sym same ∙ no-le
 
 pub by_setup-carried : (wide : Bool) (r : Request) (s : Setup) → IsRequest r → r.transfer.setup ≡ Some s → r.transfer.ep ≡ address (is_in_setup s) 0 → IsCarried wide (by_setup r s) r
 by_setup-carried wide r s is has way =
-    unless wide (not (none_of r.descs)) EINVAL _ r (λ none.
+    unless wide (not (is_empty r.descs)) EINVAL _ r (λ none.
     unless wide (not (s.length == 0) && not (beq (is_in_setup s) r.is_in)) EINVAL _ r (λ one.
     unless wide (not (s.length == r.transfer.wanted)) EINVAL _ r (λ same.
     let length : s.length ≡ r.transfer.wanted = eqb-true s.length r.transfer.wanted (not-false _ same) in

@@ -36,12 +36,13 @@ use Rattle.gate_history.specs.declared.item.Item.TheVariants.{Asked, ClientWrong
 use Rattle.usb_base.specs.declared.errno.TheConstants.{ENOENT, EBUSY, EINVAL, EMSGSIZE, ESHUTDOWN}
 use Rattle.gate_history.specs.declared.request.Request.{Request}
 use Rattle.usb_base.specs.Setup.{is_in_setup}
+use Rattle.usb_base.specs.Lists.{is_empty}
 use Rattle.gate_history.specs.client.Requests.{request_of}
 use Rattle.gate_history.specs.declared.verdict.Situation.{Situation}
 use Rattle.gate_history.specs.declared.verdict.TheConstants.{MAX_NARROW}
 use Rattle.gate_history.specs.declared.verdict.Verdict.{Verdict}
 use Rattle.gate_history.specs.declared.verdict.Verdict.TheVariants.{Now, Wire, Routed, IsoOut, Stream}
-use Rattle.gate_history.specs.client.Verdict.{none_of, is_invalid, is_control, is_narrow, by_route, by_kind, by_transfer, verdict, goes_by_id}
+use Rattle.gate_history.specs.client.Verdict.{is_invalid, is_control, is_narrow, by_route, by_kind, by_transfer, verdict, goes_by_id}
 use Rattle.gate_history.specs.step.Marks.{Submission, Effect, Opens, Waits}
 use Rattle.gate_history.specs.state.Sides.{imports}
 use Rattle.gate_history.specs.client.Submits.{opened}
@@ -89,14 +90,14 @@ unless b status w h = sends-if b (Now status) w tt h
 
 sends-transfer : (here : Situation) (r : Request) (o : Option Setup) → HasRoute (by_transfer here r o)
 sends-transfer here r (Some s) =
-    unless (not (none_of r.descs)) EINVAL _
+    unless (not (is_empty r.descs)) EINVAL _
     (unless (not (eqb s.length 0) && not (beq (is_in_setup s) r.is_in)) EINVAL _
     (unless (not (eqb s.length r.transfer.wanted)) EINVAL _ (sends-route (route_of s))))
 sends-transfer here r None =
     unless here.changing ENOENT _
     (unless (is_invalid here.row.kind) ENOENT _
     (unless (is_control here.row.kind) EINVAL _
-    (unless (beq (is_iso here.row.kind) (none_of r.descs)) EINVAL _
+    (unless (beq (is_iso here.row.kind) (is_empty r.descs)) EINVAL _
     (unless (not (laid r.descs r.transfer.wanted)) EINVAL _
     (unless (is_narrow here r here.row.kind && nat_lt MAX_NARROW r.transfer.wanted) EMSGSIZE _ (sends-kind r here.row here.row.kind))))))
 
@@ -162,7 +163,7 @@ middle true true c e = refl
 middle true false c e = absurd (false≢true e)
 middle false b c e = absurd (false≢true e)
 
-none-nil : {A : Type 0} (xs : List A) → none_of xs ≡ true → xs ≡ []
+none-nil : {A : Type 0} (xs : List A) → is_empty xs ≡ true → xs ≡ []
 none-nil [] e = refl
 none-nil (x ∷ xs) e = absurd (false≢true e)
 
@@ -172,10 +173,10 @@ opening-import st (Some c) h = record { imported = tt; new = tt; alone = λ k. h
 
 opening-op : (st : State) (place : ℕ) (p : OpPacket) → IsOpening st (asked_meaning st place (Op p))
 opening-op st place (op.ReqDevlist status) = when st st.imported _ _ (λ h. none st _ refl refl tt) (λ h. none st _ refl refl tt)
-opening-op st place (op.ReqImport status busid) = when st st.imported _ _ (λ h. none st _ refl refl tt) (λ h. by (is_exported busid && none_of st.abandoned && is_none st.fence) refl)
+opening-op st place (op.ReqImport status busid) = when st st.imported _ _ (λ h. none st _ refl refl tt) (λ h. by (is_exported busid && is_empty st.abandoned && is_none st.fence) refl)
   where
-    by : (b : Bool) → (is_exported busid && none_of st.abandoned && is_none st.fence) ≡ b → IsOpening st (imported_as st (cond b st.facts.connect None))
-    by true e = opening-import st st.facts.connect (none-nil st.abandoned (middle (is_exported busid) (none_of st.abandoned) (is_none st.fence) e))
+    by : (b : Bool) → (is_exported busid && is_empty st.abandoned && is_none st.fence) ≡ b → IsOpening st (imported_as st (cond b st.facts.connect None))
+    by true e = opening-import st st.facts.connect (none-nil st.abandoned (middle (is_exported busid) (is_empty st.abandoned) (is_none st.fence) e))
     by false e = none st _ refl refl tt
 opening-op st place (op.RepDevlist status devices) = none st _ refl refl tt
 opening-op st place (op.RepImport status device) = none st _ refl refl tt

@@ -1,11 +1,11 @@
 -- Before the host's hello nothing is told of a device, so that no client imports one, and nothing is sent to the host.
 use Rattle.gate_history.specs.client.Replies.{is_exported}
-use Rattle.gate_history.specs.client.Verdict.{none_of}
 use Rattle.std.proofs.Common.{◌≡◌, ◌&&◌, ℕ, Bool, true, false, cond, not, List, [], ◌++◌, length, map, Option, Some, None, refl, ap, ◌∙◌}
 use Rattle.std.specs.Prelude.{◌||◌, filter, zip, is_none}
 use Rattle.std.proofs.lemmas.Bool.{true≢false}
 use Rattle.usb_base.specs.declared.refusal.Refusal.{Refusal}
 use Rattle.usb_base.specs.declared.side.Side.{Side}
+use Rattle.usb_base.specs.Lists.{is_empty}
 use Rattle.usbip_op.specs.declared.packet.OpPacket.{OpPacket}
 use Rattle.usbip_op.specs.declared.packet.OpPacket.TheVariants as op
 use Rattle.usbip_urb.specs.declared.client.ClientPacket.{ClientPacket}
@@ -78,7 +78,7 @@ none-either false o e = refl
 
 asks-op : (st : State) (place : ℕ) (p : OpPacket) → IsQuiet st → IsStill (asked_meaning st place (Op p))
 asks-op st place (op.ReqDevlist status) q = either st.imported _ _ (refuses _) (replies _)
-asks-op st place (op.ReqImport status busid) q = either st.imported _ _ (refuses _) (import-fails st (importable st busid) (none-either (is_exported busid && none_of st.abandoned && is_none st.fence) st.facts.connect q.connect))
+asks-op st place (op.ReqImport status busid) q = either st.imported _ _ (refuses _) (import-fails st (importable st busid) (none-either (is_exported busid && is_empty st.abandoned && is_none st.fence) st.facts.connect q.connect))
 asks-op st place (op.RepDevlist status devices) q = idle
 asks-op st place (op.RepImport status device) q = idle
 

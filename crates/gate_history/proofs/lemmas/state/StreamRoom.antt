@@ -6,6 +6,7 @@ use Rattle.std.proofs.lemmas.List.{length-append, length-drop}
 use Rattle.usb_base.specs.declared.transfer.StreamPacket.{StreamPacket}
 use Rattle.usb_base.specs.Endpoint.{endpoint_index, is_in_endpoint}
 use Rattle.usb_base.specs.Status.{is_success}
+use Rattle.usb_base.specs.Lists.{is_empty}
 use Rattle.usbip_urb.specs.declared.packet.UrbPacket.TheVariants as urb
 use Rattle.usbip_urb.specs.declared.client.ClientPacket.TheVariants.{Op, Urb}
 use Rattle.redir_wire.specs.declared.packet.Header.{Header}
@@ -27,7 +28,6 @@ use Rattle.gate_history.specs.declared.request.Request.{Request}
 use Rattle.gate_history.specs.client.Requests.{request_of}
 use Rattle.gate_history.specs.declared.verdict.Verdict.{Verdict}
 use Rattle.gate_history.specs.declared.verdict.Verdict.TheVariants.{Now, Wire, Routed, IsoOut, Stream}
-use Rattle.gate_history.specs.client.Verdict.{none_of}
 use Rattle.gate_history.specs.step.Marks.{Submission, Effect, Opens, Waits, Arrives, StreamTold}
 use Rattle.gate_history.specs.state.Sides.{leaves, is_loss}
 use Rattle.gate_history.specs.host.Fillings.{Given, Transferred, Isochronous, cut_as, cut_of, none_filled, filled_by, fill}
@@ -71,7 +71,7 @@ iso-few r packets = by (nat_lt (length packets) (length r.descs))
 
 cut-few : (max_packet : ℕ) (r : Request) (packets : List StreamPacket) → CutFew packets (cut_of max_packet r packets)
 cut-few max_packet r packets =
-    elim (none_of r.descs) as (λ b. CutFew packets (cond b (option_map (cut_as Transferred) (interrupt_cut max_packet r.transfer.wanted packets)) (option_map (cut_as Isochronous) (iso_cut r.descs packets)))) [
+    elim (is_empty r.descs) as (λ b. CutFew packets (cond b (option_map (cut_as Transferred) (interrupt_cut max_packet r.transfer.wanted packets)) (option_map (cut_as Isochronous) (iso_cut r.descs packets)))) [
       | true ↦ cut-as-few Transferred packets (interrupt_cut max_packet r.transfer.wanted packets) (interrupt-few max_packet r.transfer.wanted packets)
       | false ↦ cut-as-few Isochronous packets (iso_cut r.descs packets) (iso-few r packets)
     ]

@@ -19,13 +19,14 @@ use Rattle.control_route.specs.Routes.{RouteRow, has_no_data, is_byte, is_for, r
 use Rattle.usb_base.specs.declared.errno.TheConstants.{ENOENT, EBUSY, EINVAL, EMSGSIZE, ESHUTDOWN}
 use Rattle.gate_history.specs.declared.request.Request.{Request}
 use Rattle.usb_base.specs.Setup.{is_in_setup}
+use Rattle.usb_base.specs.Lists.{is_empty}
 use Rattle.gate_history.specs.client.Requests.{address}
 use Rattle.gate_history.specs.declared.verdict.Pipe.TheVariants.{InterruptOut}
 use Rattle.gate_history.specs.declared.verdict.Situation.{Situation}
 use Rattle.gate_history.specs.declared.verdict.TheConstants.{MAX_NARROW}
 use Rattle.gate_history.specs.declared.verdict.Verdict.{Verdict}
 use Rattle.gate_history.specs.declared.verdict.Verdict.TheVariants.{Now, Wire, Routed, IsoOut, Stream}
-use Rattle.gate_history.specs.client.Verdict.{none_of, is_invalid, is_control, is_narrow, by_route, by_setup, by_kind, by_endpoint, by_transfer, verdict, goes_by_id}
+use Rattle.gate_history.specs.client.Verdict.{is_invalid, is_control, is_narrow, by_route, by_setup, by_kind, by_endpoint, by_transfer, verdict, goes_by_id}
 use Rattle.gate_history.specs.host.Responses.{route_gets}
 use Rattle.gate_parts.specs.state.Rows.{kind_of, IsRead}
 use Rattle.gate_history.proofs.lemmas.Lists.{Each}
@@ -107,7 +108,7 @@ by_route-reads route.Bad way is_in ep wanted gets at (inr same) k = absurd (fals
 
 pub by_setup-reads : (r : Request) (s : Setup) → r.transfer.ep ≡ address (is_in_setup s) 0 → Reads r.is_in r.transfer.ep r.transfer.wanted (by_setup r s)
 by_setup-reads r s at =
-    unless r.is_in (not (none_of r.descs)) r.transfer.ep r.transfer.wanted EINVAL _ (λ none.
+    unless r.is_in (not (is_empty r.descs)) r.transfer.ep r.transfer.wanted EINVAL _ (λ none.
     unless r.is_in (not (s.length == 0) && not (beq (is_in_setup s) r.is_in)) r.transfer.ep r.transfer.wanted EINVAL _ (λ one.
     unless r.is_in (not (s.length == r.transfer.wanted)) r.transfer.ep r.transfer.wanted EINVAL _ (λ same.
     by_route-reads (route_of s) (is_in_setup s) r.is_in r.transfer.ep r.transfer.wanted (route-reads s) at
@@ -147,13 +148,13 @@ by_endpoint-fits : (here : Situation) (r : Request) → StatusFits (by_endpoint 
 by_endpoint-fits here r =
     either-fits (is_invalid here.row.kind) (Now ENOENT) _ (search rules)
     (either-fits (is_control here.row.kind) (Now EINVAL) _ (search rules)
-    (either-fits (beq (is_iso here.row.kind) (none_of r.descs)) (Now EINVAL) _ (search rules)
+    (either-fits (beq (is_iso here.row.kind) (is_empty r.descs)) (Now EINVAL) _ (search rules)
     (either-fits (not (laid r.descs r.transfer.wanted)) (Now EINVAL) _ (search rules)
     (either-fits (is_narrow here r here.row.kind && nat_lt MAX_NARROW r.transfer.wanted) (Now EMSGSIZE) _ (search rules) (by_kind-fits r here.row here.row.kind)))))
 
 by_setup-fits : (r : Request) (s : Setup) → StatusFits (by_setup r s)
 by_setup-fits r s =
-    either-fits (not (none_of r.descs)) (Now EINVAL) _ (search rules)
+    either-fits (not (is_empty r.descs)) (Now EINVAL) _ (search rules)
     (either-fits (not (s.length == 0) && not (beq (is_in_setup s) r.is_in)) (Now EINVAL) _ (search rules)
     (either-fits (not (s.length == r.transfer.wanted)) (Now EINVAL) _ (search rules) (by_route-fits (route_of s))))
 

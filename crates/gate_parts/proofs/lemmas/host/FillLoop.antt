@@ -15,6 +15,7 @@ use Rattle.stream_buffers.specs.Iso.{iso_outcome, iso_cut}
 use Rattle.std.proofs.lemmas.Bool.{lt-ltb, cases_Bool, false≢true}
 use Rattle.std.specs.List.{AllByRecursion}
 use Rattle.std.proofs.Math.Seq.{drop-length}
+use Rattle.usb_base.specs.Lists.{is_empty}
 use Rattle.unlink_race.specs.declared.live.Live.{Live}
 use Rattle.unlink_race.specs.declared.live.LiveKind.{LiveKind}
 use Rattle.unlink_race.specs.declared.live.LiveKind.TheVariants as live_kind
@@ -25,7 +26,6 @@ use Rattle.redir_wire.specs.declared.packet.Caps.{Caps}
 use Rattle.gate_history.specs.write.Answers.{with_given}
 use Rattle.gate_history.specs.write.Asked.{HasItsPackets}
 use Rattle.gate_history.specs.declared.request.Request.{Request}
-use Rattle.gate_history.specs.client.Verdict.{none_of}
 use Rattle.gate_history.specs.host.Fillings.{Given, Transferred, Isochronous, Fill, cut_as, cut_of, none_filled, filled_by, fill}
 use Rattle.gate_parts.specs.state.Rows.{row_request, IsFine}
 use Rattle.gate_parts.specs.host.Fill.{row_cut, cut_bytes, HasTaken, rows_fill, bytes_by, filled_bytes, filled_notes, waiting_rows}
@@ -102,7 +102,7 @@ none-left {max_packet = max_packet} {held = held} {f = f} s e =
 pub nothing-cut : (max_packet : ℕ) (r : Request) → cut_of max_packet r [] ≡ None
 nothing-cut max_packet r = by-descs r.descs
   where
-    by-descs : (descs : List IsoDesc) → cond (none_of descs) (option_map (cut_as Transferred) (interrupt_cut max_packet r.transfer.wanted [])) (option_map (cut_as Isochronous) (iso_cut descs [])) ≡ None
+    by-descs : (descs : List IsoDesc) → cond (is_empty descs) (option_map (cut_as Transferred) (interrupt_cut max_packet r.transfer.wanted [])) (option_map (cut_as Isochronous) (iso_cut descs [])) ≡ None
     by-descs [] = refl
     by-descs (d ∷ ds) =
         ap (λ (b : Bool). option_map (cut_as Isochronous) (cond b None (Some (record { gives = iso_outcome (d ∷ ds) []; leaves = drop (length (d ∷ ds)) [] })))) (lt-ltb 0 (suc (length ds)) (omega arith))

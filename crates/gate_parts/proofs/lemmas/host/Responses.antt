@@ -6,7 +6,7 @@ use Rattle.usb_base.specs.declared.side.Side.TheVariants.{Host}
 use Rattle.usb_base.specs.declared.reason.Reason.TheVariants.{Mismatch}
 use Rattle.usb_base.specs.declared.refusal.Refusal.{Refusal}
 use Rattle.usb_base.specs.declared.transfer.Outcome.{Outcome}
-use Rattle.usb_base.specs.Status.{status_of}
+use Rattle.usb_base.specs.Status.{status_of, is_success}
 use Rattle.usb_base.specs.Endpoint.{is_in_endpoint}
 use Rattle.usbip_urb.specs.declared.packet.UrbPacket.{UrbPacket}
 use Rattle.usbip_urb.specs.declared.client.ClientPacket.TheVariants.{Urb}
@@ -188,10 +188,10 @@ both-right false b e = absurd (false≢true e)
 
 pub seen-moved : (l : Live) (v : Verdict) (r : Response) → gets v ≡ row_gets l.kind → (l.wanted ≡ 0) ⊎ IsRead l.is_in l.kind → IsAnswer l r → IsMoved l.is_in (told_outcome (row_request l) v r)
 seen-moved l v (Data endpoint length_place o) e read answer = answer
-seen-moved l v (Status status value) e read answer = of (eqb status 0 && gets v) refl
+seen-moved l v (Status status value) e read answer = of (is_success (status_of status) && gets v) refl
   where
-    of : (b : Bool) → (eqb status 0 && gets v) ≡ b → IsMoved l.is_in (got (status_of status) (cond b (take l.wanted (value ∷ [])) []))
-    of true is = value-moved l.is_in l.kind status value l.wanted (sym e ∙ both-right (eqb status 0) (gets v) is) read
+    of : (b : Bool) → (is_success (status_of status) && gets v) ≡ b → IsMoved l.is_in (got (status_of status) (cond b (take l.wanted (value ∷ [])) []))
+    of true is = value-moved l.is_in l.kind status value l.wanted (sym e ∙ both-right (is_success (status_of status)) (gets v) is) read
     of false is = none-moved l.is_in status
 
 -- ---- what is counted

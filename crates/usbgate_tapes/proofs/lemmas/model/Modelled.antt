@@ -1,8 +1,8 @@
 -- What a step adds to the text of a modelled run, and to what it keeps.
-use Rattle.std.proofs.Common.{◌≡◌, ◌↔◌, ℕ, Bool, true, false, ◌||◌, not, IsTrue, List, [], ◌∷◌, ◌++◌, take, option_map, Option, Some, None, refl, sym, ap, ◌∙◌, subst}
+use Rattle.std.proofs.Common.{◌≡◌, ℕ, Bool, ◌||◌, not, List, [], ◌∷◌, ◌++◌, take, option_map, Option, Some, None, refl, sym, ap, ◌∙◌, subst}
 use Rattle.std.specs.List.{flat_map, list_any}
 use Rattle.std.proofs.Math.Bool.{or-false}
-use Rattle.usb_base.specs.declared.refusal.Refusal.{Refusal}
+use Rattle.usb_base.specs.Lists.{is_empty}
 use Rattle.gate_history.specs.declared.note.Note.{Note}
 use Rattle.gate_history.specs.declared.note.Note.TheVariants as note
 use Rattle.gate_history.specs.step.Events.{Event, ClientPiece, ClientEnd as ClientEnds, HostPiece}
@@ -24,19 +24,13 @@ use Rattle.usbgate_tapes.specs.declared.model.ModelRun.{ModelRun}
 use Rattle.usbgate_tapes.specs.model.Model.{on_step, step_said, model}
 use Rattle.usbgate_tapes.specs.Replay.{has_refusal}
 use Rattle.usbgate_tapes.specs.Text.{told_text}
-use Rattle.usbgate_tapes.specs.inner.model.Model.{HasDone, TakesSaid, has_some}
+use Rattle.usbgate_tapes.specs.inner.model.Model.{HasDone, TakesSaid}
 use Rattle.usbgate_tapes.specs.inner.tape.TapeReader.{TakesLine}
 use Rattle.usbgate_tapes.proofs.lemmas.text.Events.{refused-more}
 
 -- ---- a step tells a refusal where one came about
 
-pub some-is : (rs : List Refusal) (none : Bool) → IsTrue none ↔ (rs ≡ []) → not none ≡ has_some rs
-some-is [] true h = refl
-some-is [] false h = absurd (let e : false ≡ true = h.1 refl in cc)
-some-is (r ∷ rs) true h = let e : (r ∷ rs) ≡ [] = h.0 refl in cc
-some-is (r ∷ rs) false h = refl
-
-some-told : (notes : List Note) → has_some (flat_map refusal_in notes) ≡ list_any is_refusal notes
+some-told : (notes : List Note) → not (is_empty (flat_map refusal_in notes)) ≡ list_any is_refusal notes
 some-told [] = refl
 some-told (note.Refused r ∷ notes) = refl
 some-told (note.Imported ∷ notes) = some-told notes
@@ -47,12 +41,12 @@ some-told (note.Answered seqnum ∷ notes) = some-told notes
 some-told (note.DeviceGone ∷ notes) = some-told notes
 some-told (note.ClientGone ∷ notes) = some-told notes
 
-event-refuses : (events : List Event) (e : Event) → (has_refusal (history first_id events) || has_some (flat_map refusal_in (given_of notes_of events e))) ≡ has_refusal (history first_id (e ∷ events))
+event-refuses : (events : List Event) (e : Event) → (has_refusal (history first_id events) || not (is_empty (flat_map refusal_in (given_of notes_of events e)))) ≡ has_refusal (history first_id (e ∷ events))
 event-refuses events e =
     ap (λ (b : Bool). has_refusal (history first_id events) || b) (some-told (given_of notes_of events e))
     ∙ refused-more first_id (history first_id events) (history first_id (e ∷ events)) (given_of notes_of events e) (event-gives notes_of first_id events e)
 
-step-refuses : {S : Type 0} (m : Meaning S) (s : S) (c : Course) (x : Step) → (has_refusal (history first_id c.events) || has_some (told_by m s c x).refusals) ≡ has_refusal (history first_id (after_step m s c x).events)
+step-refuses : {S : Type 0} (m : Meaning S) (s : S) (c : Course) (x : Step) → (has_refusal (history first_id c.events) || not (is_empty (told_by m s c x).refusals)) ≡ has_refusal (history first_id (after_step m s c x).events)
 step-refuses m s c (Client b) = event-refuses c.events (ClientPiece b)
 step-refuses m s c ClientEnd = event-refuses c.events ClientEnds
 step-refuses m s c (ToHost n) = or-false (has_refusal (history first_id c.events))
@@ -65,7 +59,7 @@ step-refuses m s c Unplug = or-false (has_refusal (history first_id c.events))
 
 -- a line whose step was done puts what that adds behind the text
 pub line-told : {S : Type 0} (m : Meaning S) (s : S) (old new : ModelRun S) (steps : List Step) (content : List ℕ) (said : ModelLine) (done : SystemKept S) (outcome : Option Told) (told : Told) (text_old text_new : List ℕ) →
-    model_line content ≡ Some said → (SystemStands m s old.system steps → TakesSaid m s done steps (step_said said) outcome) → outcome ≡ Some told → new.system ≡ done → text_new ≡ text_old ++ told_text told → new.refused ≡ (old.refused || has_some told.refusals) →
+    model_line content ≡ Some said → (SystemStands m s old.system steps → TakesSaid m s done steps (step_said said) outcome) → outcome ≡ Some told → new.system ≡ done → text_new ≡ text_old ++ told_text told → new.refused ≡ (old.refused || not (is_empty told.refusals)) →
     HasDone m s old steps → TakesLine (HasDone m s) ((model m s).line steps content) new text_old text_new
 line-told {S = S} m s old new steps content said done outcome told text_old text_new is takes outcome-is system-is text-is refused h =
     subst (λ (x : Option ModelLine). TakesLine (HasDone m s) (option_map (λ (y : ModelLine). on_step m s steps (step_said y)) x) new text_old text_new) (sym is) (go (step_said said) taken)
@@ -80,6 +74,6 @@ line-told {S = S} m s old new steps content said done outcome told text_old text
       text-is ∙ ap (λ (y : Told). text_old ++ told_text y) t.told-is,
       record {
         system = t.stands;
-        refused = refused ∙ (λ i. h.refused i || ap (λ (y : Told). has_some y.refusals) t.told-is i) ∙ step-refuses m s (course m s steps) x;
+        refused = refused ∙ (λ i. h.refused i || ap (λ (y : Told). not (is_empty y.refusals)) t.told-is i) ∙ step-refuses m s (course m s steps) x;
       },
     )

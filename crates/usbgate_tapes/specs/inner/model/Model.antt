@@ -1,6 +1,5 @@
 -- What a modelled run keeps of the steps that it has done.
-use Rattle.std.specs.Prelude.{◌≡◌, ℕ, Bool, true, false, List, [], ◌∷◌, Option, Some, None, Result}
-use Rattle.usb_base.specs.declared.refusal.Refusal.{Refusal}
+use Rattle.std.specs.Prelude.{◌≡◌, ℕ, List, Option, Some, None, Result}
 use Rattle.gate_outside.specs.declared.fault.Failed.{Failed}
 use Rattle.gate_history.specs.step.History.{history}
 use Rattle.model_device.specs.Meaning.{Meaning}
@@ -28,10 +27,6 @@ TakesSaid m s new steps None None = SystemStands m s new steps
 TakesSaid m s new steps None (Some told) = ⊥
 TakesSaid m s new steps (Some x) None = ⊥
 TakesSaid m s new steps (Some x) (Some told) = TakesStep m s new steps x told
-
-abbrev pub has_some : List Refusal → Bool
-has_some [] = false
-has_some (r ∷ rs) = true
 
 -- what is left where the steps of a tape were done with a device, whichever it is
 pub record IsModelled {S T K : Type 0} (read_gives : T → List ℕ → Result ℕ Failed → T → Type 0) (write_gives : K → List ℕ → Result ℕ Failed → K → Type 0) (remaining : T → Option (List ℕ)) (contents : K → Option (List ℕ)) (status : Status) (m : Meaning S) (s : S) (tape_old tape_new : T) (out_old out_new : K) : Type 0 where
