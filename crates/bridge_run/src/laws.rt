@@ -2,7 +2,7 @@
 
 ghost use Rattle.std.specs.Prelude.{◌≡◌, ◌<◌, ◌∷◌, [], true, false, List, length};
 ghost use Rattle.bridge_run.specs.declared.course.serve_end.ServeEnd.{ServeEnd as End};
-ghost use Rattle.bridge_run.specs.events.Events.{LinkEvent as PastEvent};
+ghost use Rattle.bridge_run.specs.events.Events.{PastLinkEvent};
 ghost use Rattle.bridge_run.specs.events.Prescribed.{Prescribed, gained};
 ghost use Rattle.bridge_run.specs.declared.course.polling.TheConstants.{POLL_LIMIT};
 ghost use Rattle.bridge_run.specs.declared.written.recording.TheConstants.{WAITING_LIMIT};
@@ -19,7 +19,7 @@ ghost use Rattle.bridge_run.specs.log.Clients.{got_by, joined, sent_to_each};
 /// bytes, refuses a side or lets the client go, once a round brings nothing, and at each end that is no fault.
 pub fn few_lines_wait()
     ensures few { (s : Setting) (next : Next) (c : Course) (to : Outcome) → c.waiting ≡ [] → Reaches s (Goes next c) to → length (course_of to).waiting < WAITING_LIMIT }
-    ensures sent { (p : Prescribed) (e : PastEvent) (c : Course) → sends_any (gained p.to_client c.events e) (gained p.to_host c.events e) (gained p.refusals c.events e) (p.lets_go (e ∷ c.events)) ≡ true → (put p e c).waiting ≡ [] }
+    ensures sent { (p : Prescribed) (e : PastLinkEvent) (c : Course) → sends_any (gained p.to_client c.events e) (gained p.to_host c.events e) (gained p.refusals c.events e) (p.lets_go (e ∷ c.events)) ≡ true → (put p e c).waiting ≡ [] }
     ensures quiet { (s : Setting) (c : Course) → c.busy ≡ false → (course_of (rest s c)).waiting ≡ [] }
     ensures ends { (s : Setting) (next : Next) (c : Course) (e : End) (d : Course) → Reaches s (Goes next c) (Stops e d) → NoneWaits e d }
 {}

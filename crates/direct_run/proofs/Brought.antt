@@ -14,7 +14,7 @@ use Rattle.usbip_urb.specs.ClientPackets.{IsClientPacket, client_packets}
 use Rattle.usbip_urb.specs.Sound.ClientPackets.{client_packets_sound}
 use Rattle.model_device.specs.Meaning.{Meaning}
 use Rattle.gate_history.proofs.lemmas.Lists.{Each}
-use Rattle.gate_history.specs.step.Events.{Event, ClientPiece, ClientEnd, HostPiece, HostEnd, client_bytes}
+use Rattle.gate_history.specs.step.Events.{PastEvent, ClientPiece, ClientEnd, HostPiece, HostEnd, client_bytes}
 use Rattle.gate_history.specs.step.History.{client_split, client_items, brought}
 use Rattle.gate_history.specs.declared.item.Item.{Item}
 use Rattle.gate_history.specs.declared.item.Item.TheVariants.{Asked, ClientWrong, ClientLeft, Told, HostWrong, HostLeft}
@@ -46,14 +46,14 @@ items-fit [] None h = tt
 items-fit [] (Some w) h = (tt, tt)
 items-fit (p ∷ ps) wrong h = (h.0, items-fit ps wrong h.1)
 
-client-bytes : (events : List Event) → AreBytes (flat_map piece_bytes events) → AreBytes (client_bytes events)
+client-bytes : (events : List PastEvent) → AreBytes (flat_map piece_bytes events) → AreBytes (client_bytes events)
 client-bytes [] h = h
 client-bytes (ClientPiece b ∷ events) h = AreBytes-append (client_bytes events) b (client-bytes events (AreBytes-right b (flat_map piece_bytes events) h)) (AreBytes-left b (flat_map piece_bytes events) h)
 client-bytes (ClientEnd ∷ events) h = λ i. lit< tt
 client-bytes (HostPiece b ∷ events) h = client-bytes events (AreBytes-right b (flat_map piece_bytes events) h)
 client-bytes (HostEnd ∷ events) h = client-bytes events h
 
-pub piece-fits : (events : List Event) (b : List ℕ) → AreBytes (flat_map piece_bytes (ClientPiece b ∷ events)) → Each IsPieceItem (brought events (ClientPiece b))
+pub piece-fits : (events : List PastEvent) (b : List ℕ) → AreBytes (flat_map piece_bytes (ClientPiece b ∷ events)) → Each IsPieceItem (brought events (ClientPiece b))
 piece-fits events b h =
     let x = client_split (client_bytes events ++ b) in
     each-drop IsPieceItem (length (client_items (client_bytes events))) (client_items (client_bytes events ++ b)) (items-fit x.packets x.wrong (client-fit (client_bytes events ++ b) (client-bytes (ClientPiece b ∷ events) h)))

@@ -25,7 +25,7 @@ use Rattle.gate_history.proofs.lemmas.Lists.{Each}
 use Rattle.redir_host.proofs.lemmas.guest.Pieces.{guest_stream, asked}
 use Rattle.redir_host.proofs.lemmas.step.Acts.{act-out}
 use Rattle.gate_history.specs.write.Bytes.{gateway_hello, host_bytes_of}
-use Rattle.gate_history.specs.step.Events.{Event, ClientPiece, ClientEnd, HostPiece, client_bytes, host_bytes}
+use Rattle.gate_history.specs.step.Events.{PastEvent, ClientPiece, ClientEnd, HostPiece, client_bytes, host_bytes}
 use Rattle.gate_history.specs.step.History.{client_split, host_split, client_items, brought, arrivals}
 use Rattle.gate_history.specs.declared.item.Item.{Item}
 use Rattle.gate_history.specs.declared.item.Item.TheVariants.{Asked, ClientWrong}
@@ -73,7 +73,7 @@ flows-first m s = record {
 
 -- ---- one event more, and one act
 
-flows-event : {S : Type 0} (m : Meaning S) (s : S) (c : Course) (e : Event) (rest : List ℕ) → Flows m s c → host_bytes (e ∷ c.events) ++ rest ≡ sent_to_gate m s c →
+flows-event : {S : Type 0} (m : Meaning S) (s : S) (c : Course) (e : PastEvent) (rest : List ℕ) → Flows m s c → host_bytes (e ∷ c.events) ++ rest ≡ sent_to_gate m s c →
     Meets first_id (read_by_gate (happened c e)) (arrivals (e ∷ c.events)) → (host_split (host_bytes (e ∷ c.events))).wrong ≡ None → Flows m s (happened c e)
 flows-event m s c e rest f fed meets right = record {
   fed = fed-by (guest_bytes c.acts) (wire_to_host c ++ given_of host_bytes_of c.events e) (sent_to_host (happened c e))

@@ -21,7 +21,7 @@ use Rattle.redir_host.specs.write.Output.{host_hello, hello_bytes}
 use Rattle.gate_history.proofs.lemmas.Lists.{Each}
 use Rattle.redir_host.proofs.lemmas.step.Acts.{act-gives}
 use Rattle.gate_history.specs.write.Bytes.{gateway_hello, host_bytes_of}
-use Rattle.gate_history.specs.step.Events.{Event, ClientPiece, ClientEnd, HostPiece, HostEnd, host_bytes}
+use Rattle.gate_history.specs.step.Events.{PastEvent, ClientPiece, ClientEnd, HostPiece, HostEnd, host_bytes}
 use Rattle.gate_history.specs.step.History.{host_split, arrivals, history}
 use Rattle.gate_history.specs.state.State.{State, state_of}
 use Rattle.gate_history.specs.write.Output.{to_host}
@@ -98,7 +98,7 @@ cut-told m s c n f h had all =
 
 -- ---- what is known of a course was known before
 
-pub known-event : {S : Type 0} (m : Meaning S) (s : S) (c : Course) (e : Event) → IsKnown m s (happened c e) → IsKnown m s c
+pub known-event : {S : Type 0} (m : Meaning S) (s : S) (c : Course) (e : PastEvent) → IsKnown m s (happened c e) → IsKnown m s c
 known-event m s c e k = record { read = k.read; bytes = AreBytes-right (piece_bytes e) (flat_map piece_bytes c.events) k.bytes; heard = k.heard }
 
 heard-before : (acts : List Act) (a : Act) → AreBytes (guest_bytes (a ∷ acts)) → AreBytes (guest_bytes acts)
@@ -113,7 +113,7 @@ known-act m s c a k = record {
 }
 
 -- the host's bytes are among those of all pieces
-pub told-bytes : (events : List Event) → AreBytes (flat_map piece_bytes events) → AreBytes (host_bytes events)
+pub told-bytes : (events : List PastEvent) → AreBytes (flat_map piece_bytes events) → AreBytes (host_bytes events)
 told-bytes [] h = h
 told-bytes (ClientPiece b ∷ events) h = told-bytes events (AreBytes-right b (flat_map piece_bytes events) h)
 told-bytes (ClientEnd ∷ events) h = told-bytes events h

@@ -12,7 +12,7 @@ use Rattle.redir_host.specs.step.Machine.{given_by as host_given}
 use Rattle.redir_host.specs.write.Output.{first_packet, host_of}
 use Rattle.redir_host.proofs.lemmas.step.Acts.{act-gives}
 use Rattle.gate_history.specs.write.Bytes.{gateway_hello}
-use Rattle.gate_history.specs.step.Events.{Event}
+use Rattle.gate_history.specs.step.Events.{PastEvent}
 use Rattle.gate_history.specs.step.History.{brought, history}
 use Rattle.gate_history.specs.step.Marks.{Submission, Mark}
 use Rattle.gate_history.specs.client.Submits.{opened, accepted}
@@ -52,7 +52,7 @@ follows-first m s = record {
 }
 
 -- what an event more opens
-accepted-more : (events : List Event) (e : Event) → accepted (history first_id (e ∷ events)) ≡ accepted (history first_id events) ++ given_by as_submits.by_gate (state_of first_id (history first_id events)) (brought events e)
+accepted-more : (events : List PastEvent) (e : PastEvent) → accepted (history first_id (e ∷ events)) ≡ accepted (history first_id events) ++ given_by as_submits.by_gate (state_of first_id (history first_id events)) (brought events e)
 accepted-more events e =
     accepted-all first_id (history first_id (e ∷ events))
     ∙ event-gives as_submits.by_gate first_id events e
@@ -67,7 +67,7 @@ items-given st (x ∷ xs) = (λ i. one (is_left_out st x) i ++ items-given (step
     one true = refl
     one false = refl
 
-pub follows-event : {S : Type 0} (m : Meaning S) (s : S) (c : Course) (items : List Item) (r : Made S Item) (submitted : List Submission) (e : Event) (later : List (ℕ × RedirPacket)) → FollowsCourse m s c items r submitted →
+pub follows-event : {S : Type 0} (m : Meaning S) (s : S) (c : Course) (items : List Item) (r : Made S Item) (submitted : List Submission) (e : PastEvent) (later : List (ℕ × RedirPacket)) → FollowsCourse m s c items r submitted →
     first_packet ∷ sent_by_host m s c ≡ bares (read_by_gate (happened c e)) ++ later →
     FollowsCourse m s (happened c e) (items ++ flat_map item_of (given_of notes_of c.events e)) (then_made r (gate_all as_items (record r.world { to_gate = later }) (brought c.events e))) (submitted ++ given_by as_submits.by_gate r.world.gate (brought c.events e))
 follows-event m s c items r submitted e later f rest =

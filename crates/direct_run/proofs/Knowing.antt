@@ -16,7 +16,7 @@ use Rattle.redir_host.specs.state.Kept.{HostKept}
 use Rattle.redir_host.specs.step.Machine.{run, all_given}
 use Rattle.redir_host.specs.write.Readable.{AreRead}
 use Rattle.redir_host.specs.step.Stands.{HostStands}
-use Rattle.gate_history.specs.step.Events.{Event, ClientPiece, ClientEnd, HostPiece, HostEnd, client_bytes, host_bytes}
+use Rattle.gate_history.specs.step.Events.{PastEvent, ClientPiece, ClientEnd, HostPiece, HostEnd, client_bytes, host_bytes}
 use Rattle.gate_core.specs.state.Kept.{GateKept}
 use Rattle.gate_history.specs.write.Readable.{piece_bytes}
 use Rattle.gate_core.specs.step.Stands.{GateStands}
@@ -32,13 +32,13 @@ known_first m s = record { read = tt; bytes = λ i. lit< tt; heard = λ i. lit< 
 
 -- ---- an event more
 
-piece-are : (events : List Event) (e : Event) → AreBytes (client_bytes (e ∷ events)) → AreBytes (host_bytes (e ∷ events)) → AreBytes (piece_bytes e)
+piece-are : (events : List PastEvent) (e : PastEvent) → AreBytes (client_bytes (e ∷ events)) → AreBytes (host_bytes (e ∷ events)) → AreBytes (piece_bytes e)
 piece-are events (ClientPiece b) h k = AreBytes-right (client_bytes events) b h
 piece-are events ClientEnd h k = h
 piece-are events (HostPiece b) h k = AreBytes-right (host_bytes events) b k
 piece-are events HostEnd h k = λ i. lit< tt
 
-pub knows-event : {S : Type 0} (m : Meaning S) (s : S) (c : Course) (e : Event) (g : GateKept) → GateStands first_id g (e ∷ c.events) → IsKnown m s c → IsKnown m s (happened c e)
+pub knows-event : {S : Type 0} (m : Meaning S) (s : S) (c : Course) (e : PastEvent) (g : GateKept) → GateStands first_id g (e ∷ c.events) → IsKnown m s c → IsKnown m s (happened c e)
 knows-event m s c e g stands k = record {
   read = k.read;
   bytes = AreBytes-append (piece_bytes e) (flat_map piece_bytes c.events) (piece-are c.events e stands.client.fits stands.host.fits) k.bytes;

@@ -15,7 +15,7 @@ use Rattle.redir_host.specs.step.Machine.{is_refusal, notes_of as host_notes_of,
 use Rattle.redir_host.specs.write.Output.{first_packet, host_of}
 use Rattle.gate_history.proofs.lemmas.Lists.{Each}
 use Rattle.redir_host.proofs.lemmas.step.Acts.{act-host, act-gives}
-use Rattle.gate_history.specs.step.Events.{Event, ClientPiece, HostPiece}
+use Rattle.gate_history.specs.step.Events.{PastEvent, ClientPiece, HostPiece}
 use Rattle.gate_history.specs.step.Marks.{Submission}
 use Rattle.gate_history.specs.step.History.{brought, arrivals}
 use Rattle.gate_history.specs.declared.item.Item.{Item as GateItem}
@@ -74,7 +74,7 @@ asked-stays (i ∷ is) = ((λ before more. refl), asked-stays is)
 -- ---- events
 
 -- moves behind others follow an event more where they make what its items make
-follows-moves : {S : Type 0} (m : Meaning S) (s : S) (c : Course) (items : List Item) (e : Event) (later : List (ℕ × RedirPacket)) (ms : List Move) (h : AreMoves m s c items) →
+follows-moves : {S : Type 0} (m : Meaning S) (s : S) (c : Course) (items : List Item) (e : PastEvent) (later : List (ℕ × RedirPacket)) (ms : List Move) (h : AreMoves m s c items) →
     made_by as_items m (run as_items m s h.moves).world ms ≡ gate_all as_items (record (run as_items m s h.moves).world { to_gate = later }) (brought c.events e) →
     made_by as_submits m (run as_items m s h.moves).world ms ≡ gate_all as_submits (record (run as_items m s h.moves).world { to_gate = later }) (brought c.events e) →
     first_packet ∷ sent_by_host m s c ≡ bares (read_by_gate (happened c e)) ++ later →
@@ -88,7 +88,7 @@ follows-moves {S = S} m s c items e later ms h told submitted rest =
     subst (FollowsCourse m s (happened c e) new (run as_items m s (onto ms h.moves))) (sym more)
     (subst (λ (y : Made S Item). FollowsCourse m s (happened c e) new y (o.told ++ given_by as_submits.by_gate r.world.gate (brought c.events e))) (sym made) (follows-event m s c items r o.told e later h.follows rest))
 
-pub moved-event : {S : Type 0} (m : Meaning S) (s : S) (c : Course) (items : List Item) (e : Event) → read_by_gate (happened c e) ≡ read_by_gate c → Each IsMove (map ByClient (brought c.events e)) → (h : AreMoves m s c items) →
+pub moved-event : {S : Type 0} (m : Meaning S) (s : S) (c : Course) (items : List Item) (e : PastEvent) → read_by_gate (happened c e) ≡ read_by_gate c → Each IsMove (map ByClient (brought c.events e)) → (h : AreMoves m s c items) →
     present (e ∷ c.events) ≡ present_outs m s (onto (map ByClient (brought c.events e)) h.moves) → AreMoves m s (happened c e) (items ++ flat_map item_of (given_of notes_of c.events e))
 moved-event {S = S} m s c items e same legal h is-present =
     let w : World S = (run as_items m s h.moves).world in
@@ -126,7 +126,7 @@ moved-told {S = S} m s c items n g f h = record {
     w : World S
     w = (run as_items m s h.moves).world
 
-    e : Event
+    e : PastEvent
     e = HostPiece (take n (wire_to_gate m s c))
 
     ms : List Move

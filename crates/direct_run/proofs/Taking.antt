@@ -3,7 +3,7 @@
 use Rattle.std.proofs.Common.{◌≡◌, ℕ, ◌≤◌, List, ◌∷◌, ◌++◌, length, drop, sym, ap, ◌∙◌, subst}
 use Rattle.std.specs.List.{flat_map}
 use Rattle.usb_base.specs.Number.{AreBytes}
-use Rattle.gate_history.specs.step.Events.{Event, host_bytes}
+use Rattle.gate_history.specs.step.Events.{PastEvent, host_bytes}
 use Rattle.gate_history.specs.write.Readable.{piece_bytes}
 use Rattle.model_device.specs.Meaning.{Meaning}
 use Rattle.redir_host.specs.step.Acts.{Act, guest_bytes}
@@ -23,7 +23,7 @@ use Rattle.direct_run.proofs.Flows.{Flows}
 use Rattle.direct_run.proofs.Knowing.{knows-event, knows-act}
 use Rattle.direct_run.proofs.Wires.{event-runs, act-runs}
 
-pub event-takes : {S : Type 0} (m : Meaning S) (s : S) (old new : SystemKept S) (steps : List Step) (x : Step) (e : Event) (told : Told) (rest : List ℕ) →
+pub event-takes : {S : Type 0} (m : Meaning S) (s : S) (old new : SystemKept S) (steps : List Step) (x : Step) (e : PastEvent) (told : Told) (rest : List ℕ) →
     SystemStands m s old steps → DoesEvent (record old { to_gate = rest }) new (course m s steps).events e told →
     rest ≡ drop (length (host_bytes (e ∷ (course m s steps).events))) (sent_to_gate m s (course m s steps)) → length (host_bytes (e ∷ (course m s steps).events)) ≤ length (sent_to_gate m s (course m s steps)) →
     after_step m s (course m s steps) x ≡ happened (course m s steps) e → told_by m s (course m s steps) x ≡ told_of_event (course m s steps).events e → TakesStep m s new steps x told
@@ -63,7 +63,7 @@ act-takes {S = S} m s old new steps x a told rest h d rest-is fits same same-tol
 
 -- ---- a step that takes none of the bytes on their way
 
-pub event-step : {S : Type 0} (m : Meaning S) (s : S) (old new : SystemKept S) (steps : List Step) (x x' : RawStep) (e : Event) (told : Told) → (h : SystemStands m s old steps) → DoesEvent old new (course m s steps).events e told → x ≡ x' → host_bytes (e ∷ (course m s steps).events) ≡ host_bytes (course m s steps).events
+pub event-step : {S : Type 0} (m : Meaning S) (s : S) (old new : SystemKept S) (steps : List Step) (x x' : RawStep) (e : PastEvent) (told : Told) → (h : SystemStands m s old steps) → DoesEvent old new (course m s steps).events e told → x ≡ x' → host_bytes (e ∷ (course m s steps).events) ≡ host_bytes (course m s steps).events
     → after_step m s (course m s steps) (step_of x') ≡ happened (course m s steps) e → told_by m s (course m s steps) (step_of x') ≡ told_of_event (course m s steps).events e → TakesStep m s new steps (step_of x) told
 event-step m s old new steps x x' e told h d is none after tells =
     let run = course m s steps in

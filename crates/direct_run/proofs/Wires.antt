@@ -5,7 +5,7 @@ use Rattle.std.proofs.lemmas.List.{append_cancel_left, drop-append-le, length-ap
 use Rattle.std.proofs.lemmas.Grind.{flat_map-append}
 use Rattle.usb_base.specs.declared.refusal.Refusal.{Refusal}
 use Rattle.gate_history.specs.declared.note.Note.{Note}
-use Rattle.gate_history.specs.step.Events.{Event, host_bytes}
+use Rattle.gate_history.specs.step.Events.{PastEvent, host_bytes}
 use Rattle.gate_history.specs.step.History.{history}
 use Rattle.gate_core.specs.state.Kept.{GateKept}
 use Rattle.gate_history.specs.write.Notes.{notes_of}
@@ -38,12 +38,12 @@ gained : {A : Type 0} (old new before after given : List A) → Gains old new be
 gained {A = A} old new before after given g none is =
     g.new-is ∙ ap (λ (l : List A). l ++ g.more) none ∙ append_cancel_left before g.more given (sym g.after-is ∙ is)
 
-pub host-gives : (events : List Event) (e : Event) → out_host first_id (history first_id (e ∷ events)) ≡ out_host first_id (history first_id events) ++ given_of host_bytes_of events e
+pub host-gives : (events : List PastEvent) (e : PastEvent) → out_host first_id (history first_id (e ∷ events)) ≡ out_host first_id (history first_id events) ++ given_of host_bytes_of events e
 host-gives events e =
     ap (λ (b : List ℕ). sent_packet_bytes no_caps (0, gateway_hello) ++ b) (event-gives host_bytes_of first_id events e)
     ∙ sym (append_assoc (sent_packet_bytes no_caps (0, gateway_hello)) (all_of host_bytes_of first_id (history first_id events)) (given_of host_bytes_of events e))
 
-pub event-done : {S : Type 0} (old : SystemKept S) (gate : GateKept) (events : List Event) (e : Event) (c0 c1 h0 h1 from wire : List ℕ) (i0 items trace : List Item) (r0 refusals : List Refusal) (submits : List Submitted) (notes : List Note) →
+pub event-done : {S : Type 0} (old : SystemKept S) (gate : GateKept) (events : List PastEvent) (e : PastEvent) (c0 c1 h0 h1 from wire : List ℕ) (i0 items trace : List Item) (r0 refusals : List Refusal) (submits : List Submitted) (notes : List Note) →
     GateTakes first_id gate events e c0 c1 h0 h1 notes → c0 ≡ [] → h0 ≡ [] → from ≡ [] → i0 ≡ [] → r0 ≡ [] →
     wire ≡ old.to_host ++ h1 → items ≡ i0 ++ flat_map item_of notes → refusals ≡ r0 ++ flat_map refusal_in notes → submits ≡ old.submits ++ flat_map named notes → trace ≡ old.trace ++ items →
     DoesEvent old (record { gate = gate; host = old.host; to_host = wire; to_gate = old.to_gate; trace = trace; submits = submits; failed = old.failed }) events e
@@ -72,7 +72,7 @@ event-done old gate events e c0 c1 h0 h1 from wire i0 items trace r0 refusals su
     notes-are = append_cancel_left (all_of notes_of first_id (history first_id events)) notes (given_of notes_of events e) (sym t.sends.notes-are ∙ event-gives notes_of first_id events e)
 
 -- the same of what was told before and is told now
-pub event-told : {S : Type 0} (old new : SystemKept S) (gate : GateKept) (events : List Event) (e : Event) (c1 h1 wire : List ℕ) (before now : Told) (notes : List Note) →
+pub event-told : {S : Type 0} (old new : SystemKept S) (gate : GateKept) (events : List PastEvent) (e : PastEvent) (c1 h1 wire : List ℕ) (before now : Told) (notes : List Note) →
     GateTakes first_id gate events e before.to_client c1 before.to_host h1 notes → before ≡ untold → wire ≡ old.to_host ++ h1 →
     now ≡ record before { to_client = c1; to_host = h1; items = before.items ++ flat_map item_of notes; refusals = before.refusals ++ flat_map refusal_in notes } →
     new ≡ record old { gate = gate; to_host = wire; trace = old.trace ++ now.items; submits = old.submits ++ flat_map named notes } →
@@ -91,7 +91,7 @@ more-fits : (n : ℕ) (xs ys : List ℕ) → n ≤ length xs → n ≤ length (x
 more-fits n xs ys h = omega (arith, h, length-append xs ys)
 
 -- the event's bytes were taken off the wire to the gateway
-pub event-runs : {S : Type 0} (m : Meaning S) (s : S) (old new : SystemKept S) (c : Course) (e : Event) (told : Told) (rest : List ℕ) →
+pub event-runs : {S : Type 0} (m : Meaning S) (s : S) (old new : SystemKept S) (c : Course) (e : PastEvent) (told : Told) (rest : List ℕ) →
     SystemRuns m s old c → DoesEvent (record old { to_gate = rest }) new c.events e told →
     rest ≡ drop (length (host_bytes (e ∷ c.events))) (sent_to_gate m s c) → length (host_bytes (e ∷ c.events)) ≤ length (sent_to_gate m s c) → SystemRuns m s new (happened c e)
 event-runs {S = S} m s old new c e told rest r d rest-is fits = record {

@@ -2,7 +2,7 @@
 use Rattle.std.specs.Prelude.{List, [], ◌∷◌, ◌++◌}
 use Rattle.usbip_urb.specs.declared.client.ClientPacket.{ClientPacket}
 use Rattle.usbip_urb.specs.ClientPackets.{IsClientPacket}
-use Rattle.gate_history.specs.step.Events.{Event, ClientEnd}
+use Rattle.gate_history.specs.step.Events.{PastEvent, ClientEnd}
 use Rattle.gate_history.specs.declared.item.Item.{Item}
 use Rattle.gate_history.specs.declared.item.Item.TheVariants.{Asked, ClientWrong, ClientLeft}
 use Rattle.gate_history.specs.write.Output.{to_client}
@@ -12,7 +12,7 @@ use Rattle.direct_run.specs.Moves.{Move, ByClient, as_items, move, run}
 
 -- ---- the packets to the present client, which began at the start or behind the last client's end
 
-abbrev pub present : List Event → List ClientPacket
+abbrev pub present : List PastEvent → List ClientPacket
 present [] = []
 present (ClientEnd ∷ events) = []
 present (e ∷ events) = present events ++ given_of to_client events e

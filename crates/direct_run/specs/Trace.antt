@@ -4,7 +4,7 @@ use Rattle.std.specs.List.{flat_map}
 use Rattle.packet_stream.specs.Outputs.{outputs}
 use Rattle.gate_history.specs.write.All.{all_of}
 use Rattle.gate_history.specs.write.Bytes.{client_bytes_of, host_bytes_of}
-use Rattle.gate_history.specs.step.Events.{Event, ClientPiece, ClientEnd as ClientEnds, HostPiece}
+use Rattle.gate_history.specs.step.Events.{PastEvent, ClientPiece, ClientEnd as ClientEnds, HostPiece}
 use Rattle.gate_history.specs.step.History.{brought, history}
 use Rattle.gate_history.specs.step.Machine.{step, given}
 use Rattle.gate_history.specs.step.Marks.{Mark}
@@ -24,7 +24,7 @@ use Rattle.direct_run.specs.Steps.{Step, Client, ClientEnd, ToHost, ToGate, Perf
 use Rattle.direct_run.specs.World.{Course, first_id, nothing_yet, sent_to_host, sent_to_gate, wire_to_host, wire_to_gate, course}
 
 -- all submits that were accepted
-abbrev pub submits_of : List Event → List Submitted
+abbrev pub submits_of : List PastEvent → List Submitted
 submits_of events = flat_map named (all_of notes_of first_id (history first_id events))
 
 -- ---- of a step
@@ -34,10 +34,10 @@ abbrev pub untold : Told
 untold = record { to_client = []; to_host = []; from_host = []; items = []; refusals = [] }
 
 -- what an event has the gateway give, behind these events
-abbrev pub given_of : {A : Type 0} → (State → Mark → List A) → List Event → Event → List A
+abbrev pub given_of : {A : Type 0} → (State → Mark → List A) → List PastEvent → PastEvent → List A
 given_of gives events e = outputs step (given gives) (state_of first_id (history first_id events)) (brought events e)
 
-abbrev pub told_of_event : List Event → Event → Told
+abbrev pub told_of_event : List PastEvent → PastEvent → Told
 told_of_event events e = record untold {
   to_client = given_of client_bytes_of events e;
   to_host = given_of host_bytes_of events e;

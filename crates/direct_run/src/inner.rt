@@ -2,7 +2,7 @@
 
 ghost use Rattle.std.specs.Prelude.{◌≡◌, ◌++◌, [], List as ListOf, None, is_some, IfOk, OnOk, OnErr, IsErr, take, drop, true};
 ghost use Rattle.std.specs.List.{flat_map};
-ghost use Rattle.gate_history.specs.step.Events.{Event as PastEvent, HostPiece, event_of};
+ghost use Rattle.gate_history.specs.step.Events.{PastEvent, HostPiece, event_of};
 ghost use Rattle.gate_core.specs.step.Stands.{GateStands};
 ghost use Rattle.redir_host.specs.step.Acts.{Act, Piece, Perform, Offer, Unplug};
 ghost use Rattle.redir_host.specs.step.Stands.{HostStands};

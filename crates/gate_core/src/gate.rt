@@ -1,7 +1,7 @@
 //! The gate: it translates between USB/IP clients, one after another, and a usbredir host.
 
 ghost use Rattle.std.specs.Prelude.{◌≡◌, ◌+◌, ◌-◌, ◌++◌, ◌≤◌, [], List, length, ℕ, OnOk, OnErr, IfOk, IsErr, IfSome, IsNone};
-ghost use Rattle.gate_history.specs.step.Events.{Event as PastEvent, event_of};
+ghost use Rattle.gate_history.specs.step.Events.{PastEvent, event_of};
 ghost use Rattle.gate_history.specs.declared.item.Item.{Item as PastItem};
 ghost use Rattle.gate_history.specs.step.Past.{past};
 ghost use Rattle.gate_history.specs.Headline.{counts};

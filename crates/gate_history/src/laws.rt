@@ -8,7 +8,7 @@ ghost use Rattle.packet_stream.specs.Split.{SplitsWell};
 ghost use Rattle.redir_data.specs.Streams.{after, stream_format, stream_start};
 ghost use Rattle.stream_buffers.specs.declared.up.TheConstants.{MAX_HELD};
 ghost use Rattle.gate_history.specs.step.Streams.{client_start};
-ghost use Rattle.gate_history.specs.step.Events.{Event as PastEvent};
+ghost use Rattle.gate_history.specs.step.Events.{PastEvent};
 ghost use Rattle.gate_history.specs.declared.item.Item.{Item};
 ghost use Rattle.gate_history.specs.state.Ids.{draw, greatest, IsNext, AreFresh, Once};
 ghost use Rattle.gate_history.specs.client.Submits.{live};

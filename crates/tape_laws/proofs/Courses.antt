@@ -10,7 +10,7 @@ use Rattle.gate_outside.specs.declared.turn.Turn.{Turn}
 use Rattle.gate_outside.specs.declared.turn.Turn.TheVariants.{Piece, Wait, Fail}
 use Rattle.gate_outside.specs.Turns.{pending, answer, given, after}
 use Rattle.bridge_run.specs.declared.course.serve_end.ServeEnd.TheVariants as end
-use Rattle.bridge_run.specs.events.Events.{LinkEvent, ClientComes, ClientQuiet, SidePiece, SideEnd}
+use Rattle.bridge_run.specs.events.Events.{PastLinkEvent, ClientComes, ClientQuiet, SidePiece, SideEnd}
 use Rattle.bridge_run.specs.events.Prescribed.{Prescribed, gained, refuses, drops, first_of}
 use Rattle.bridge_run.specs.written.Recorded.{lines_of, is_last, is_full, written_if, waiting_if}
 use Rattle.bridge_run.specs.course.Course.{Setting, Course, Next, Making, AtDoor, AtClient, AtHost, AtEnd, Takes}
@@ -32,9 +32,9 @@ seen c = record c { busy = false; waits = 0; left = 0; told = [] }
 
 -- the first of the events have their lines behind the first line, and the lines of the later ones wait, which send
 -- nothing
-pub record Gathers (p : Prescribed) (first : List ℕ) (events : List LinkEvent) (written waiting : List ℕ) : Type 0 where
-  pub taped : List LinkEvent
-  pub later : List LinkEvent
+pub record Gathers (p : Prescribed) (first : List ℕ) (events : List PastLinkEvent) (written waiting : List ℕ) : Type 0 where
+  pub taped : List PastLinkEvent
+  pub later : List PastLinkEvent
   pub events-are : events ≡ later ++ taped
   pub written-is : written ≡ first ++ recorded p taped
   pub all-is : first ++ recorded p events ≡ written ++ waiting
@@ -80,7 +80,7 @@ IsBehind AtEnd = Unit {0}
 IsBehind (Takes e next) = ⊥
 
 -- as an event is taken
-pub record IsTaking (p : Prescribed) (first : List ℕ) (e : LinkEvent) (next : Next) (c : Course) : Type 0 where
+pub record IsTaking (p : Prescribed) (first : List ℕ) (e : PastLinkEvent) (next : Next) (c : Course) : Type 0 where
   pub holds : Holds p first (client_at e (client_behind p c.events)) (host_at e (host_behind p c.events)) (seen c)
   pub fits : Fits e c.events
   pub behind : IsBehind next
@@ -132,7 +132,7 @@ nothing-more true old more all none is = ap (λ (l : List ℕ). old ++ l) none �
 nothing-more false old more all none is = append-nil old ∙ is
 
 -- an event's lines are written behind those that wait, or wait behind them where it sends nothing
-put-gathers : (p : Prescribed) (first : List ℕ) (e : LinkEvent) (c : Course) (due : Bool) → is_due p e c ≡ due → Gathers p first c.events c.recorded c.waiting → AllFit c.events → Fits e c.events
+put-gathers : (p : Prescribed) (first : List ℕ) (e : PastLinkEvent) (c : Course) (due : Bool) → is_due p e c ≡ due → Gathers p first c.events c.recorded c.waiting → AllFit c.events → Fits e c.events
     → Gathers p first (e ∷ c.events) (c.recorded ++ written_if due (lines_with p e c)) (waiting_if due (lines_with p e c))
 put-gathers p first e c true is g fit fits =
     let lines = lines_of e (gained p.refusals c.events e) in
@@ -157,7 +157,7 @@ put-gathers p first e c false is g fit fits =
     record {
       taped = g.taped;
       later = e ∷ g.later;
-      events-are = ap (λ (events : List LinkEvent). e ∷ events) g.events-are;
+      events-are = ap (λ (events : List PastLinkEvent). e ∷ events) g.events-are;
       written-is = append-nil c.recorded ∙ g.written-is;
       all-is = sym (append_assoc first (recorded p c.events) lines) ∙ ap (λ (l : List ℕ). l ++ lines) g.all-is ∙ append_assoc c.recorded c.waiting lines
           ∙ ap (λ (l : List ℕ). l ++ (c.waiting ++ lines)) (sym (append-nil c.recorded));
@@ -166,7 +166,7 @@ put-gathers p first e c false is g fit fits =
       fit = g.fit;
     }
 
-put-stands : (p : Prescribed) (first : List ℕ) (e : LinkEvent) (c : Course) → Holds p first (client_at e (client_behind p c.events)) (host_at e (host_behind p c.events)) (seen c) → Fits e c.events → Stands p first (put p e c)
+put-stands : (p : Prescribed) (first : List ℕ) (e : PastLinkEvent) (c : Course) → Holds p first (client_at e (client_behind p c.events)) (host_at e (host_behind p c.events)) (seen c) → Fits e c.events → Stands p first (put p e c)
 put-stands p first e c h fits =
     let refusals = gained p.refusals c.events e in
     let up = client_at e (client_behind p c.events) in
@@ -183,7 +183,7 @@ put-stands p first e c h fits =
       host = h.host;
     }
 
-dropped-is : (e : LinkEvent) (dropped : Bool) → ends_next e dropped ≡ true → dropped ≡ true
+dropped-is : (e : PastLinkEvent) (dropped : Bool) → ends_next e dropped ≡ true → dropped ≡ true
 dropped-is ClientComes dropped is = is
 dropped-is ClientQuiet dropped is = is
 dropped-is (SidePiece side b) dropped is = is
@@ -191,7 +191,7 @@ dropped-is (SideEnd Client) dropped is = cc
 dropped-is (SideEnd Host) dropped is = is
 
 -- a client that is dropped has its end next
-ends : (p : Prescribed) (first : List ℕ) (e : LinkEvent) (next : Next) (c : Course) → drops p c.events e ≡ true → IsBehind next → Stands p first (put p e c) → IsTaking p first (SideEnd Client) next (put p e c)
+ends : (p : Prescribed) (first : List ℕ) (e : PastLinkEvent) (next : Next) (c : Course) → drops p c.events e ≡ true → IsBehind next → Stands p first (put p e c) → IsTaking p first (SideEnd Client) next (put p e c)
 ends p first e next c dropped behind s = record {
   holds = subst (λ (t : Bool). Holds p first t (host_behind p (e ∷ c.events)) (seen (put p e c)))
       (ap (λ (t : Bool). client_at e (client_behind p c.events) && not t) dropped ∙ and-false (client_at e (client_behind p c.events))) s;
@@ -204,7 +204,7 @@ settle-comes s first next c behind h =
     if-comes s.served first (not c.client_up && not c.host_up) (Stops (end.Ended (first_of (s.served.refusals c.events))) c) (cond (c.left == 0) (Stops end.Spent c) (Goes next c)) (λ down. h)
     (λ up. if-comes s.served first (c.left == 0) (Stops end.Spent c) (Goes next c) (λ none. h) (λ some. at-behind s.served first next c behind h))
 
-take-comes : (s : Setting) (first : List ℕ) (e : LinkEvent) (next : Next) (c : Course) → IsTaking s.served first e next c → Comes s.served first (take_event s e next c)
+take-comes : (s : Setting) (first : List ℕ) (e : PastLinkEvent) (next : Next) (c : Course) → IsTaking s.served first e next c → Comes s.served first (take_event s e next c)
 take-comes s first e next c h =
     let behind = put-stands s.served first e c h.holds h.fits in
     if-comes s.served first (ends_next e (drops s.served c.events e)) (Goes (Takes (SideEnd Client) next) (put s.served e c)) (settle s next (put s.served e c))
@@ -301,7 +301,7 @@ client-heard p first (Wait ∷ turns) c full bytes h = record { holds = with-cli
 client-heard p first (Fail ∷ turns) c full bytes h = with-client p first (client_behind p c.events) (host_behind p c.events) c turns bytes h
 
 -- a host whose link is up has not ended
-not-ended : (p : Prescribed) (events : List LinkEvent) → host_behind p events ≡ true → host_ended (gate_events events) ≡ false
+not-ended : (p : Prescribed) (events : List PastLinkEvent) → host_behind p events ≡ true → host_ended (gate_events events) ≡ false
 not-ended p [] up = refl
 not-ended p (ClientComes ∷ events) up = not-ended p events (and_parts (host_behind p events) (not (refuses Host (gained p.refusals events ClientComes))) up).0
 not-ended p (SidePiece Client b ∷ events) up = not-ended p events (and_parts (host_behind p events) (not (refuses Host (gained p.refusals events (SidePiece Client b)))) up).0
@@ -353,7 +353,7 @@ gathered-stands p first c h = record {
 
 making-gathers : (p : Prescribed) (first : List ℕ) (c : Course) → IsMaking p first c → Gathers p first c.events c.recorded c.waiting
 making-gathers p first c h =
-    let written = h.recorded-is ∙ sym (append-nil first) ∙ sym (ap (λ (l : List LinkEvent). first ++ recorded p l) h.events-are) in
+    let written = h.recorded-is ∙ sym (append-nil first) ∙ sym (ap (λ (l : List PastLinkEvent). first ++ recorded p l) h.events-are) in
     record {
       taped = c.events;
       later = [];

@@ -11,7 +11,7 @@ use Rattle.gate_outside.specs.declared.turn.Polled.{Polled}
 use Rattle.gate_outside.specs.declared.turn.Polled.TheVariants.{Took, NotYet, Ended, Failed}
 use Rattle.gate_outside.specs.Turns.{pending, answer, given}
 use Rattle.bridge_run.specs.declared.course.serve_end.ServeEnd.TheVariants as end
-use Rattle.bridge_run.specs.events.Events.{LinkEvent}
+use Rattle.bridge_run.specs.events.Events.{PastLinkEvent}
 use Rattle.bridge_run.specs.events.Prescribed.{Prescribed, gained}
 use Rattle.bridge_run.specs.written.Recorded.{lines_of}
 use Rattle.bridge_run.specs.course.Course.{Setting, Course, Next, Making, AtDoor, AtClient, AtHost, AtEnd, Takes}
@@ -69,13 +69,13 @@ no-bytes (x ∷ xs) ys is = cc
 -- ---- where a tape ends
 
 -- behind these lines are those of some more of the events, and then less than those of the next one
-pub record CutAt (asked : ServeSettings) (taped later : List LinkEvent) (more : List ℕ) : Type 0 where
-  pub first : List LinkEvent
+pub record CutAt (asked : ServeSettings) (taped later : List PastLinkEvent) (more : List ℕ) : Type 0 where
+  pub first : List PastLinkEvent
   pub rest : List ℕ
   pub parts : recorded (served asked) taped ++ more ≡ recorded (served asked) (first ++ taped) ++ rest
   pub ends : EndsTape asked (first ++ taped) (later ++ taped) rest
 
-one-more : (asked : ServeSettings) (taped : List LinkEvent) (e : LinkEvent) (later : List LinkEvent) (more : List ℕ) (b : ℕ) (behind : List ℕ) → recorded (served asked) (later ++ taped) ≡ recorded (served asked) taped ++ more ++ (b ∷ behind)
+one-more : (asked : ServeSettings) (taped : List PastLinkEvent) (e : PastLinkEvent) (later : List PastLinkEvent) (more : List ℕ) (b : ℕ) (behind : List ℕ) → recorded (served asked) (later ++ taped) ≡ recorded (served asked) taped ++ more ++ (b ∷ behind)
     → CutAt asked taped later more → CutAt asked taped (e ∷ later) more
 one-more asked taped e later more b behind is c = record { first = c.first; rest = c.rest; parts = c.parts; ends = go c.ends }
   where
@@ -83,11 +83,11 @@ one-more asked taped e later more b behind is c = record { first = c.first; rest
     go (inl x) =
         absurd (nothing-behind (recorded (served asked) taped ++ more) b behind
         (c.parts ∙ ap (λ (l : List ℕ). recorded (served asked) (c.first ++ taped) ++ l) x.1 ∙ append-nil (recorded (served asked) (c.first ++ taped))
-        ∙ ap (λ (l : List LinkEvent). recorded (served asked) l) (sym x.0) ∙ is))
-    go (inr x) = inr (record { event = x.event; after = e ∷ x.after; taken-are = ap (λ (l : List LinkEvent). e ∷ l) x.taken-are; missing = x.missing; lost = x.lost; lines-are = x.lines-are })
+        ∙ ap (λ (l : List PastLinkEvent). recorded (served asked) l) (sym x.0) ∙ is))
+    go (inr x) = inr (record { event = x.event; after = e ∷ x.after; taken-are = ap (λ (l : List PastLinkEvent). e ∷ l) x.taken-are; missing = x.missing; lost = x.lost; lines-are = x.lines-are })
 
 -- within the lines of the latest event, or behind all of them
-at-latest : (asked : ServeSettings) (taped : List LinkEvent) (e : LinkEvent) (later : List LinkEvent) (more lost : List ℕ) → IsWithin (recorded (served asked) (later ++ taped)) (recorded (served asked) taped ++ more) (lines_of e (gained (served asked).refusals (later ++ taped) e)) lost
+at-latest : (asked : ServeSettings) (taped : List PastLinkEvent) (e : PastLinkEvent) (later : List PastLinkEvent) (more lost : List ℕ) → IsWithin (recorded (served asked) (later ++ taped)) (recorded (served asked) taped ++ more) (lines_of e (gained (served asked).refusals (later ++ taped) e)) lost
     → CutAt asked taped (e ∷ later) more
 at-latest asked taped e later more [] x = record {
   first = e ∷ later;
@@ -102,13 +102,13 @@ at-latest asked taped e later more (b ∷ lost) x = record {
   ends = inr (record { event = e; after = []; taken-are = refl; missing = b; lost = lost; lines-are = x.parts });
 }
 
-behind-latest : (asked : ServeSettings) (taped : List LinkEvent) (e : LinkEvent) (later : List LinkEvent) (more lost : List ℕ) → ((left : List ℕ) → recorded (served asked) (later ++ taped) ≡ recorded (served asked) taped ++ more ++ left → CutAt asked taped later more)
+behind-latest : (asked : ServeSettings) (taped : List PastLinkEvent) (e : PastLinkEvent) (later : List PastLinkEvent) (more lost : List ℕ) → ((left : List ℕ) → recorded (served asked) (later ++ taped) ≡ recorded (served asked) taped ++ more ++ left → CutAt asked taped later more)
     → Exceeds (recorded (served asked) (later ++ taped)) (recorded (served asked) taped ++ more) ⊎ IsWithin (recorded (served asked) (later ++ taped)) (recorded (served asked) taped ++ more) (lines_of e (gained (served asked).refusals (later ++ taped) e)) lost
     → CutAt asked taped (e ∷ later) more
 behind-latest asked taped e later more lost before (inl x) = one-more asked taped e later more x.next x.more x.is (before (x.next ∷ x.more) x.is)
 behind-latest asked taped e later more lost before (inr x) = at-latest asked taped e later more lost x
 
-pub cut-at : (asked : ServeSettings) (taped later : List LinkEvent) (more lost : List ℕ) → recorded (served asked) (later ++ taped) ≡ recorded (served asked) taped ++ more ++ lost → CutAt asked taped later more
+pub cut-at : (asked : ServeSettings) (taped later : List PastLinkEvent) (more lost : List ℕ) → recorded (served asked) (later ++ taped) ≡ recorded (served asked) taped ++ more ++ lost → CutAt asked taped later more
 cut-at asked taped [] more lost is =
     let none : more ≡ [] =
     no-bytes more lost (sym (append_cancel_left (recorded (served asked) taped) [] (more ++ lost) (append-nil (recorded (served asked) taped) ∙ is ∙ append_assoc (recorded (served asked) taped) more lost))) in
@@ -124,27 +124,27 @@ cut-at asked taped (e ∷ later) more lost is =
 
 -- ---- what the first of some events record and send
 
-pub are-lines : (asked : ServeSettings) (events : List LinkEvent) → AreLines asked events (recorded (served asked) events)
+pub are-lines : (asked : ServeSettings) (events : List PastLinkEvent) → AreLines asked events (recorded (served asked) events)
 are-lines asked [] = refl
 are-lines asked (e ∷ events) = inl refl
 
-fit-behind : (xs ys : List LinkEvent) → AllFit (xs ++ ys) → AllFit ys
+fit-behind : (xs ys : List PastLinkEvent) → AllFit (xs ++ ys) → AllFit ys
 fit-behind [] ys fit = fit
 fit-behind (x ∷ xs) ys fit = fit-behind xs ys fit.1
 
-pub ends-fit : (asked : ServeSettings) (events taken : List LinkEvent) (more : List ℕ) → EndsTape asked events taken more → AllFit taken → AllFit events
+pub ends-fit : (asked : ServeSettings) (events taken : List PastLinkEvent) (more : List ℕ) → EndsTape asked events taken more → AllFit taken → AllFit events
 ends-fit asked events taken more (inl x) fit = subst AllFit x.0 fit
 ends-fit asked events taken more (inr x) fit = (fit-behind x.after (x.event ∷ events) (subst AllFit x.taken-are fit)).1
 
 front-more : (front all more whole : List ℕ) → Begins front all → whole ≡ all ++ more → Begins front whole
 front-more front all more whole f is = record { more = f.more ++ more; is = is ∙ ap (λ (l : List ℕ). l ++ more) f.is ∙ append_assoc front f.more more }
 
-pub client-front : (p : Prescribed) (first taped : List LinkEvent) → Begins (to_clients p taped) (to_clients p (first ++ taped))
+pub client-front : (p : Prescribed) (first taped : List PastLinkEvent) → Begins (to_clients p taped) (to_clients p (first ++ taped))
 client-front p [] taped = record { more = []; is = sym (append-nil (to_clients p taped)) }
 client-front p (e ∷ first) taped =
     front-more (to_clients p taped) (to_clients p (first ++ taped)) (cond (client_at e (client_behind p (first ++ taped))) (gained p.to_client (first ++ taped) e) []) (to_clients p (e ∷ (first ++ taped))) (client-front p first taped) refl
 
-pub host-front : (p : Prescribed) (first taped : List LinkEvent) → Begins (to_host p taped) (to_host p (first ++ taped))
+pub host-front : (p : Prescribed) (first taped : List PastLinkEvent) → Begins (to_host p taped) (to_host p (first ++ taped))
 host-front p [] taped = record { more = []; is = sym (append-nil (to_host p taped)) }
 host-front p (e ∷ first) taped =
     front-more (to_host p taped) (to_host p (first ++ taped)) (cond (host_at e (host_behind p (first ++ taped))) (gained p.to_host (first ++ taped) e) []) (to_host p (e ∷ (first ++ taped))) (host-front p first taped) refl
@@ -169,7 +169,7 @@ heard-same Host next Ended bytes c = refl
 heard-same side next Failed bytes c = refl
 
 -- the events behind a call are those before it, or one more
-pub call-takes : (s : Setting) (next : Next) (c : Course) → (new : List LinkEvent) × ((course_of (call s next c)).events ≡ new ++ c.events)
+pub call-takes : (s : Setting) (next : Next) (c : Course) → (new : List PastLinkEvent) × ((course_of (call s next c)).events ≡ new ++ c.events)
 call-takes s Making c = ([], refl)
 call-takes s AtDoor c = ([], if-same c.client_up (Goes AtClient c) (come c.clients c) c refl (come-same c.clients c))
 call-takes s AtClient c = ([], if-same c.client_up (poll Client c.client AtHost c) (Goes AtHost c) c (heard-same Client AtHost (answer POLL_LIMIT (pending c.client)) (given POLL_LIMIT (pending c.client)) (turned Client c)) refl)

@@ -2,14 +2,14 @@
 use Rattle.std.proofs.Common.{◌≡◌, ◌⊎◌, ◌≤◌, ℕ, Bool, inl, inr, List, [], ◌∷◌, ◌++◌, length, Option, Some, None, IfSome, refl, sym, ap, ◌∙◌, subst, append_assoc, append-nil, arith}
 use Rattle.std.proofs.lemmas.List.{length-append, append_cancel_left}
 use Rattle.usb_base.specs.Writes.{Begins}
-use Rattle.gate_history.specs.step.Events.{Event as GateEvent}
+use Rattle.gate_history.specs.step.Events.{PastEvent}
 use Rattle.gate_history.specs.step.History.{history}
 use Rattle.gate_history.specs.write.All.{counts_of}
 use Rattle.session_tape.specs.Tapes.{Counts}
 use Rattle.session_tape.specs.Lines.{first_comment}
 use Rattle.bridge_run.specs.declared.course.serve_end.ServeEnd.{ServeEnd}
 use Rattle.bridge_run.specs.declared.course.serve_end.ServeEnd.TheVariants as end
-use Rattle.bridge_run.specs.events.Events.{LinkEvent}
+use Rattle.bridge_run.specs.events.Events.{PastLinkEvent}
 use Rattle.bridge_run.specs.course.Course.{Course, Next, Making, Takes}
 use Rattle.bridge_run.specs.events.Prescribed.{Prescribed}
 use Rattle.bridge_run.specs.course.Calls.{Outcome, Goes, Stops, call, course_of}
@@ -57,10 +57,10 @@ plays asked c d e new out held reaches tells tape-is room none s =
       course = d;
       reaches = reaches;
       held-is = held-is;
-      good = ap (λ (x : Reading (List GateEvent)). x.bad) all;
-      events-are = ap (λ (x : Reading (List GateEvent)). x.after.kept) all ∙ comes.kept-is;
-      prints = ap (λ (x : Reading (List GateEvent)). made ++ x.text ++ last_text command x) all
-          ∙ ap (λ (l : List GateEvent). made ++ all_replayed asked d.events ++ counts_line (counts_of asked.first_id (history asked.first_id l))) comes.kept-is;
+      good = ap (λ (x : Reading (List PastEvent)). x.bad) all;
+      events-are = ap (λ (x : Reading (List PastEvent)). x.after.kept) all ∙ comes.kept-is;
+      prints = ap (λ (x : Reading (List PastEvent)). made ++ x.text ++ last_text command x) all
+          ∙ ap (λ (l : List PastEvent). made ++ all_replayed asked d.events ++ counts_line (counts_of asked.first_id (history asked.first_id l))) comes.kept-is;
       client = tells.client.written-is ∙ ap (λ (l : List ℕ). Some l) s.to_client-is;
       host = tells.host.written-is ∙ ap (λ (l : List ℕ). Some l) s.to_host-is;
     }
@@ -68,17 +68,17 @@ plays asked c d e new out held reaches tells tape-is room none s =
 -- ---- a run that was cut short
 
 -- where memory may have run out within an event, by how the run ended
-abbrev stopping : ServeSettings → ServeEnd → List LinkEvent → LinkEvent → List ℕ → List ℕ → Type 0
+abbrev stopping : ServeSettings → ServeEnd → List PastLinkEvent → PastLinkEvent → List ℕ → List ℕ → Type 0
 stopping asked x = MayRunOut x (gate_runs_out asked.first_id) (served asked)
 
-ran-within : (asked : ServeSettings) (x : ServeEnd) (events : List LinkEvent) (e : LinkEvent) (client host : List ℕ) → stopping asked x events e client host → RanOutWithin (gate_runs_out asked.first_id) (served asked) events e client host
+ran-within : (asked : ServeSettings) (x : ServeEnd) (events : List PastLinkEvent) (e : PastLinkEvent) (client host : List ℕ) → stopping asked x events e client host → RanOutWithin (gate_runs_out asked.first_id) (served asked) events e client host
 ran-within asked end.WriteFault events e client host so = absurd so
 ran-within asked x events e client host so = so
 
 -- what the lines of a course's events and its links have
 record Facts (asked : ServeSettings) (d : Course) : Type 0 where
-  pub taped : List LinkEvent
-  pub later : List LinkEvent
+  pub taped : List PastLinkEvent
+  pub later : List PastLinkEvent
   pub events-are : d.events ≡ later ++ taped
   pub fit : AllFit taped
   pub recorded-is : d.recorded ≡ recording asked taped
@@ -117,7 +117,7 @@ making-facts asked d h = record {
   later = [];
   events-are = refl;
   fit = subst AllFit (sym h.events-are) tt;
-  recorded-is = h.recorded-is ∙ sym (append-nil (first_comment asked.first_id)) ∙ sym (ap (λ (l : List LinkEvent). recording asked l) h.events-are);
+  recorded-is = h.recorded-is ∙ sym (append-nil (first_comment asked.first_id)) ∙ sym (ap (λ (l : List PastLinkEvent). recording asked l) h.events-are);
   client-is = h.to_client-is ∙ sym (ap (to_clients (served asked)) h.events-are);
   lost = (served asked).to_host [];
   host-is = ap (to_host (served asked)) h.events-are ∙ sym (ap (λ (l : List ℕ). l ++ (served asked).to_host []) h.to_host-is);
@@ -163,14 +163,14 @@ stands-whole asked d up host_up h = record {
 making-whole : (asked : ServeSettings) (d : Course) → IsMaking (served asked) (first_comment asked.first_id) d → Whole asked d
 making-whole asked d h = record {
   fit = subst AllFit (sym h.events-are) tt;
-  lines-are = ap (λ (l : List LinkEvent). recording asked l) h.events-are ∙ append-nil (first_comment asked.first_id) ∙ sym h.recorded-is ∙ sym (append-nil d.recorded) ∙ ap (λ (l : List ℕ). d.recorded ++ l) (sym h.none_waits);
+  lines-are = ap (λ (l : List PastLinkEvent). recording asked l) h.events-are ∙ append-nil (first_comment asked.first_id) ∙ sym h.recorded-is ∙ sym (append-nil d.recorded) ∙ ap (λ (l : List ℕ). d.recorded ++ l) (sym h.none_waits);
   client-is = ap (to_clients (served asked)) h.events-are ∙ sym h.to_client-is;
   lost = (served asked).to_host [];
   host-is = ap (to_host (served asked)) h.events-are ∙ sym (ap (λ (l : List ℕ). l ++ (served asked).to_host []) h.to_host-is);
 }
 
 -- the events behind a call that was cut have their lines up to somewhere
-part : (asked : ServeSettings) (c before : Course) (next : Next) (new : Outside) (held : List ℕ) → Reaches (setting_of asked) (Goes Making c) (Goes next before) → (taped later : List LinkEvent) (more lost : List ℕ)
+part : (asked : ServeSettings) (c before : Course) (next : Next) (new : Outside) (held : List ℕ) → Reaches (setting_of asked) (Goes Making c) (Goes next before) → (taped later : List PastLinkEvent) (more lost : List ℕ)
     → (course_of (call (setting_of asked) next before)).events ≡ later ++ taped → AllFit (course_of (call (setting_of asked) next before)).events → recorded (served asked) (later ++ taped) ≡ recorded (served asked) taped ++ more ++ lost
     → held ≡ recording asked taped ++ more → length held ≤ tape_limit → WroteFront new.client.written (to_clients (served asked) taped) → WroteFront new.host.written (to_host (served asked) taped) → PlaysInPart asked c new held
 part asked c before next new held reaches taped later more lost are fits whole is room client host =
@@ -178,7 +178,7 @@ part asked c before next new held reaches taped later more lost are fits whole i
     let first = first_comment asked.first_id in
     let x = cut-at asked taped later more lost whole in
     let events = x.first ++ taped in
-    let ends : EndsTape asked events (course_of (call (setting_of asked) next before)).events x.rest = subst (λ (l : List LinkEvent). EndsTape asked events l x.rest) (sym are) x.ends in
+    let ends : EndsTape asked events (course_of (call (setting_of asked) next before)).events x.rest = subst (λ (l : List PastLinkEvent). EndsTape asked events l x.rest) (sym are) x.ends in
     let held-is : held ≡ recording asked events ++ x.rest =
     is ∙ append_assoc first (recorded p taped) more ∙ ap (λ (l : List ℕ). first ++ l) x.parts ∙ sym (append_assoc first (recorded p events) x.rest) in
     let in_all : length (recording asked events ++ x.rest) ≤ tape_limit = subst (λ (l : List ℕ). length l ≤ tape_limit) held-is room in
@@ -216,7 +216,7 @@ recorded-all asked x c before next new out held reaches cut is room f w =
     let behind = course_of (call (setting_of asked) next before) in
     let taped = f.taped in
     let whole : first_comment asked.first_id ++ recorded p (f.later ++ taped) ≡ first_comment asked.first_id ++ recorded p taped ++ ([] ++ behind.waiting) =
-    ap (λ (l : List LinkEvent). recording asked l) (sym f.events-are) ∙ w.lines-are ∙ ap (λ (l : List ℕ). l ++ behind.waiting) f.recorded-is in
+    ap (λ (l : List PastLinkEvent). recording asked l) (sym f.events-are) ∙ w.lines-are ∙ ap (λ (l : List ℕ). l ++ behind.waiting) f.recorded-is in
     part asked c before next new held reaches taped f.later [] behind.waiting f.events-are w.fit (behind-first (first_comment asked.first_id) (recorded p taped) (recorded p (f.later ++ taped)) [] behind.waiting whole)
     (is ∙ f.recorded-is ∙ sym (append-nil (recording asked taped))) room
     (front-between new.client.written before.to_client behind.to_client (to_clients p taped) [] cut.to_client (sym f.client-is ∙ sym (append-nil behind.to_client)))
@@ -232,9 +232,9 @@ recorded-some asked c before next new held reaches some room f w =
     let taped = f.taped in
     let taken = call-takes (setting_of asked) next before in
     let later = taken.0 ++ f.later in
-    let are : behind.events ≡ later ++ taped = taken.1 ∙ ap (λ (l : List LinkEvent). taken.0 ++ l) f.events-are ∙ sym (append_assoc taken.0 f.later taped) in
+    let are : behind.events ≡ later ++ taped = taken.1 ∙ ap (λ (l : List PastLinkEvent). taken.0 ++ l) f.events-are ∙ sym (append_assoc taken.0 f.later taped) in
     let whole : first ++ recorded p (later ++ taped) ≡ first ++ recorded p taped ++ (some.more ++ (some.lost ++ behind.waiting)) =
-    ap (λ (l : List LinkEvent). recording asked l) (sym are) ∙ w.lines-are ∙ ap (λ (l : List ℕ). l ++ behind.waiting) some.all-is
+    ap (λ (l : List PastLinkEvent). recording asked l) (sym are) ∙ w.lines-are ∙ ap (λ (l : List ℕ). l ++ behind.waiting) some.all-is
     ∙ append_assoc (before.recorded ++ some.more) some.lost behind.waiting ∙ append_assoc before.recorded some.more (some.lost ++ behind.waiting)
     ∙ ap (λ (l : List ℕ). l ++ (some.more ++ (some.lost ++ behind.waiting))) f.recorded-is in
     part asked c before next new held reaches taped later some.more (some.lost ++ behind.waiting) are w.fit (behind-first first (recorded p taped) (recorded p (later ++ taped)) some.more (some.lost ++ behind.waiting) whole)
@@ -347,11 +347,11 @@ plays-nothing asked new held unserved front room =
     record {
       unserved = unserved;
       front = front;
-      good = ap (λ (x : Reading (List GateEvent)). x.bad) read.read-is;
-      none = ap (λ (x : Reading (List GateEvent)). x.after.kept) read.read-is ∙ read.kept-is;
-      prints = ap (λ (x : Reading (List GateEvent)). made ++ x.text ++ last_text command x) read.read-is
+      good = ap (λ (x : Reading (List PastEvent)). x.bad) read.read-is;
+      none = ap (λ (x : Reading (List PastEvent)). x.after.kept) read.read-is ∙ read.kept-is;
+      prints = ap (λ (x : Reading (List PastEvent)). made ++ x.text ++ last_text command x) read.read-is
           ∙ ap (λ (l : List ℕ). l ++ counts_line (counts_of asked.first_id (history asked.first_id read.to.kept))) (append-nil made)
-          ∙ ap (λ (l : List GateEvent). made ++ counts_line (counts_of asked.first_id (history asked.first_id l))) read.kept-is;
+          ∙ ap (λ (l : List PastEvent). made ++ counts_line (counts_of asked.first_id (history asked.first_id l))) read.kept-is;
     }
 
 unmade-replays : (status : Status) (asked : ServeSettings) (c : Course) (before : Option (List ℕ)) (new : Outside) (held : List ℕ) (t t' : Counts) → IsUnmade status t t' → IsAsBefore before new held → Replays status asked c before new held

@@ -3,9 +3,9 @@ use Rattle.std.proofs.Common.{◌≡◌, ◌⊎◌, ◌≤◌, ℕ, zero, suc, �
 use Rattle.std.proofs.lemmas.Bool.{cond_both, eqb-true, false_from_ne_true, le-ltb}
 use Rattle.std.proofs.lemmas.List.{length-append}
 use Rattle.usb_base.specs.Writes.{Begins}
-use Rattle.gate_history.specs.step.Events.{Event as GateEvent}
+use Rattle.gate_history.specs.step.Events.{PastEvent}
 use Rattle.session_tape.specs.Lines.{first_comment}
-use Rattle.bridge_run.specs.events.Events.{LinkEvent}
+use Rattle.bridge_run.specs.events.Events.{PastLinkEvent}
 use Rattle.bridge_run.specs.served.Gate.{gate_events}
 use Rattle.packet_show.specs.declared.tape.ReplayLine.{ReplayLine}
 use Rattle.packet_show.specs.declared.tape.ReplayLine.TheVariants.{Skip}
@@ -36,15 +36,15 @@ first-whole : (first_id : ℕ) → HasNoLF (first_words first_id)
 first-whole first_id = HasNoLF-append (codes "# --first-id ") (decimal first_id) (no-lf-tested (codes "# --first-id ") refl) (no-lf-decimal first_id)
 
 -- the first line, and then the lines of all events
-abbrev pub recording : ServeSettings → List LinkEvent → List ℕ
+abbrev pub recording : ServeSettings → List PastLinkEvent → List ℕ
 recording asked events = first_comment asked.first_id ++ recorded (served asked) events
 
-pub recording-comes : (asked : ServeSettings) (events : List LinkEvent) → AllFit events → length (recording asked events) ≤ tape_limit
+pub recording-comes : (asked : ServeSettings) (events : List PastLinkEvent) → AllFit events → length (recording asked events) ≤ tape_limit
     → Comes asked (begin (over_events (replay asked.first_id))) (recording asked events) (all_replayed asked events) (gate_events events)
 recording-comes asked events fit room =
     let command = over_events (replay asked.first_id) in
     let long = length-append (first_comment asked.first_id) (recorded (served asked) events) in
-    let none : List ℕ × List GateEvent = ([], []) in
+    let none : List ℕ × List PastEvent = ([], []) in
     let mid = (one_further (begin command) (first_comment asked.first_id) none).1 in
     let one = reads-line command (begin command) (first_words asked.first_id) none (first-whole asked.first_id) refl (omega (arith, room, long)) in
     let others = events-come asked events mid fit refl (omega (arith, room, long)) in
@@ -55,32 +55,32 @@ recording-comes asked events fit room =
     }
 
 -- what is read of a tape that begins with a recording
-abbrev pub rest_read : ServeSettings → (to : Progress (List GateEvent)) → List ℕ → Reading (List GateEvent)
+abbrev pub rest_read : ServeSettings → (to : Progress (List PastEvent)) → List ℕ → Reading (List PastEvent)
 rest_read asked to later = read_lines (over_events (replay asked.first_id)) to (lines_of later)
 
-pub front-read : (asked : ServeSettings) (events : List LinkEvent) (later held : List ℕ) (c : Comes asked (begin (over_events (replay asked.first_id))) (recording asked events) (all_replayed asked events) (gate_events events))
+pub front-read : (asked : ServeSettings) (events : List PastLinkEvent) (later held : List ℕ) (c : Comes asked (begin (over_events (replay asked.first_id))) (recording asked events) (all_replayed asked events) (gate_events events))
     → held ≡ recording asked events ++ later → read_of asked held ≡ with_text (all_replayed asked events) (rest_read asked c.to later)
 front-read asked events later held c is = ap (read_of asked) is ∙ c.reads.goes_on later
 
-pub all-read : (asked : ServeSettings) (events : List LinkEvent) (held : List ℕ) (c : Comes asked (begin (over_events (replay asked.first_id))) (recording asked events) (all_replayed asked events) (gate_events events))
+pub all-read : (asked : ServeSettings) (events : List PastLinkEvent) (held : List ℕ) (c : Comes asked (begin (over_events (replay asked.first_id))) (recording asked events) (all_replayed asked events) (gate_events events))
     → held ≡ recording asked events → read_of asked held ≡ record { text = all_replayed asked events; after = c.to; bad = false }
 all-read asked events held c is =
     front-read asked events [] held c (is ∙ sym (append-nil (recording asked events)))
     ∙ ap (λ (l : List ℕ). record { text = l; after = c.to; bad = false }) (append-nil (all_replayed asked events))
 
 -- its text begins with that of the events
-pub front-text : (asked : ServeSettings) (events : List LinkEvent) (x y : Reading (List GateEvent)) → x ≡ with_text (all_replayed asked events) y
+pub front-text : (asked : ServeSettings) (events : List PastLinkEvent) (x y : Reading (List PastEvent)) → x ≡ with_text (all_replayed asked events) y
     → opening_text asked.first_id ++ x.text ++ last_text (over_events (replay asked.first_id)) x ≡ opening_text asked.first_id ++ all_replayed asked events ++ (y.text ++ last_text (over_events (replay asked.first_id)) (with_text (all_replayed asked events) y))
 front-text asked events x y is =
     let command = over_events (replay asked.first_id) in
     let made = opening_text asked.first_id in
     let all = all_replayed asked events in
-    ap (λ (z : Reading (List GateEvent)). made ++ z.text ++ last_text command z) is
+    ap (λ (z : Reading (List PastEvent)). made ++ z.text ++ last_text command z) is
     ∙ ap (λ (l : List ℕ). l ++ last_text command (with_text all y)) (sym (append_assoc made all y.text))
     ∙ append_assoc (made ++ all) y.text (last_text command (with_text all y))
 
 -- the lines of all events, and then that of one more
-pub line-comes : (asked : ServeSettings) (events : List LinkEvent) (e : LinkEvent) → AllFit (e ∷ events) → length (recording asked events ++ event_lines e []) ≤ tape_limit
+pub line-comes : (asked : ServeSettings) (events : List PastLinkEvent) (e : PastLinkEvent) → AllFit (e ∷ events) → length (recording asked events ++ event_lines e []) ≤ tape_limit
     → Comes asked (begin (over_events (replay asked.first_id))) (recording asked events ++ event_lines e []) (all_replayed asked (e ∷ events)) (gate_events (e ∷ events))
 line-comes asked events e fit room =
     let command = over_events (replay asked.first_id) in
@@ -124,7 +124,7 @@ comment-skips bs =
 
 -- it is read as no event, and has no text
 pub record IsSilent (asked : ServeSettings) (held : List ℕ) : Type 0 where
-  pub to : Progress (List GateEvent)
+  pub to : Progress (List PastEvent)
   pub read-is : read_of asked held ≡ record { text = []; after = to; bad = false }
   pub kept-is : to.kept ≡ []
 
@@ -133,14 +133,14 @@ comment-read asked bs one room =
     let command = over_events (replay asked.first_id) in
     let from = begin command in
     let line = 35 ∷ bs in
-    let none : List ℕ × List GateEvent = ([], []) in
+    let none : List ℕ × List PastEvent = ([], []) in
     let within : nat_lt tape_limit (0 + length line) ≡ false = le-ltb tape_limit (0 + length line) (omega (arith, room)) in
     let next : next_line command from line ≡ Some (one_further from line none) =
     ap (λ (t : Bool). cond t None (option_map (one_further from line) (command.line [] (content line)))) within
     ∙ ap (λ (o : Option ReplayLine). option_map (one_further from line) (option_and_then (λ (said : ReplayLine). on_event (replay asked.first_id) [] (event_said said)) o)) (comment-skips bs) in
     record {
       to = (one_further from line none).1;
-      read-is = ap (λ (l : List (List ℕ)). read_lines command from l) one ∙ ap (λ (o : Option (List ℕ × Progress (List GateEvent))). on_line from (λ (q : Progress (List GateEvent)). read_lines command q []) o) next;
+      read-is = ap (λ (l : List (List ℕ)). read_lines command from l) one ∙ ap (λ (o : Option (List ℕ × Progress (List PastEvent))). on_line from (λ (q : Progress (List PastEvent)). read_lines command q []) o) next;
       kept-is = refl;
     }
 

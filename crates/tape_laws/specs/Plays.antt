@@ -2,11 +2,11 @@
 use Rattle.std.specs.Prelude.{◌≡◌, ◌⊎◌, ℕ, false, List, [], ◌∷◌, ◌++◌, length, Option, Some}
 use Rattle.usb_base.specs.Writes.{Begins}
 use Rattle.session_tape.specs.Lines.{first_comment}
-use Rattle.gate_history.specs.step.Events.{Event as GateEvent}
+use Rattle.gate_history.specs.step.Events.{PastEvent}
 use Rattle.gate_history.specs.step.History.{history}
 use Rattle.gate_history.specs.write.All.{counts_of}
 use Rattle.bridge_run.specs.declared.course.serve_end.ServeEnd.{ServeEnd}
-use Rattle.bridge_run.specs.events.Events.{LinkEvent}
+use Rattle.bridge_run.specs.events.Events.{PastLinkEvent}
 use Rattle.bridge_run.specs.course.Course.{Course, Next, Making}
 use Rattle.bridge_run.specs.course.Calls.{Goes, Stops, call, course_of}
 use Rattle.bridge_run.specs.course.Outside.{Outside}
@@ -30,7 +30,7 @@ use Rattle.tape_laws.specs.Ups.{to_host}
 use Rattle.tape_laws.specs.Recordings.{recorded, served, all_replayed}
 
 -- what `replay` reads of a tape, and what it prints for it
-abbrev pub read_of : ServeSettings → List ℕ → Reading (List GateEvent)
+abbrev pub read_of : ServeSettings → List ℕ → Reading (List PastEvent)
 read_of asked tape = read_tape (over_events (replay asked.first_id)) tape
 
 abbrev pub text_of : ServeSettings → List ℕ → List ℕ
@@ -59,32 +59,32 @@ pub record WroteFront (known : Option (List ℕ)) (all : List ℕ) : Type 0 wher
 -- ---- a run that was cut short
 
 -- memory may have run out in the latest event, and the comments of its refusals are missing
-pub record LacksComments (asked : ServeSettings) (e : LinkEvent) (events : List LinkEvent) (lines : List ℕ) : Type 0 where
+pub record LacksComments (asked : ServeSettings) (e : PastLinkEvent) (events : List PastLinkEvent) (lines : List ℕ) : Type 0 where
   pub lines-are : lines ≡ recorded (served asked) events ++ event_line e
   pub client : List ℕ
   pub host : List ℕ
   pub ran_out : RanOutWithin (gate_runs_out asked.first_id) (served asked) events e client host
 
 -- the lines of these events
-abbrev pub AreLines : ServeSettings → List LinkEvent → List ℕ → Type 0
+abbrev pub AreLines : ServeSettings → List PastLinkEvent → List ℕ → Type 0
 AreLines asked [] lines = lines ≡ []
 AreLines asked (e ∷ events) lines = (lines ≡ recorded (served asked) (e ∷ events)) ⊎ LacksComments asked e events lines
 
 -- more events were taken, and of the lines of the next one this is a front, and not the whole
-pub record IsCutIn (asked : ServeSettings) (events taken : List LinkEvent) (more : List ℕ) : Type 0 where
-  pub event : LinkEvent
-  pub after : List LinkEvent
+pub record IsCutIn (asked : ServeSettings) (events taken : List PastLinkEvent) (more : List ℕ) : Type 0 where
+  pub event : PastLinkEvent
+  pub after : List PastLinkEvent
   pub taken-are : taken ≡ after ++ (event ∷ events)
   pub missing : ℕ
   pub lost : List ℕ
   pub lines-are : lines_of event (gained (served asked).refusals events event) ≡ more ++ (missing ∷ lost)
 
 -- all that were taken have their lines, or these alone, and a front of the next one's
-abbrev pub EndsTape : ServeSettings → List LinkEvent → List LinkEvent → List ℕ → Type 0
+abbrev pub EndsTape : ServeSettings → List PastLinkEvent → List PastLinkEvent → List ℕ → Type 0
 EndsTape asked events taken more = ((taken ≡ events) × (more ≡ [])) ⊎ IsCutIn asked events taken more
 
 -- what `replay` prints for what stands behind lines that it has read
-abbrev pub rest_text : ServeSettings → Progress (List GateEvent) → List ℕ → List ℕ
+abbrev pub rest_text : ServeSettings → Progress (List PastEvent) → List ℕ → List ℕ
 rest_text asked behind more =
     let command = over_events (replay asked.first_id) in let x = read_lines command behind (tape_lines more) in x.text ++ last_text command x
 
@@ -96,13 +96,13 @@ pub record PlaysInPart (asked : ServeSettings) (c : Course) (new : Outside) (hel
   pub next : Next
   pub course : Course
   pub reaches : Reaches (setting_of asked) (Goes Making c) (Goes next course)
-  pub events : List LinkEvent
+  pub events : List PastLinkEvent
   pub lines : List ℕ
   pub more : List ℕ
   pub are_lines : AreLines asked events lines
   pub held-is : held ≡ first_comment asked.first_id ++ lines ++ more
   pub ends : EndsTape asked events (course_of (call (setting_of asked) next course)).events more
-  pub behind : Progress (List GateEvent)
+  pub behind : Progress (List PastEvent)
   pub kept-is : behind.kept ≡ gate_events events
   pub bytes-are : behind.bytes ≡ length (first_comment asked.first_id ++ lines)
   pub prints : text_of asked held ≡ opening_text asked.first_id ++ all_replayed asked events ++ rest_text asked behind more

@@ -17,7 +17,7 @@ use Rattle.redir_data.specs.declared.packet.RedirPacket.{RedirPacket}
 use Rattle.packet_show.specs.Client.{client_line}
 use Rattle.packet_show.specs.Urb.{urb_line}
 use Rattle.packet_show.specs.Redir.{redir_line}
-use Rattle.gate_history.specs.step.Events.{Event, client_bytes, host_bytes}
+use Rattle.gate_history.specs.step.Events.{PastEvent, client_bytes, host_bytes}
 use Rattle.redir_data.specs.Streams.{stream_start}
 use Rattle.gate_history.specs.step.Streams.{client_reader, client_start, host_reader}
 use Rattle.usbgate_tapes.specs.tape.EventCommand.{EventCommand}
@@ -29,7 +29,7 @@ pub record Shown (S P : Type 0) : Type 0 where
   pub reader : Reader S P Reason
   pub start : Position S
   -- the bytes of the side's present stream
-  pub bytes : List Event → List ℕ
+  pub bytes : List PastEvent → List ℕ
   -- the line of a packet at a place
   pub line : ℕ → P → List ℕ
 
@@ -45,20 +45,20 @@ wrong_line side (Some w) = refusal_line (record { side = side; place = capped w.
 abbrev pub split_text : {S P : Type 0} → Shown S P → Splitting S P Reason → List ℕ
 split_text shown x = packet_lines shown x.packets ++ wrong_line shown.side x.wrong
 
-abbrev pub stream_split : {S P : Type 0} → Shown S P → List Event → Splitting S P Reason
+abbrev pub stream_split : {S P : Type 0} → Shown S P → List PastEvent → Splitting S P Reason
 stream_split shown events = split shown.reader shown.start (shown.bytes events)
 
-abbrev pub stream_text : {S P : Type 0} → Shown S P → List Event → List ℕ
+abbrev pub stream_text : {S P : Type 0} → Shown S P → List PastEvent → List ℕ
 stream_text shown events = split_text shown (stream_split shown events)
 
 -- ---- events
 
 -- the side's present stream has met a wrong place
-abbrev pub is_wrong : {S P : Type 0} → Shown S P → List Event → Bool
+abbrev pub is_wrong : {S P : Type 0} → Shown S P → List PastEvent → Bool
 is_wrong shown events = is_some (stream_split shown events).wrong
 
 -- that one, or one before it
-abbrev pub was_wrong : {S P : Type 0} → Shown S P → List Event → Bool
+abbrev pub was_wrong : {S P : Type 0} → Shown S P → List PastEvent → Bool
 was_wrong shown [] = false
 was_wrong shown (e ∷ events) = was_wrong shown events || is_wrong shown (e ∷ events)
 

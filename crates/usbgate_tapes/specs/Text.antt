@@ -7,7 +7,7 @@ use Rattle.usb_base.specs.Refusal.{refusal_line}
 use Rattle.gate_history.specs.declared.note.Note.{Note}
 use Rattle.gate_history.specs.declared.note.Note.TheVariants as note
 use Rattle.gate_history.specs.declared.note.Counts.{Counts}
-use Rattle.gate_history.specs.step.Events.{Event}
+use Rattle.gate_history.specs.step.Events.{PastEvent}
 use Rattle.gate_history.specs.step.History.{history}
 use Rattle.gate_history.specs.write.Notes.{notes_of}
 use Rattle.gate_history.specs.write.All.{all_of}
@@ -32,7 +32,7 @@ note_line _ = []
 abbrev pub sent_text : List ℕ → List ℕ → List Note → List ℕ
 sent_text client host notes = bytes_line (letter (codes "C")) client ++ bytes_line (letter (codes "H")) host ++ flat_map note_line notes
 
-abbrev pub event_text : ℕ → List Event → Event → List ℕ
+abbrev pub event_text : ℕ → List PastEvent → PastEvent → List ℕ
 event_text first events e =
     sent_text (added (λ es. out_client first (history first es)) events e) (added (λ es. out_host first (history first es)) events e) (added (λ es. all_of notes_of first (history first es)) events e)
 

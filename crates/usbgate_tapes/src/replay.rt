@@ -2,7 +2,7 @@
 
 ghost use Rattle.std.specs.Prelude.{◌≡◌, ◌++◌, ◌≤◌, [], ℕ, List, IfOk, OnOk};
 ghost use Rattle.std.specs.List.{list_any};
-ghost use Rattle.gate_history.specs.step.Events.{Event as PastEvent, event_of};
+ghost use Rattle.gate_history.specs.step.Events.{PastEvent, event_of};
 ghost use Rattle.gate_history.specs.step.Refusals.{is_refusal};
 ghost use Rattle.usbgate_tapes.specs.Text.{opening_text, sent_text};
 ghost use Rattle.usbgate_tapes.specs.Replay.{replay};

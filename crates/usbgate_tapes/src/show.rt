@@ -1,7 +1,7 @@
 //! The command `show`: the packets of one side's stream as lines of text.
 
 ghost use Rattle.std.specs.Prelude.{◌≡◌, ◌++◌, ◌∷◌, [], ℕ, List, OnOk};
-ghost use Rattle.gate_history.specs.step.Events.{Event as PastEvent};
+ghost use Rattle.gate_history.specs.step.Events.{PastEvent};
 ghost use Rattle.usbgate_tapes.specs.inner.show.Show.{shown_by, HasShown, IsShow, ShowsEvent, ShowsPackets};
 
 pub mod format;

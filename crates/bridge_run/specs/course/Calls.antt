@@ -8,7 +8,7 @@ use Rattle.gate_outside.specs.declared.turn.Turn.{Turn}
 use Rattle.gate_outside.specs.declared.turn.Polled.{Polled}
 use Rattle.gate_outside.specs.declared.turn.Polled.TheVariants.{Took, NotYet, Ended, Failed}
 use Rattle.gate_outside.specs.Turns.{pending, answer, given, after}
-use Rattle.bridge_run.specs.events.Events.{LinkEvent, ClientComes, ClientQuiet, SidePiece, SideEnd}
+use Rattle.bridge_run.specs.events.Events.{PastLinkEvent, ClientComes, ClientQuiet, SidePiece, SideEnd}
 use Rattle.bridge_run.specs.written.Recorded.{lines_of, sends_any, is_last, is_full, written_if, waiting_if}
 use Rattle.bridge_run.specs.declared.course.polling.TheConstants.{POLL_LIMIT}
 use Rattle.bridge_run.specs.declared.course.serve_end.ServeEnd.{ServeEnd}
@@ -24,21 +24,21 @@ pub data Outcome : Type 0 where
 -- ---- an event
 
 -- its lines don't wait where it sends anything, and where no more may come
-abbrev pub sends_now : Prescribed → LinkEvent → Course → Bool
+abbrev pub sends_now : Prescribed → PastLinkEvent → Course → Bool
 sends_now p e c = sends_any (gained p.to_client c.events e) (gained p.to_host c.events e) (gained p.refusals c.events e) (p.lets_go (e ∷ c.events)) || is_last c
 
 -- the lines that wait, and behind them its own
-abbrev pub lines_with : Prescribed → LinkEvent → Course → List ℕ
+abbrev pub lines_with : Prescribed → PastLinkEvent → Course → List ℕ
 lines_with p e c = c.waiting ++ lines_of e (gained p.refusals c.events e)
 
 -- they are written to the tape
-abbrev pub is_due : Prescribed → LinkEvent → Course → Bool
+abbrev pub is_due : Prescribed → PastLinkEvent → Course → Bool
 is_due p e c = sends_now p e c || is_full (lines_with p e c)
 
 -- its lines are put behind those that wait, and all of them are written to the tape where they are due. Then what it
 -- sends is written to each side whose link is up. Then a side that it refuses has its link closed, and a client that it
 -- lets go. What that client had still to send is lost.
-abbrev pub put : Prescribed → LinkEvent → Course → Course
+abbrev pub put : Prescribed → PastLinkEvent → Course → Course
 put p e c = let refused = gained p.refusals c.events e in record c {
   events = e ∷ c.events;
   client_up = c.client_up && not (drops p c.events e);
@@ -59,11 +59,11 @@ settle s next c =
     else Goes next c
 
 -- a client that was refused, or let go, has its end next
-abbrev pub ends_next : LinkEvent → Bool → Bool
+abbrev pub ends_next : PastLinkEvent → Bool → Bool
 ends_next (SideEnd Client) dropped = false
 ends_next e dropped = dropped
 
-abbrev pub take_event : Setting → LinkEvent → Next → Course → Outcome
+abbrev pub take_event : Setting → PastLinkEvent → Next → Course → Outcome
 take_event s e next c =
     if ends_next e (drops s.served c.events e) then Goes (Takes (SideEnd Client) next) (put s.served e c)
     else settle s next (put s.served e c)

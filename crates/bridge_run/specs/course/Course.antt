@@ -1,7 +1,7 @@
 -- The course of serving: what has happened, and what is still to come.
 use Rattle.std.specs.Prelude.{ℕ, Bool, List}
 use Rattle.gate_outside.specs.declared.turn.Turn.{Turn}
-use Rattle.bridge_run.specs.events.Events.{LinkEvent}
+use Rattle.bridge_run.specs.events.Events.{PastLinkEvent}
 use Rattle.bridge_run.specs.events.Prescribed.{Prescribed}
 
 -- what is served, and how long
@@ -12,7 +12,7 @@ pub record Setting : Type 0 where
 
 pub record Course : Type 0 where
   -- the events that were taken, the latest first
-  pub events : List LinkEvent
+  pub events : List PastLinkEvent
   pub client_up : Bool
   pub host_up : Bool
   -- the turns still to come of the client that is there, of each later one, and of the host
@@ -44,4 +44,4 @@ pub data Next : Type 0 where
   -- the end of a round
   AtEnd : Next
   -- an event is taken first
-  Takes : LinkEvent → Next → Next
+  Takes : PastLinkEvent → Next → Next

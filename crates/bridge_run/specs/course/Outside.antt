@@ -10,7 +10,7 @@ use Rattle.gate_outside.specs.Link.{Link, Door}
 use Rattle.session_tape.specs.Tapes.{Counts, OneFault}
 use Rattle.bridge_run.specs.declared.course.serve_end.ServeEnd.{ServeEnd}
 use Rattle.bridge_run.specs.declared.course.serve_end.ServeEnd.TheVariants.{Ended, LinkFault, WriteFault, Idle}
-use Rattle.bridge_run.specs.events.Events.{LinkEvent}
+use Rattle.bridge_run.specs.events.Events.{PastLinkEvent}
 use Rattle.bridge_run.specs.written.Recorded.{event_line}
 use Rattle.bridge_run.specs.course.Course.{Course}
 
@@ -143,8 +143,8 @@ pub record IsRecordedInPart (w : Outside) (before behind : Course) (held : List 
 -- Memory may have run out in the event that the call takes, by when it had sent some bytes, so many to each side. The
 -- lines that waited are there, and that of the event, without those of its refusals. Of what it had sent a front is
 -- written to each side whose link is up.
-pub record IsRecordedUntold (ran_out : List LinkEvent → LinkEvent → List ℕ → List ℕ → Type 0) (w : Outside) (before behind : Course) (held : List ℕ) : Type 0 where
-  pub event : LinkEvent
+pub record IsRecordedUntold (ran_out : List PastLinkEvent → PastLinkEvent → List ℕ → List ℕ → Type 0) (w : Outside) (before behind : Course) (held : List ℕ) : Type 0 where
+  pub event : PastLinkEvent
   pub takes : behind.events ≡ event ∷ before.events
   pub sent_client : List ℕ
   pub sent_host : List ℕ
@@ -157,12 +157,12 @@ pub record IsRecordedUntold (ran_out : List LinkEvent → LinkEvent → List ℕ
   pub to_host : IsBetween before.to_host w.host.written (if before.host_up then before.to_host ++ sent_host else before.to_host)
 
 -- what a tape has of a call that was cut: all its lines, or fewer, and then none of its refusals is told
-abbrev pub HasLines : (List LinkEvent → LinkEvent → List ℕ → List ℕ → Type 0) → Outside → Written → Course → Course → List ℕ → Type 0
+abbrev pub HasLines : (List PastLinkEvent → PastLinkEvent → List ℕ → List ℕ → Type 0) → Outside → Written → Course → Course → List ℕ → Type 0
 HasLines ran_out w out before behind held = (held ≡ behind.recorded) ⊎ (IsTold out before.told × (IsRecordedInPart w before behind held ⊎ IsRecordedUntold ran_out w before behind held))
 
 -- a call that the first course makes and that leads to the second was cut: what it writes is written in part, and not
 -- before the line of its event is recorded; by where memory may run out within an event
-pub record Cut (ran_out : List LinkEvent → LinkEvent → List ℕ → List ℕ → Type 0) (w : Outside) (out : Written) (before behind : Course) : Type 0 where
+pub record Cut (ran_out : List PastLinkEvent → PastLinkEvent → List ℕ → List ℕ → Type 0) (w : Outside) (out : Written) (before behind : Course) : Type 0 where
   pub client : IsOneOf before.client w.client.turns behind.client
   pub host : IsOneOf before.host w.host.turns behind.host
   pub clients : IsOneOf before.clients w.door.to_come behind.clients

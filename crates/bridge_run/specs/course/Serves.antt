@@ -3,7 +3,7 @@
 use Rattle.std.specs.Prelude.{◌≡◌, ℕ, false, List, []}
 use Rattle.bridge_run.specs.declared.course.serve_end.ServeEnd.{ServeEnd}
 use Rattle.bridge_run.specs.declared.course.serve_end.ServeEnd.TheVariants.{LinkFault, WriteFault, Memory}
-use Rattle.bridge_run.specs.events.Events.{LinkEvent}
+use Rattle.bridge_run.specs.events.Events.{PastLinkEvent}
 use Rattle.bridge_run.specs.events.Prescribed.{Prescribed}
 use Rattle.bridge_run.specs.events.RanOut.{RanOutWithin, Never}
 use Rattle.bridge_run.specs.course.Course.{Setting, Course, Next}
@@ -23,18 +23,18 @@ pub record EndsSo (s : Setting) (from : Outcome) (e : ServeEnd) (w : Outside) (o
 
 -- memory may have run out within the event where a link failed, too, as what was sent by then was written, but not
 -- where the sink or the tape failed
-abbrev pub MayRunOut : ServeEnd → (List LinkEvent → LinkEvent → List ℕ → List ℕ → Type 0) → Prescribed → List LinkEvent → LinkEvent → List ℕ → List ℕ → Type 0
+abbrev pub MayRunOut : ServeEnd → (List PastLinkEvent → PastLinkEvent → List ℕ → List ℕ → Type 0) → Prescribed → List PastLinkEvent → PastLinkEvent → List ℕ → List ℕ → Type 0
 MayRunOut WriteFault runs_out p = Never
 MayRunOut e runs_out p = RanOutWithin runs_out p
 
 -- they have come to a call that was cut
-pub record CutShort (e : ServeEnd) (runs_out : List LinkEvent → LinkEvent → List ℕ → List ℕ → Type 0) (s : Setting) (from : Outcome) (w : Outside) (out : Written) : Type 0 where
+pub record CutShort (e : ServeEnd) (runs_out : List PastLinkEvent → PastLinkEvent → List ℕ → List ℕ → Type 0) (s : Setting) (from : Outcome) (w : Outside) (out : Written) : Type 0 where
   pub next : Next
   pub course : Course
   pub reaches : Reaches s from (Goes next course)
   pub cut : Cut (MayRunOut e runs_out s.served) w out course (course_of (call s next course))
 
-abbrev pub Leaves : ServeEnd → (List LinkEvent → LinkEvent → List ℕ → List ℕ → Type 0) → Setting → Outcome → Outside → Written → Type 0
+abbrev pub Leaves : ServeEnd → (List PastLinkEvent → PastLinkEvent → List ℕ → List ℕ → Type 0) → Setting → Outcome → Outside → Written → Type 0
 Leaves (LinkFault side) runs_out s from w out = CutShort (LinkFault side) runs_out s from w out
 Leaves WriteFault runs_out s from w out = CutShort WriteFault runs_out s from w out
 Leaves Memory runs_out s from w out = CutShort Memory runs_out s from w out

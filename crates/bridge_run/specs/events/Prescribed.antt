@@ -4,18 +4,18 @@ use Rattle.std.specs.List.{list_any}
 use Rattle.usb_base.specs.declared.side.Side.{Side}
 use Rattle.usb_base.specs.declared.side.Side.TheVariants.{Client, Host}
 use Rattle.usb_base.specs.declared.refusal.Refusal.{Refusal}
-use Rattle.bridge_run.specs.events.Events.{LinkEvent}
+use Rattle.bridge_run.specs.events.Events.{PastLinkEvent}
 
 -- all that these events, and the making before them, have sent and refused, the earliest first; and whether the client
 -- is let go behind the latest of them
 pub record Prescribed : Type 0 where
-  pub to_client : List LinkEvent → List ℕ
-  pub to_host : List LinkEvent → List ℕ
-  pub refusals : List LinkEvent → List Refusal
-  pub lets_go : List LinkEvent → Bool
+  pub to_client : List PastLinkEvent → List ℕ
+  pub to_host : List PastLinkEvent → List ℕ
+  pub refusals : List PastLinkEvent → List Refusal
+  pub lets_go : List PastLinkEvent → Bool
 
 -- what there is with an event, and without it isn't
-abbrev pub gained : {X : Type 0} → (List LinkEvent → List X) → List LinkEvent → LinkEvent → List X
+abbrev pub gained : {X : Type 0} → (List PastLinkEvent → List X) → List PastLinkEvent → PastLinkEvent → List X
 gained all events e = drop (length (all events)) (all (e ∷ events))
 
 abbrev pub is_of : Side → Side → Bool
@@ -28,7 +28,7 @@ abbrev pub refuses : Side → List Refusal → Bool
 refuses side refusals = list_any (λ r. is_of side r.side) refusals
 
 -- behind an event the client's link is closed: it is refused, or let go
-abbrev pub drops : Prescribed → List LinkEvent → LinkEvent → Bool
+abbrev pub drops : Prescribed → List PastLinkEvent → PastLinkEvent → Bool
 drops p events e = refuses Client (gained p.refusals events e) || p.lets_go (e ∷ events)
 
 abbrev pub first_of : List Refusal → Option Refusal

@@ -3,13 +3,13 @@ use Rattle.std.specs.Prelude.{◌≡◌, ℕ, Bool, false, List, Option, None}
 use Rattle.bridge_run.specs.declared.events.sent.Sent.{Sent}
 use Rattle.bridge_run.specs.declared.events.coming.Coming.{Coming}
 use Rattle.bridge_run.specs.declared.events.coming.Coming.TheVariants.{Event, Taken}
-use Rattle.bridge_run.specs.events.Events.{LinkEvent, SidePiece, event_of}
+use Rattle.bridge_run.specs.events.Events.{PastLinkEvent, SidePiece, event_of}
 use Rattle.bridge_run.specs.events.Prescribed.{Prescribed}
 use Rattle.bridge_run.specs.inner.Sends.{nothing}
 use Rattle.bridge_run.specs.inner.Taking.{IsTaken}
 
 -- the event, where these are the bytes that were taken
-abbrev pub event_with : List ℕ → Coming → LinkEvent
+abbrev pub event_with : List ℕ → Coming → PastLinkEvent
 event_with piece (Event event) = event_of event
 event_with piece (Taken side taken) = SidePiece side piece
 
@@ -20,6 +20,6 @@ CanRecord (Taken side taken) made contents = (made ≡ false) × (contents ≡ N
 
 -- what is served stands for these events, and the coming one is behind them: still to be taken, or taken, and what it
 -- sends is there
-abbrev pub StandsAt : {C : Type 0} → (C → List LinkEvent → Type 0) → (List LinkEvent → LinkEvent → List ℕ → List ℕ → Type 0) → Prescribed → List ℕ → Coming → C → Sent → List LinkEvent → Type 0
+abbrev pub StandsAt : {C : Type 0} → (C → List PastLinkEvent → Type 0) → (List PastLinkEvent → PastLinkEvent → List ℕ → List ℕ → Type 0) → Prescribed → List ℕ → Coming → C → Sent → List PastLinkEvent → Type 0
 StandsAt stands runs_out p piece (Event event) core sent = stands core
 StandsAt stands runs_out p piece (Taken side taken) core sent = λ events. IsTaken taken (stands core) runs_out p events (SidePiece side piece) nothing sent

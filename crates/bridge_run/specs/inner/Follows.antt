@@ -2,7 +2,7 @@
 use Rattle.std.specs.Prelude.{◌≡◌, ◌++◌, ◌∷◌, ℕ, Bool, true, false, List, Result, Ok, Err}
 use Rattle.std.specs.List.{flat_map}
 use Rattle.usb_base.specs.Refusal.{refusal_line}
-use Rattle.bridge_run.specs.events.Events.{LinkEvent}
+use Rattle.bridge_run.specs.events.Events.{PastLinkEvent}
 use Rattle.usb_base.specs.declared.side.Side.{Side}
 use Rattle.usb_base.specs.declared.side.Side.TheVariants.{Client, Host}
 use Rattle.bridge_run.specs.declared.course.serve_end.ServeEnd.{ServeEnd}
@@ -17,7 +17,7 @@ use Rattle.bridge_run.specs.events.RanOut.{Never}
 use Rattle.bridge_run.specs.course.Serves.{Reaches, MayRunOut, Leaves}
 
 -- what an event sends, and the lines that tell its refusals
-pub record Prepared (p : Prescribed) (events : List LinkEvent) (e : LinkEvent) (sent : Sent) (lines : List ℕ) : Type 0 where
+pub record Prepared (p : Prescribed) (events : List PastLinkEvent) (e : PastLinkEvent) (sent : Sent) (lines : List ℕ) : Type 0 where
   pub client : sent.to_client ≡ gained p.to_client events e
   pub host : sent.to_host ≡ gained p.to_host events e
   pub refusals : sent.refusals ≡ gained p.refusals events e
@@ -26,7 +26,7 @@ pub record Prepared (p : Prescribed) (events : List LinkEvent) (e : LinkEvent) (
   pub lines-is : lines ≡ flat_map refusal_line sent.refusals
 
 -- what is served stands for the course's events, the rest is kept, and the outside tells it
-pub record IsServing (stands : List LinkEvent → Type 0) (p : Prescribed) (k : Rounds) (w : Outside) (out : Written) (c : Course) : Type 0 where
+pub record IsServing (stands : List PastLinkEvent → Type 0) (p : Prescribed) (k : Rounds) (w : Outside) (out : Written) (c : Course) : Type 0 where
   pub stands_for : stands c.events
   pub tells : Tells w out c
   pub client_up : k.client_up ≡ c.client_up
@@ -51,7 +51,7 @@ IsCutEnd _ = ⊥
 
 -- ---- one event
 
-abbrev pub Puts : Result Bool ServeEnd → (List LinkEvent → Type 0) → (List LinkEvent → LinkEvent → List ℕ → List ℕ → Type 0) → Prescribed → LinkEvent → Rounds → Outside → Written → Course → Type 0
+abbrev pub Puts : Result Bool ServeEnd → (List PastLinkEvent → Type 0) → (List PastLinkEvent → PastLinkEvent → List ℕ → List ℕ → Type 0) → Prescribed → PastLinkEvent → Rounds → Outside → Written → Course → Type 0
 Puts (Ok dropped) stands runs_out p e k w out c = IsServing stands p k w out (put p e c) × (dropped ≡ drops p c.events e)
 Puts (Err end) stands runs_out p e k w out c = Cut (MayRunOut end runs_out p) w out c (put p e c)
 
@@ -60,12 +60,12 @@ Puts (Err end) stands runs_out p e k w out c = Cut (MayRunOut end runs_out p) w 
 abbrev pub setting : Prescribed → Rounds → Setting
 setting p k = record { served = p; idle = k.idle }
 
-pub record Comes (stands : List LinkEvent → Type 0) (s : Setting) (k : Rounds) (w : Outside) (out : Written) (from : Outcome) (next : Next) : Type 0 where
+pub record Comes (stands : List PastLinkEvent → Type 0) (s : Setting) (k : Rounds) (w : Outside) (out : Written) (from : Outcome) (next : Next) : Type 0 where
   pub course : Course
   pub reaches : Reaches s from (Goes next course)
   pub follows : IsServing stands s.served k w out course
 
-abbrev pub RunsOn : {T : Type 0} → Result T ServeEnd → (List LinkEvent → Type 0) → (List LinkEvent → LinkEvent → List ℕ → List ℕ → Type 0) → Setting → Rounds → Outside → Written → Outcome → Next → Type 0
+abbrev pub RunsOn : {T : Type 0} → Result T ServeEnd → (List PastLinkEvent → Type 0) → (List PastLinkEvent → PastLinkEvent → List ℕ → List ℕ → Type 0) → Setting → Rounds → Outside → Written → Outcome → Next → Type 0
 RunsOn (Ok _) stands runs_out s k w out from next = Comes stands s k w out from next
 RunsOn (Err e) stands runs_out s k w out from next = Leaves e runs_out s from w out
 

@@ -11,7 +11,7 @@ use Rattle.redir_host.specs.step.Stands.{HostStands}
 use Rattle.bridge_run.specs.declared.served.lent.Lent.{Lent}
 use Rattle.bridge_run.specs.declared.served.lent.Use.{Use}
 use Rattle.bridge_run.specs.declared.served.lent.Use.TheVariants.{Perform, Offer}
-use Rattle.bridge_run.specs.events.Events.{LinkEvent}
+use Rattle.bridge_run.specs.events.Events.{PastLinkEvent}
 use Rattle.bridge_run.specs.served.Lent.{acts_of, has_come}
 use Rattle.bridge_run.specs.served.LentStops.{ActsStop}
 
@@ -43,7 +43,7 @@ abbrev pub Halts : {S : Type 0} → Meaning S → S → List Act → List Act �
 Halts m s past acts refusals old_out new_out = StopsIn m s past acts old_out new_out ⊎ StopsBehind m s past acts refusals old_out new_out
 
 -- the core stands for the acts of these events, and what it has sent waits until the guest comes
-pub record IsLent {S : Type 0} (m : Meaning S) (s : S) (lent : Lent S) (events : List LinkEvent) : Type 0 where
+pub record IsLent {S : Type 0} (m : Meaning S) (s : S) (lent : Lent S) (events : List PastLinkEvent) : Type 0 where
   pub stands : HostStands m s lent.core (acts_of m s events)
   pub came : lent.has_come ≡ has_come events
   pub waiting : lent.waiting ≡ (if has_come events then [] else host_out m s (acts_of m s events))

@@ -5,7 +5,7 @@ use Rattle.usb_base.specs.declared.side.Side.{Side}
 use Rattle.usb_base.specs.declared.side.Side.TheVariants.{Client, Host}
 use Rattle.gate_outside.specs.Calls.{Call, Close, Called, went}
 use Rattle.gate_outside.specs.Link.{other}
-use Rattle.bridge_run.specs.events.Events.{LinkEvent, ClientQuiet, SideEnd}
+use Rattle.bridge_run.specs.events.Events.{PastLinkEvent, ClientQuiet, SideEnd}
 use Rattle.bridge_run.specs.declared.course.serve_end.ServeEnd.{ServeEnd}
 use Rattle.bridge_run.specs.declared.course.serve_end.ServeEnd.TheVariants.{LinkFault}
 use Rattle.bridge_run.specs.declared.course.rounds.Rounds.{Rounds}
@@ -19,7 +19,7 @@ use Rattle.bridge_run.specs.log.Log.{Terms, events_of, events_before, IsWritten,
 use Rattle.bridge_run.specs.inner.Keeping.{one_if, is_over as none_up}
 
 -- what is served stands for the events that came, and all is written that they send
-pub record IsAt {D : Type 0} (gives : D → Call → D → Type 0) (stands : List LinkEvent → Type 0) (tells : List ℕ → Type 0) (terms : Terms) (p : Prescribed) (asks : List Ask) (k : Rounds) (begun now : D) : Type 0 where
+pub record IsAt {D : Type 0} (gives : D → Call → D → Type 0) (stands : List PastLinkEvent → Type 0) (tells : List ℕ → Type 0) (terms : Terms) (p : Prescribed) (asks : List Ask) (k : Rounds) (begun now : D) : Type 0 where
   pub calls : List Call
   pub called : Called gives calls begun now
   pub settled : Settled terms p calls
@@ -35,17 +35,17 @@ pub record IsAt {D : Type 0} (gives : D → Call → D → Type 0) (stands : Lis
   pub refused : k.refused ≡ first_of (p.refusals (events_of calls))
 
 -- as an event is taken behind these the side's link is up
-abbrev pub up_at : Side → Terms → Prescribed → LinkEvent → List LinkEvent → Bool
+abbrev pub up_at : Side → Terms → Prescribed → PastLinkEvent → List PastLinkEvent → Bool
 up_at Client terms p e events = client_at e (client_behind p events)
 up_at Host terms p e events = host_at e (host_since (is_some terms.host) p events)
 
 -- the latest event is still to be taken
-pub record IsTaking {D : Type 0} (gives : D → Call → D → Type 0) (stands : List LinkEvent → Type 0) (tells : List ℕ → Type 0) (terms : Terms) (p : Prescribed) (asks : List Ask) (e : LinkEvent) (k : Rounds) (begun now : D) : Type 0 where
+pub record IsTaking {D : Type 0} (gives : D → Call → D → Type 0) (stands : List PastLinkEvent → Type 0) (tells : List ℕ → Type 0) (terms : Terms) (p : Prescribed) (asks : List Ask) (e : PastLinkEvent) (k : Rounds) (begun now : D) : Type 0 where
   pub calls : List Call
   pub called : Called gives calls begun now
   pub settled : Settled terms p calls
   pub asks-are : asks_of calls ≡ asks
-  pub events : List LinkEvent
+  pub events : List PastLinkEvent
   pub events-are : events_of calls ≡ e ∷ events
   pub just_came : JustCame calls
   pub stands_for : stands events
@@ -59,31 +59,31 @@ pub record IsTaking {D : Type 0} (gives : D → Call → D → Type 0) (stands :
   pub refused : k.refused ≡ first_of (p.refusals events)
 
 -- the latest event was taken
-pub record HasTaken {D : Type 0} (gives : D → Call → D → Type 0) (stands : List LinkEvent → Type 0) (tells : List ℕ → Type 0) (terms : Terms) (p : Prescribed) (asks : List Ask) (k : Rounds) (begun now : D) : Type 0 where
+pub record HasTaken {D : Type 0} (gives : D → Call → D → Type 0) (stands : List PastLinkEvent → Type 0) (tells : List ℕ → Type 0) (terms : Terms) (p : Prescribed) (asks : List Ask) (k : Rounds) (begun now : D) : Type 0 where
   pub at : IsAt gives stands tells terms p asks k begun now
   pub just_came : JustCame at.calls
   pub over : is_over terms p (events_of at.calls) ≡ none_up k
 
 -- the end of a client is still to be taken, or nothing is
-abbrev pub IsBehind : {D : Type 0} → Bool → (D → Call → D → Type 0) → (List LinkEvent → Type 0) → (List ℕ → Type 0) → Terms → Prescribed → List Ask → Rounds → D → D → Type 0
+abbrev pub IsBehind : {D : Type 0} → Bool → (D → Call → D → Type 0) → (List PastLinkEvent → Type 0) → (List ℕ → Type 0) → Terms → Prescribed → List Ask → Rounds → D → D → Type 0
 IsBehind true gives stands tells terms p asks k begun now = IsTaking gives stands tells terms p asks (SideEnd Client) k begun now
 IsBehind false gives stands tells terms p asks k begun now = HasTaken gives stands tells terms p asks k begun now
 
-abbrev pub PutLogs : {D : Type 0} → Result Bool ServeEnd → (D → Call → D → Type 0) → (List LinkEvent → Type 0) → (List LinkEvent → LinkEvent → List ℕ → List ℕ → Type 0) → (List ℕ → Type 0) → Terms → Prescribed → List Ask → LinkEvent → Rounds → D → D → Type 0
+abbrev pub PutLogs : {D : Type 0} → Result Bool ServeEnd → (D → Call → D → Type 0) → (List PastLinkEvent → Type 0) → (List PastLinkEvent → PastLinkEvent → List ℕ → List ℕ → Type 0) → (List ℕ → Type 0) → Terms → Prescribed → List Ask → PastLinkEvent → Rounds → D → D → Type 0
 PutLogs (Ok dropped) gives stands runs_out tells terms p asks e k begun now = IsBehind (ends_next e dropped) gives stands tells terms p asks k begun now
 PutLogs (Err x) gives stands runs_out tells terms p asks e k begun now = Logged x gives runs_out tells terms p begun now
 
 -- nothing is still to be taken, and more may come
-pub record IsOn {D : Type 0} (gives : D → Call → D → Type 0) (stands : List LinkEvent → Type 0) (tells : List ℕ → Type 0) (terms : Terms) (p : Prescribed) (asks : List Ask) (k : Rounds) (begun now : D) : Type 0 where
+pub record IsOn {D : Type 0} (gives : D → Call → D → Type 0) (stands : List PastLinkEvent → Type 0) (tells : List ℕ → Type 0) (terms : Terms) (p : Prescribed) (asks : List Ask) (k : Rounds) (begun now : D) : Type 0 where
   pub at : IsAt gives stands tells terms p asks k begun now
   pub goes_on : GoesOn terms p at.calls
 
-abbrev pub HappenLogs : {T D : Type 0} → Result T ServeEnd → (D → Call → D → Type 0) → (List LinkEvent → Type 0) → (List LinkEvent → LinkEvent → List ℕ → List ℕ → Type 0) → (List ℕ → Type 0) → Terms → Prescribed → List Ask → Rounds → D → D → Type 0
+abbrev pub HappenLogs : {T D : Type 0} → Result T ServeEnd → (D → Call → D → Type 0) → (List PastLinkEvent → Type 0) → (List PastLinkEvent → PastLinkEvent → List ℕ → List ℕ → Type 0) → (List ℕ → Type 0) → Terms → Prescribed → List Ask → Rounds → D → D → Type 0
 HappenLogs (Ok _) gives stands runs_out tells terms p asks k begun now = IsOn gives stands tells terms p asks k begun now
 HappenLogs (Err e) gives stands runs_out tells terms p asks k begun now = Logged e gives runs_out tells terms p begun now
 
 -- a side had nothing
-abbrev pub IsResting : {D : Type 0} → Side → (D → Call → D → Type 0) → (List LinkEvent → Type 0) → (List ℕ → Type 0) → Terms → Prescribed → List Ask → Rounds → D → D → Type 0
+abbrev pub IsResting : {D : Type 0} → Side → (D → Call → D → Type 0) → (List PastLinkEvent → Type 0) → (List ℕ → Type 0) → Terms → Prescribed → List Ask → Rounds → D → D → Type 0
 IsResting Client gives stands tells terms p asks k begun now = IsTaking gives stands tells terms p asks ClientQuiet k begun now
 IsResting Host gives stands tells terms p asks k begun now = IsOn gives stands tells terms p asks k begun now
 
@@ -118,14 +118,14 @@ HasTurn AtClient k asks = DoorTurn k.client_up k asks
 HasTurn AtHost k asks = is_behind_host asks ≡ false
 HasTurn next k asks = k.host_up ≡ true → is_behind_host asks ≡ true
 
-pub record IsAsking {D : Type 0} (next : Next) (gives : D → Call → D → Type 0) (stands : List LinkEvent → Type 0) (tells : List ℕ → Type 0) (terms : Terms) (p : Prescribed) (k : Rounds) (begun now : D) : Type 0 where
+pub record IsAsking {D : Type 0} (next : Next) (gives : D → Call → D → Type 0) (stands : List PastLinkEvent → Type 0) (tells : List ℕ → Type 0) (terms : Terms) (p : Prescribed) (k : Rounds) (begun now : D) : Type 0 where
   pub asks : List Ask
   pub on : IsOn gives stands tells terms p asks k begun now
   pub patient : IsPatient terms k
   pub waited : Waits next terms k asks
   pub turn : HasTurn next k asks
 
-abbrev pub Logs : {T D : Type 0} → Result T ServeEnd → Next → (D → Call → D → Type 0) → (List LinkEvent → Type 0) → (List LinkEvent → LinkEvent → List ℕ → List ℕ → Type 0) → (List ℕ → Type 0) → Terms → Prescribed → Rounds → D → D → Type 0
+abbrev pub Logs : {T D : Type 0} → Result T ServeEnd → Next → (D → Call → D → Type 0) → (List PastLinkEvent → Type 0) → (List PastLinkEvent → PastLinkEvent → List ℕ → List ℕ → Type 0) → (List ℕ → Type 0) → Terms → Prescribed → Rounds → D → D → Type 0
 Logs (Ok _) next gives stands runs_out tells terms p k begun now = IsAsking next gives stands tells terms p k begun now
 Logs (Err e) next gives stands runs_out tells terms p k begun now = Logged e gives runs_out tells terms p begun now
 

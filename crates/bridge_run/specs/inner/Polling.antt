@@ -7,7 +7,7 @@ use Rattle.gate_outside.specs.Calls.{Call, Poll}
 use Rattle.gate_outside.specs.Doors.{TookWithin, Polls}
 use Rattle.gate_outside.specs.Turns.{taken as count_of}
 use Rattle.bridge_run.specs.declared.events.sent.Sent.{Sent}
-use Rattle.bridge_run.specs.events.Events.{LinkEvent}
+use Rattle.bridge_run.specs.events.Events.{PastLinkEvent}
 use Rattle.bridge_run.specs.events.Prescribed.{Prescribed}
 use Rattle.bridge_run.specs.inner.Taking.{TakesCome}
 
@@ -22,7 +22,7 @@ pub record IsPolled {D : Type 0} (link : D → Side → Link) (door : D → Door
 
 -- a poll's bytes, which are as many as it says of this room, stand in the buffer, or what is served has taken them, and
 -- then nothing is recorded
-pub record Brings {F C E : Type 0} (stands : F → C → List LinkEvent → Type 0) (runs_out : F → List LinkEvent → LinkEvent → List ℕ → List ℕ → Type 0) (sends : F → Prescribed) (side : Side) (taped : Bool) (polled : Polled) (taken : Option (Result (Unit {0}) E)) (room buf : List ℕ) (old new : C) (old_sent new_sent : Sent) : Type 0 where
+pub record Brings {F C E : Type 0} (stands : F → C → List PastLinkEvent → Type 0) (runs_out : F → List PastLinkEvent → PastLinkEvent → List ℕ → List ℕ → Type 0) (sends : F → Prescribed) (side : Side) (taped : Bool) (polled : Polled) (taken : Option (Result (Unit {0}) E)) (room buf : List ℕ) (old new : C) (old_sent new_sent : Sent) : Type 0 where
   pub put : taken ≡ None → buf ≡ room
   pub still : taken ≡ None → new ≡ old
   pub untaped : IfSome taken (λ t. taped ≡ false)

@@ -1,7 +1,7 @@
 -- What an event has sent.
 use Rattle.std.specs.Prelude.{◌≡◌, ℕ, ◌++◌, ◌∷◌, ◌||◌, List, [], false}
 use Rattle.usb_base.specs.Writes.{Begins}
-use Rattle.bridge_run.specs.events.Events.{LinkEvent}
+use Rattle.bridge_run.specs.events.Events.{PastLinkEvent}
 use Rattle.bridge_run.specs.declared.events.sent.Sent.{Sent}
 use Rattle.bridge_run.specs.events.Prescribed.{Prescribed, gained}
 use Rattle.bridge_run.specs.events.RanOut.{RanOutWithin}
@@ -10,7 +10,7 @@ use Rattle.bridge_run.specs.events.RanOut.{RanOutWithin}
 abbrev pub nothing : Sent
 nothing = record { to_client = []; to_host = []; refusals = []; lets_go = false }
 
-pub record SendsAll (p : Prescribed) (events : List LinkEvent) (e : LinkEvent) (old new : Sent) : Type 0 where
+pub record SendsAll (p : Prescribed) (events : List PastLinkEvent) (e : PastLinkEvent) (old new : Sent) : Type 0 where
   pub client : new.to_client ≡ old.to_client ++ gained p.to_client events e
   pub host : new.to_host ≡ old.to_host ++ gained p.to_host events e
   pub refusals : new.refusals ≡ old.refusals ++ gained p.refusals events e
@@ -21,12 +21,12 @@ pub record SendsAll (p : Prescribed) (events : List LinkEvent) (e : LinkEvent) (
 -- ---- memory ran out within it
 
 -- of what the event sends to each side this is a front, and here memory ran out
-pub record IsPart (runs_out : List LinkEvent → LinkEvent → List ℕ → List ℕ → Type 0) (p : Prescribed) (events : List LinkEvent) (e : LinkEvent) (client host : List ℕ) : Type 0 where
+pub record IsPart (runs_out : List PastLinkEvent → PastLinkEvent → List ℕ → List ℕ → Type 0) (p : Prescribed) (events : List PastLinkEvent) (e : PastLinkEvent) (client host : List ℕ) : Type 0 where
   pub to_client : Begins client (gained p.to_client events e)
   pub to_host : Begins host (gained p.to_host events e)
   pub ran_out : RanOutWithin runs_out p events e client host
 
-pub record SendsPart (runs_out : List LinkEvent → LinkEvent → List ℕ → List ℕ → Type 0) (p : Prescribed) (events : List LinkEvent) (e : LinkEvent) (old new : Sent) : Type 0 where
+pub record SendsPart (runs_out : List PastLinkEvent → PastLinkEvent → List ℕ → List ℕ → Type 0) (p : Prescribed) (events : List PastLinkEvent) (e : PastLinkEvent) (old new : Sent) : Type 0 where
   pub client : List ℕ
   pub host : List ℕ
   pub to_client : new.to_client ≡ old.to_client ++ client

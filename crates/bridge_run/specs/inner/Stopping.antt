@@ -4,7 +4,7 @@ use Rattle.usb_base.specs.Writes.{Begins}
 use Rattle.usb_base.specs.declared.side.Side.{Side}
 use Rattle.usb_base.specs.declared.side.Side.TheVariants.{Client, Host}
 use Rattle.gate_outside.specs.Calls.{Call, Called, went}
-use Rattle.bridge_run.specs.events.Events.{LinkEvent}
+use Rattle.bridge_run.specs.events.Events.{PastLinkEvent}
 use Rattle.bridge_run.specs.declared.course.serve_end.ServeEnd.{ServeEnd}
 use Rattle.bridge_run.specs.declared.course.serve_end.ServeEnd.TheVariants.{LinkFault, WriteFault, Memory}
 use Rattle.bridge_run.specs.declared.course.rounds.Rounds.{Rounds}
@@ -21,7 +21,7 @@ pub record AreUp (k : Rounds) (c : Course) : Type 0 where
   pub host : k.host_up ≡ c.host_up
 
 -- the latest event is still to be sent for
-pub record IsStopping {D : Type 0} (gives : D → Call → D → Type 0) (terms : Terms) (p : Prescribed) (e : LinkEvent) (events : List LinkEvent) (k : Rounds) (begun now : D) : Type 0 where
+pub record IsStopping {D : Type 0} (gives : D → Call → D → Type 0) (terms : Terms) (p : Prescribed) (e : PastLinkEvent) (events : List PastLinkEvent) (k : Rounds) (begun now : D) : Type 0 where
   pub calls : List Call
   pub called : Called gives calls begun now
   pub settled : Settled terms p calls
@@ -33,7 +33,7 @@ pub record IsStopping {D : Type 0} (gives : D → Call → D → Type 0) (terms 
   pub host_up : k.host_up ≡ host_at e (host_since (is_some terms.host) p events)
 
 -- what it had sent is written
-pub record HasStopped {D : Type 0} (gives : D → Call → D → Type 0) (runs_out : List LinkEvent → LinkEvent → List ℕ → List ℕ → Type 0) (terms : Terms) (p : Prescribed) (e : LinkEvent) (events : List LinkEvent) (begun now : D) : Type 0 where
+pub record HasStopped {D : Type 0} (gives : D → Call → D → Type 0) (runs_out : List PastLinkEvent → PastLinkEvent → List ℕ → List ℕ → Type 0) (terms : Terms) (p : Prescribed) (e : PastLinkEvent) (events : List PastLinkEvent) (begun now : D) : Type 0 where
   pub calls : List Call
   pub called : Called gives calls begun now
   pub settled : Settled terms p calls
@@ -46,7 +46,7 @@ pub record HasStopped {D : Type 0} (gives : D → Call → D → Type 0) (runs_o
   pub host : went Host calls ≡ sent_to_host (is_some terms.host) p events ++ (if host_at e (host_since (is_some terms.host) p events) then to_host else [])
 
 -- a fault came first
-pub record StopFailed {D : Type 0} (gives : D → Call → D → Type 0) (terms : Terms) (p : Prescribed) (e : LinkEvent) (events : List LinkEvent) (begun now : D) : Type 0 where
+pub record StopFailed {D : Type 0} (gives : D → Call → D → Type 0) (terms : Terms) (p : Prescribed) (e : PastLinkEvent) (events : List PastLinkEvent) (begun now : D) : Type 0 where
   pub calls : List Call
   pub called : Called gives calls begun now
   pub settled : Settled terms p calls
@@ -56,11 +56,11 @@ pub record StopFailed {D : Type 0} (gives : D → Call → D → Type 0) (terms 
   pub told_before : Begins (told_of p (events_before calls)) (told_of p events)
 
 -- which was that of a link
-pub record StopCut {D : Type 0} (side : Side) (gives : D → Call → D → Type 0) (terms : Terms) (p : Prescribed) (e : LinkEvent) (events : List LinkEvent) (begun now : D) : Type 0 where
+pub record StopCut {D : Type 0} (side : Side) (gives : D → Call → D → Type 0) (terms : Terms) (p : Prescribed) (e : PastLinkEvent) (events : List PastLinkEvent) (begun now : D) : Type 0 where
   pub part : StopFailed gives terms p e events begun now
   pub failed : last_fault part.calls ≡ Some side
 
-abbrev pub StopLogs : {D : Type 0} → ServeEnd → (D → Call → D → Type 0) → (List LinkEvent → LinkEvent → List ℕ → List ℕ → Type 0) → Terms → Prescribed → LinkEvent → List LinkEvent → D → D → Type 0
+abbrev pub StopLogs : {D : Type 0} → ServeEnd → (D → Call → D → Type 0) → (List PastLinkEvent → PastLinkEvent → List ℕ → List ℕ → Type 0) → Terms → Prescribed → PastLinkEvent → List PastLinkEvent → D → D → Type 0
 StopLogs Memory gives runs_out terms p e events begun now = HasStopped gives runs_out terms p e events begun now
 StopLogs WriteFault gives runs_out terms p e events begun now = StopFailed gives terms p e events begun now
 StopLogs (LinkFault side) gives runs_out terms p e events begun now = StopCut side gives terms p e events begun now

@@ -3,7 +3,7 @@ use Rattle.std.specs.Prelude.{ℕ, Bool, true, if◌then◌else◌, List, [], �
 use Rattle.usb_base.specs.declared.side.Side.TheVariants.{Client}
 use Rattle.gate_outside.specs.declared.fault.Failed.{Failed as Fault}
 use Rattle.gate_outside.specs.Calls.{Call, Accept, Write, written_by}
-use Rattle.bridge_run.specs.events.Events.{LinkEvent, ClientComes}
+use Rattle.bridge_run.specs.events.Events.{PastLinkEvent, ClientComes}
 use Rattle.bridge_run.specs.events.Prescribed.{Prescribed, gained}
 use Rattle.bridge_run.specs.written.Ups.{client_at, client_behind}
 
@@ -49,11 +49,11 @@ got_by (call ∷ calls) = with_call call (got_by calls)
 
 -- ---- by the events
 
-abbrev pub with_event : LinkEvent → List ℕ → Shares → Shares
+abbrev pub with_event : PastLinkEvent → List ℕ → Shares → Shares
 with_event ClientComes bytes shares = with_next bytes shares
 with_event e bytes shares = with_more bytes shares
 
 -- what each event sends to the client that is there, where that one's link is up
-abbrev pub sent_to_each : Prescribed → List LinkEvent → Shares
+abbrev pub sent_to_each : Prescribed → List PastLinkEvent → Shares
 sent_to_each p [] = no_shares
 sent_to_each p (e ∷ events) = with_event e (if client_at e (client_behind p events) then gained p.to_client events e else []) (sent_to_each p events)

@@ -9,7 +9,7 @@ use Rattle.gate_outside.specs.declared.fault.Failed.{Failed as Fault}
 use Rattle.gate_outside.specs.declared.turn.Polled.TheVariants.{Took, NotYet, Ended}
 use Rattle.gate_outside.specs.Calls.{Call, Dial, Listen, Accept, Poll, Write, Close, Called, went}
 use Rattle.gate_outside.specs.Moved.{Moves}
-use Rattle.bridge_run.specs.events.Events.{LinkEvent, ClientComes, ClientQuiet, SidePiece, SideEnd}
+use Rattle.bridge_run.specs.events.Events.{PastLinkEvent, ClientComes, ClientQuiet, SidePiece, SideEnd}
 use Rattle.bridge_run.specs.declared.course.serve_end.ServeEnd.{ServeEnd}
 use Rattle.bridge_run.specs.declared.course.serve_end.ServeEnd.TheVariants as end
 use Rattle.bridge_run.specs.events.Prescribed.{Prescribed, first_of}
@@ -21,7 +21,7 @@ use Rattle.bridge_run.specs.log.Asks.{asks_of, taken, has_just_come, quiet_round
 -- ---- which events came, the latest first
 
 -- the event that a call's answer is: a client that has nothing is one, too
-abbrev pub event_in : Call → Option LinkEvent
+abbrev pub event_in : Call → Option PastLinkEvent
 event_in (Accept (Ok true)) = Some ClientComes
 event_in (Poll side (Took n) buf) = Some (SidePiece side (take n buf))
 event_in (Poll side Ended buf) = Some (SideEnd side)
@@ -29,16 +29,16 @@ event_in (Poll Client NotYet buf) = Some ClientQuiet
 event_in call = None
 
 -- a client whose link is closed has its end next, where that isn't what closed it
-abbrev pub behind_call : Call → List LinkEvent → List LinkEvent
+abbrev pub behind_call : Call → List PastLinkEvent → List PastLinkEvent
 behind_call (Close Client) (e ∷ events) = if ends_next e true then SideEnd Client ∷ e ∷ events else e ∷ events
 behind_call call events = cons_option (event_in call) events
 
-abbrev pub events_of : List Call → List LinkEvent
+abbrev pub events_of : List Call → List PastLinkEvent
 events_of [] = []
 events_of (call ∷ calls) = behind_call call (events_of calls)
 
 -- those before the latest question
-abbrev pub events_before : List Call → List LinkEvent
+abbrev pub events_before : List Call → List PastLinkEvent
 events_before [] = []
 events_before (Accept answer ∷ calls) = events_of calls
 events_before (Poll side polled buf ∷ calls) = events_of calls
@@ -64,24 +64,24 @@ IsDialled (Some host) calls = calls ≡ Dial host (Ok tt) ∷ []
 -- ---- what was written
 
 -- all that these events send, to each side as far as its link was up, and no more
-pub record IsWritten (terms : Terms) (p : Prescribed) (events : List LinkEvent) (calls : List Call) : Type 0 where
+pub record IsWritten (terms : Terms) (p : Prescribed) (events : List PastLinkEvent) (calls : List Call) : Type 0 where
   pub client : went Client calls ≡ to_clients p events
   pub host : went Host calls ≡ sent_to_host (is_some terms.host) p events
 
 -- to each side a front of that
-pub record IsWrittenInPart (terms : Terms) (p : Prescribed) (events : List LinkEvent) (calls : List Call) : Type 0 where
+pub record IsWrittenInPart (terms : Terms) (p : Prescribed) (events : List PastLinkEvent) (calls : List Call) : Type 0 where
   pub client : Begins (went Client calls) (to_clients p events)
   pub host : Begins (went Host calls) (sent_to_host (is_some terms.host) p events)
 
 -- ---- what may come
 
 -- behind these events the side's link is up
-abbrev pub is_up : Side → Terms → Prescribed → List LinkEvent → Bool
+abbrev pub is_up : Side → Terms → Prescribed → List PastLinkEvent → Bool
 is_up Client terms p events = client_behind p events
 is_up Host terms p events = host_since (is_some terms.host) p events
 
 -- somebody has come, and no link is up any more
-abbrev pub is_over : Terms → Prescribed → List LinkEvent → Bool
+abbrev pub is_over : Terms → Prescribed → List PastLinkEvent → Bool
 is_over terms p [] = false
 is_over terms p (e ∷ events) = not (client_behind p (e ∷ events)) && not (host_since (is_some terms.host) p (e ∷ events))
 
@@ -134,7 +134,7 @@ abbrev pub Told : {K : Type 0} → (K → List ℕ → Result ℕ Fault → K �
 Told write_gives old new bytes = Moves write_gives bytes old new
 
 -- all that these events send, and a line for each side that they refuse
-pub record Wrote (tells : List ℕ → Type 0) (terms : Terms) (p : Prescribed) (events : List LinkEvent) (calls : List Call) : Type 0 where
+pub record Wrote (tells : List ℕ → Type 0) (terms : Terms) (p : Prescribed) (events : List PastLinkEvent) (calls : List Call) : Type 0 where
   pub links : IsWritten terms p events calls
   pub told : tells (told_of p events)
 
@@ -143,13 +143,13 @@ abbrev pub InPart : (List ℕ → Type 0) → List ℕ → List ℕ → Type 0
 InPart tells least most = (front : List ℕ) × (Begins least front × Begins front most × tells front)
 
 -- a call failed: what the last answer brings, and its lines, may be written in part, and those before it are told
-pub record WroteInPart (tells : List ℕ → Type 0) (terms : Terms) (p : Prescribed) (events : List LinkEvent) (calls : List Call) : Type 0 where
+pub record WroteInPart (tells : List ℕ → Type 0) (terms : Terms) (p : Prescribed) (events : List PastLinkEvent) (calls : List Call) : Type 0 where
   pub links : IsWrittenInPart terms p events calls
   pub told : InPart tells (told_of p (events_before calls)) (told_of p events)
 
 -- all that the events before the latest send, and of that what it had sent before memory ran out, to each side whose
 -- link was up; and no line for it
-pub record WroteSent (runs_out : List LinkEvent → LinkEvent → List ℕ → List ℕ → Type 0) (tells : List ℕ → Type 0) (terms : Terms) (p : Prescribed) (e : LinkEvent) (events : List LinkEvent) (calls : List Call) : Type 0 where
+pub record WroteSent (runs_out : List PastLinkEvent → PastLinkEvent → List ℕ → List ℕ → Type 0) (tells : List ℕ → Type 0) (terms : Terms) (p : Prescribed) (e : PastLinkEvent) (events : List PastLinkEvent) (calls : List Call) : Type 0 where
   pub to_client : List ℕ
   pub to_host : List ℕ
   pub ran_out : RanOut runs_out terms.taped p events e to_client to_host
@@ -158,7 +158,7 @@ pub record WroteSent (runs_out : List LinkEvent → LinkEvent → List ℕ → L
   pub told : tells (told_of p events)
 
 -- where memory ran out, that was before all, or as the latest event was taken
-abbrev pub HasWritten : ServeEnd → (List LinkEvent → LinkEvent → List ℕ → List ℕ → Type 0) → (List ℕ → Type 0) → Terms → Prescribed → List LinkEvent → List Call → Type 0
+abbrev pub HasWritten : ServeEnd → (List PastLinkEvent → PastLinkEvent → List ℕ → List ℕ → Type 0) → (List ℕ → Type 0) → Terms → Prescribed → List PastLinkEvent → List Call → Type 0
 HasWritten (end.LinkFault side) runs_out tells terms p events calls = WroteInPart tells terms p events calls
 HasWritten end.WriteFault runs_out tells terms p events calls = WroteInPart tells terms p events calls
 HasWritten end.Memory runs_out tells terms p [] calls = (calls ≡ []) × tells []
@@ -196,7 +196,7 @@ HasEnded end.Memory terms p [] = Unit {0}
 HasEnded end.Memory terms p calls = JustCame calls
 
 -- the calls that were made, one after the other, what they wrote and what the sink was told, and why it ended
-pub record Logged {D : Type 0} (e : ServeEnd) (gives : D → Call → D → Type 0) (runs_out : List LinkEvent → LinkEvent → List ℕ → List ℕ → Type 0) (tells : List ℕ → Type 0) (terms : Terms) (p : Prescribed) (old new : D) : Type 0 where
+pub record Logged {D : Type 0} (e : ServeEnd) (gives : D → Call → D → Type 0) (runs_out : List PastLinkEvent → PastLinkEvent → List ℕ → List ℕ → Type 0) (tells : List ℕ → Type 0) (terms : Terms) (p : Prescribed) (old new : D) : Type 0 where
   pub calls : List Call
   pub called : Called gives calls old new
   pub settled : Settled terms p calls

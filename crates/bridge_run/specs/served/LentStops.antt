@@ -7,7 +7,7 @@ use Rattle.redir_host.specs.step.Items.{Item}
 use Rattle.redir_host.specs.step.Machine.{bytes_of, given_by, step}
 use Rattle.redir_host.specs.step.Wants.{FirstWants, IsHeld}
 use Rattle.redir_host.specs.write.Output.{host_of, host_out}
-use Rattle.bridge_run.specs.events.Events.{LinkEvent}
+use Rattle.bridge_run.specs.events.Events.{PastLinkEvent}
 use Rattle.bridge_run.specs.served.Lent.{acts_of, acts_behind, has_come, lent_bytes}
 
 -- behind these acts memory ran out within the next one: the first of its items were taken, and have sent this. Memory
@@ -30,7 +30,7 @@ pub record ActsStop {S : Type 0} (m : Meaning S) (s : S) (past acts : List Act) 
   pub sent-is : host_out m s done ++ part ≡ host_out m s past ++ sent
 
 -- the guest has been sent that once it has come, with what waited for it
-pub record LentStops {S : Type 0} (m : Meaning S) (s : S) (events : List LinkEvent) (e : LinkEvent) (client host : List ℕ) : Type 0 where
+pub record LentStops {S : Type 0} (m : Meaning S) (s : S) (events : List PastLinkEvent) (e : PastLinkEvent) (client host : List ℕ) : Type 0 where
   pub sent : List ℕ
   pub stops : ActsStop m s (acts_of m s events) (acts_behind m s (acts_of m s events) e) sent
   pub client-is : (if has_come (e ∷ events) then host_out m s (acts_of m s events) ++ sent else []) ≡ lent_bytes m s events ++ client

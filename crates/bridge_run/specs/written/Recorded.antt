@@ -5,16 +5,16 @@ use Rattle.usb_base.specs.declared.refusal.Refusal.{Refusal}
 use Rattle.usb_base.specs.Lists.{is_empty}
 use Rattle.session_tape.specs.Lines.{piece_line, end_line, refusal_comment}
 use Rattle.bridge_run.specs.declared.written.recording.TheConstants.{WAITING_LIMIT}
-use Rattle.bridge_run.specs.events.Events.{LinkEvent, SidePiece, SideEnd}
+use Rattle.bridge_run.specs.events.Events.{PastLinkEvent, SidePiece, SideEnd}
 use Rattle.bridge_run.specs.course.Course.{Course}
 
 -- a client that comes, or is quiet, has no line
-abbrev pub event_line : LinkEvent → List ℕ
+abbrev pub event_line : PastLinkEvent → List ℕ
 event_line (SidePiece side b) = piece_line side b
 event_line (SideEnd side) = end_line side
 event_line e = []
 
-abbrev pub lines_of : LinkEvent → List Refusal → List ℕ
+abbrev pub lines_of : PastLinkEvent → List Refusal → List ℕ
 lines_of e refusals = event_line e ++ flat_map refusal_comment refusals
 
 -- ---- when lines are written

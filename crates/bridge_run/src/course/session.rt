@@ -1,7 +1,7 @@
 //! Serving, once both sides can come.
 
 ghost use Rattle.std.specs.Prelude.{◌≡◌, ℕ, ◌<◌, ◌||◌, List, [], ◌∷◌, not, true, false, Option, OnOk, OnErr, IfOk, IfErr, length};
-ghost use Rattle.bridge_run.specs.events.Events.{LinkEvent as PastEvent, is_quiet};
+ghost use Rattle.bridge_run.specs.events.Events.{PastLinkEvent, is_quiet};
 ghost use Rattle.bridge_run.specs.inner.Coming.{CanRecord, StandsAt, event_with};
 ghost use Rattle.bridge_run.specs.course.Course.{Course, Next, AtDoor, AtClient, Takes};
 ghost use Rattle.bridge_run.specs.course.Calls.{Goes, put, quiet};
@@ -66,9 +66,9 @@ impl<C: Served + Drop> Session<C> {
 
     /// Has the event taken, and keeps what that sends, and the lines of its refusals.
     fn prepare(&mut self, coming: Coming) -> Result<(), Memory>
-        ensures stands { OnOk result ((first : C.First) (piece : List ℕ) (past : List PastEvent) → StandsAt (C.stands first) (C.runs_out first) (C.sends first) piece coming.entry self.old.core self.old.sent past → C.stands first self.new.core (event_with piece coming.entry ∷ past)) }
-        ensures prepared { OnOk result ((first : C.First) (piece : List ℕ) (past : List PastEvent) → StandsAt (C.stands first) (C.runs_out first) (C.sends first) piece coming.entry self.old.core self.old.sent past → Prepared (C.sends first) past (event_with piece coming.entry) self.new.sent self.new.lines) }
-        ensures stops { OnErr result ((first : C.First) (piece : List ℕ) (past : List PastEvent) → StandsAt (C.stands first) (C.runs_out first) (C.sends first) piece coming.entry self.old.core self.old.sent past → IsPart (C.runs_out first) (C.sends first) past (event_with piece coming.entry) self.new.sent.to_client self.new.sent.to_host) }
+        ensures stands { OnOk result ((first : C.First) (piece : List ℕ) (past : List PastLinkEvent) → StandsAt (C.stands first) (C.runs_out first) (C.sends first) piece coming.entry self.old.core self.old.sent past → C.stands first self.new.core (event_with piece coming.entry ∷ past)) }
+        ensures prepared { OnOk result ((first : C.First) (piece : List ℕ) (past : List PastLinkEvent) → StandsAt (C.stands first) (C.runs_out first) (C.sends first) piece coming.entry self.old.core self.old.sent past → Prepared (C.sends first) past (event_with piece coming.entry) self.new.sent self.new.lines) }
+        ensures stops { OnErr result ((first : C.First) (piece : List ℕ) (past : List PastLinkEvent) → StandsAt (C.stands first) (C.runs_out first) (C.sends first) piece coming.entry self.old.core self.old.sent past → IsPart (C.runs_out first) (C.sends first) past (event_with piece coming.entry) self.new.sent.to_client self.new.sent.to_host) }
         ensures quiet { OnOk result (is_quiet (event_with [] coming.entry) ≡ true → self.new.sent.refusals ≡ []) }
         ensures stays { OnOk result (is_quiet (event_with [] coming.entry) ≡ true → self.new.sent.lets_go ≡ false) }
         ensures rounds { self.new.rounds ≡ self.old.rounds }
@@ -81,9 +81,9 @@ impl<C: Served + Drop> Session<C> {
 
     /// Has the event taken, unless what is served has taken it as it came: then what that sends is kept already.
     fn take(&mut self, coming: Coming) -> Result<(), Memory>
-        ensures stands { OnOk result ((first : C.First) (piece : List ℕ) (past : List PastEvent) → StandsAt (C.stands first) (C.runs_out first) (C.sends first) piece coming.entry self.old.core self.old.sent past → C.stands first self.new.core (event_with piece coming.entry ∷ past)) }
-        ensures sends { OnOk result ((first : C.First) (piece : List ℕ) (past : List PastEvent) → StandsAt (C.stands first) (C.runs_out first) (C.sends first) piece coming.entry self.old.core self.old.sent past → SendsAll (C.sends first) past (event_with piece coming.entry) nothing self.new.sent) }
-        ensures stops { OnErr result ((first : C.First) (piece : List ℕ) (past : List PastEvent) → StandsAt (C.stands first) (C.runs_out first) (C.sends first) piece coming.entry self.old.core self.old.sent past → SendsPart (C.runs_out first) (C.sends first) past (event_with piece coming.entry) nothing self.new.sent) }
+        ensures stands { OnOk result ((first : C.First) (piece : List ℕ) (past : List PastLinkEvent) → StandsAt (C.stands first) (C.runs_out first) (C.sends first) piece coming.entry self.old.core self.old.sent past → C.stands first self.new.core (event_with piece coming.entry ∷ past)) }
+        ensures sends { OnOk result ((first : C.First) (piece : List ℕ) (past : List PastLinkEvent) → StandsAt (C.stands first) (C.runs_out first) (C.sends first) piece coming.entry self.old.core self.old.sent past → SendsAll (C.sends first) past (event_with piece coming.entry) nothing self.new.sent) }
+        ensures stops { OnErr result ((first : C.First) (piece : List ℕ) (past : List PastLinkEvent) → StandsAt (C.stands first) (C.runs_out first) (C.sends first) piece coming.entry self.old.core self.old.sent past → SendsPart (C.runs_out first) (C.sends first) past (event_with piece coming.entry) nothing self.new.sent) }
         ensures quiet { OnOk result (is_quiet (event_with [] coming.entry) ≡ true → self.new.sent.refusals ≡ []) }
         ensures stays { OnOk result (is_quiet (event_with [] coming.entry) ≡ true → self.new.sent.lets_go ≡ false) }
         ensures rounds { self.new.rounds ≡ self.old.rounds }
@@ -113,7 +113,7 @@ impl<C: Served + Drop> Session<C> {
         ensures course { (first : C.First) (piece : List ℕ) (begun told : Option (List ℕ)) (c : Course) → IsPart (C.runs_out first) (C.sends first) c.events (event_with piece coming.entry) self.old.sent.to_client self.old.sent.to_host → AreUp self.old.rounds c
             → Tells (outside (D.link doors.old) (D.door doors.old)) (gathering begun told (T.contents tape.old) self.old.waiting) c
             → Cut (MayRunOut result (C.runs_out first) (C.sends first)) (outside (D.link doors.new) (D.door doors.new)) (gathering begun told (T.contents tape.new) self.new.waiting) c (put (C.sends first) (event_with piece coming.entry) c) }
-        ensures log { (first : C.First) (piece : List ℕ) (terms : Terms) (events : List PastEvent) (begun : D) → terms.taped ≡ T.made tape.old → IsPart (C.runs_out first) (C.sends first) events (event_with piece coming.entry) self.old.sent.to_client self.old.sent.to_host
+        ensures log { (first : C.First) (piece : List ℕ) (terms : Terms) (events : List PastLinkEvent) (begun : D) → terms.taped ≡ T.made tape.old → IsPart (C.runs_out first) (C.sends first) events (event_with piece coming.entry) self.old.sent.to_client self.old.sent.to_host
             → IsStopping D.call_gives terms (C.sends first) (event_with piece coming.entry) events self.old.rounds begun doors.old → StopLogs result D.call_gives (C.runs_out first) terms (C.sends first) (event_with piece coming.entry) events begun doors.new }
         ensures faults { (sink : ℕ) → HasCause result (outside (D.link doors.old) (D.door doors.old)) (outside (D.link doors.new) (D.door doors.new)) (faults sink (T.counts tape.old)) (faults sink (T.counts tape.new)) }
         ensures cut { IsCutEnd result }

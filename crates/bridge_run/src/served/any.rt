@@ -2,7 +2,7 @@
 
 ghost use Rattle.std.specs.Prelude.{◌≡◌, ℕ, Bool, List, [], ◌∷◌, OnOk, OnErr, IfSome, IsNone, true};
 ghost use Rattle.usb_base.specs.Incoming.{HasCome};
-ghost use Rattle.bridge_run.specs.events.Events.{LinkEvent as PastEvent, event_of, is_quiet};
+ghost use Rattle.bridge_run.specs.events.Events.{PastLinkEvent, event_of, is_quiet};
 ghost use Rattle.bridge_run.specs.inner.Sends.{SendsAll, SendsPart};
 ghost use Rattle.bridge_run.specs.inner.Taking.{TakesCome};
 
@@ -21,23 +21,23 @@ pub trait Served {
     ghost sends: { First → Prescribed };
 
     /// It stands for these events, the latest first.
-    ghost stands: { First → Self → List PastEvent → Type 0 };
+    ghost stands: { First → Self → List PastLinkEvent → Type 0 };
 
     /// Behind these events, the latest first, memory runs out within the next one, by when that has sent so much to the
     /// client, and so much to the host.
-    ghost runs_out: { First → List PastEvent → PastEvent → List ℕ → List ℕ → Type 0 };
+    ghost runs_out: { First → List PastLinkEvent → PastLinkEvent → List ℕ → List ℕ → Type 0 };
 
     /// Whether memory may be wanting at an event.
-    ghost takes_memory: { PastEvent → Bool };
+    ghost takes_memory: { PastLinkEvent → Bool };
 
     /// Takes the next event, and appends what that sends. A quiet client is no ground to refuse a side, or to let the
     /// client go. For want of memory what was sent by then is there. Nothing stands for the client before, so that it
     /// can be handed over as it is.
     fn take(&mut self, event: LinkEvent, sent: &mut Sent) -> Result<(), Memory>
         requires { sent.old.to_client ≡ [] }
-        ensures stands { OnOk result ((first : First) (past : List PastEvent) → stands first self.old past → stands first self.new (event_of event.entry ∷ past)) }
-        ensures sends { OnOk result ((first : First) (past : List PastEvent) → stands first self.old past → SendsAll (sends first) past (event_of event.entry) sent.old sent.new) }
-        ensures stops { OnErr result ((first : First) (past : List PastEvent) → stands first self.old past → SendsPart (runs_out first) (sends first) past (event_of event.entry) sent.old sent.new) }
+        ensures stands { OnOk result ((first : First) (past : List PastLinkEvent) → stands first self.old past → stands first self.new (event_of event.entry ∷ past)) }
+        ensures sends { OnOk result ((first : First) (past : List PastLinkEvent) → stands first self.old past → SendsAll (sends first) past (event_of event.entry) sent.old sent.new) }
+        ensures stops { OnErr result ((first : First) (past : List PastLinkEvent) → stands first self.old past → SendsPart (runs_out first) (sends first) past (event_of event.entry) sent.old sent.new) }
         ensures quiet { OnOk result (is_quiet (event_of event.entry) ≡ true → sent.new.refusals ≡ sent.old.refusals) }
         ensures stays { OnOk result (is_quiet (event_of event.entry) ≡ true → sent.new.lets_go ≡ sent.old.lets_go) }
         ensures wants { OnErr result (takes_memory (event_of event.entry) ≡ true) };

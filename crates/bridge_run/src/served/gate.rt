@@ -3,8 +3,8 @@
 ghost use Rattle.std.specs.Prelude.{◌≡◌, ℕ, List, [], Some, Ok, false, OnOk, OnErr};
 ghost use Rattle.std.specs.List.{list_any};
 ghost use Rattle.gate_core.specs.step.Stands.{GateStands};
-ghost use Rattle.gate_history.specs.step.Events.{Event as Told};
-ghost use Rattle.bridge_run.specs.events.Events.{LinkEvent as PastEvent};
+ghost use Rattle.gate_history.specs.step.Events.{PastEvent};
+ghost use Rattle.bridge_run.specs.events.Events.{PastLinkEvent};
 ghost use Rattle.bridge_run.specs.served.Gate.{gate_event, gate_events, gate_sends, is_loss};
 ghost use Rattle.bridge_run.specs.served.GateStops.{gate_runs_out};
 ghost use Rattle.bridge_run.specs.inner.Gated.{GateTakes};
@@ -77,10 +77,10 @@ impl Gateway {
     /// Adds to what is sent which sides an event refuses, and whether it lets the client go, as the gate's notes of it
     /// tell. Where memory ran out within the event nothing is added.
     fn tell(&self, taken: Result<Notes, Memory>, sent: &mut Sent) -> Result<(), Memory>
-        ensures takes { OnOk result ((first : ℕ) (past : List PastEvent) (e : PastEvent) (told : Told) (client host : List ℕ) → gate_event e ≡ Some told
+        ensures takes { OnOk result ((first : ℕ) (past : List PastLinkEvent) (e : PastLinkEvent) (told : PastEvent) (client host : List ℕ) → gate_event e ≡ Some told
             → GateTakes taken first self.now.gate (gate_events past) told client sent.old.to_client host sent.old.to_host
             → TakesAll (λ events. GateStands first self.now.gate (gate_events events)) (gate_sends self.now.after_loss first) past e (record sent.old { to_client = client; to_host = host }) sent.new) }
-        ensures stops { OnErr result ((first : ℕ) (past : List PastEvent) (e : PastEvent) (told : Told) (client host : List ℕ) → gate_event e ≡ Some told
+        ensures stops { OnErr result ((first : ℕ) (past : List PastLinkEvent) (e : PastLinkEvent) (told : PastEvent) (client host : List ℕ) → gate_event e ≡ Some told
             → GateTakes taken first self.now.gate (gate_events past) told client sent.old.to_client host sent.old.to_host
             → SendsPart (gate_runs_out first) (gate_sends self.now.after_loss first) past e (record sent.old { to_client = client; to_host = host }) sent.new) }
         ensures nothing { taken ≡ Ok [] → (result ≡ Ok tt) × (sent.new ≡ sent.old) }

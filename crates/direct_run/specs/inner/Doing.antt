@@ -1,7 +1,7 @@
 -- What an event of the gateway and an act of the host make of a system.
 use Rattle.std.specs.Prelude.{◌≡◌, List, ◌∷◌, ◌++◌}
 use Rattle.std.specs.List.{flat_map}
-use Rattle.gate_history.specs.step.Events.{Event}
+use Rattle.gate_history.specs.step.Events.{PastEvent}
 use Rattle.gate_history.specs.write.Notes.{notes_of}
 use Rattle.gate_core.specs.step.Stands.{GateStands}
 use Rattle.model_device.specs.Meaning.{Meaning}
@@ -15,7 +15,7 @@ use Rattle.direct_run.specs.Noted.{named}
 use Rattle.direct_run.specs.Trace.{given_of, untold, told_of_event, act_items}
 
 -- the gateway has taken the event, and what it sent to the host is on the wire
-pub record DoesEvent {S : Type 0} (old new : SystemKept S) (events : List Event) (e : Event) (told : Told) : Type 0 where
+pub record DoesEvent {S : Type 0} (old new : SystemKept S) (events : List PastEvent) (e : PastEvent) (told : Told) : Type 0 where
   pub gate : GateStands first_id new.gate (e ∷ events)
   pub told-is : told ≡ told_of_event events e
   pub new-is : new ≡ record old { gate = new.gate; to_host = old.to_host ++ told.to_host; trace = old.trace ++ told.items; submits = old.submits ++ flat_map named (given_of notes_of events e) }

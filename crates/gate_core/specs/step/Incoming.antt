@@ -4,16 +4,16 @@ use Rattle.usb_base.specs.Incoming.{HasCome}
 use Rattle.usb_base.specs.declared.memory.Memory.{Memory}
 use Rattle.usb_base.specs.declared.side.Side.{Side}
 use Rattle.gate_history.specs.declared.note.Note.{Note}
-use Rattle.gate_history.specs.step.Events.{Event}
+use Rattle.gate_history.specs.step.Events.{PastEvent}
 use Rattle.gate_core.specs.state.Kept.{GateKept}
 use Rattle.gate_core.specs.step.Stands.{GateStands, GateHasFailed, TakesEvent, StopsInEvent, piece_of}
 
 -- whatever has come: the event was taken, or memory ran out within it, and the gate has failed
-abbrev pub TakesOrFails : Result (List Note) Memory → GateKept → GateKept → Event → List ℕ → List ℕ → List ℕ → List ℕ → Type 0
+abbrev pub TakesOrFails : Result (List Note) Memory → GateKept → GateKept → PastEvent → List ℕ → List ℕ → List ℕ → List ℕ → Type 0
 TakesOrFails (Ok notes) old new e client_old client_new host_old host_new =
-    (first : ℕ) (past : List Event) → GateStands first old past → TakesEvent first new past e client_old client_new host_old host_new notes
+    (first : ℕ) (past : List PastEvent) → GateStands first old past → TakesEvent first new past e client_old client_new host_old host_new notes
 TakesOrFails (Err memory) old new e client_old client_new host_old host_new =
-    GateHasFailed new × ((first : ℕ) (past : List Event) → GateStands first old past → StopsInEvent first new past e client_old client_new host_old host_new)
+    GateHasFailed new × ((first : ℕ) (past : List PastEvent) → GateStands first old past → StopsInEvent first new past e client_old client_new host_old host_new)
 
 -- so many bytes came of it, and were taken as a piece; where none came nothing has changed
 pub record TakesIncoming {I : Type 0} (gives : I → ℕ → List ℕ → I → Type 0) (side : Side) (limit : ℕ) (result : Result (List Note) Memory)

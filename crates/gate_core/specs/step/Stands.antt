@@ -8,7 +8,7 @@ use Rattle.packet_stream.specs.Split.{Reader, Position, Splitting, split}
 use Rattle.packet_stream.specs.Streams.{StreamView, Drained, Closed, Holds as IsLeft}
 use Rattle.packet_stream.specs.Items.{onto}
 use Rattle.gate_history.specs.declared.note.Note.{Note}
-use Rattle.gate_history.specs.step.Events.{Event, ClientPiece, HostPiece, client_bytes, host_bytes}
+use Rattle.gate_history.specs.step.Events.{PastEvent, ClientPiece, HostPiece, client_bytes, host_bytes}
 use Rattle.redir_data.specs.Streams.{stream_start}
 use Rattle.gate_history.specs.step.Streams.{client_reader, client_start, host_reader}
 use Rattle.gate_history.specs.declared.item.Item.{Item}
@@ -68,7 +68,7 @@ pub record StreamStands {S P : Type 0} (r : Reader S P Reason) (start : Position
   pub none : kept.over ≡ true → kept.held ≡ []
 
 -- the gate stands for these items of what has come with these events
-pub record StandsFor (first : ℕ) (g : GateKept) (events : List Event) (xs : List Item) : Type 0 where
+pub record StandsFor (first : ℕ) (g : GateKept) (events : List PastEvent) (xs : List Item) : Type 0 where
   pub translates : Translates first g.items xs
   pub client : StreamStands client_reader client_start g.client (client_bytes events) (asked xs) (client_over (past first xs))
   pub host : StreamStands host_reader stream_start g.host (host_bytes events) (told xs) (host_over (past first xs))
@@ -86,7 +86,7 @@ pub record HasAll {S P : Type 0} (r : Reader S P Reason) (start : Position S) (k
   pub fits : AreBytes bytes
 
 -- the gate works, and stands for all items of these events
-pub record GateStands (first : ℕ) (g : GateKept) (events : List Event) : Type 0 where
+pub record GateStands (first : ℕ) (g : GateKept) (events : List PastEvent) : Type 0 where
   pub works : g.failed ≡ false
   pub translates : Translates first g.items (arrivals events)
   pub client : HasAll client_reader client_start g.client (client_bytes events) (asked (arrivals events)) (client_over (history first events))
@@ -94,29 +94,29 @@ pub record GateStands (first : ℕ) (g : GateKept) (events : List Event) : Type 
 
 -- it stands for some events
 abbrev pub HasPast : GateKept → Type 0
-HasPast g = ∥ ((first : ℕ) × ((events : List Event) × GateStands first g events)) ∥₁
+HasPast g = ∥ ((first : ℕ) × ((events : List PastEvent) × GateStands first g events)) ∥₁
 
 abbrev pub IsReady : GateKept → Type 0
 IsReady g = g.failed ≡ false → HasPast g
 
 -- ---- one event more
 
-pub record TakesEvent (first : ℕ) (new : GateKept) (events : List Event) (e : Event) (client_old client_new host_old host_new : List ℕ) (notes : List Note) : Type 0 where
+pub record TakesEvent (first : ℕ) (new : GateKept) (events : List PastEvent) (e : PastEvent) (client_old client_new host_old host_new : List ℕ) (notes : List Note) : Type 0 where
   pub stands : GateStands first new (e ∷ events)
   pub sends : EventSends first events e client_old client_new host_old host_new notes
 
 -- a piece of a side's stream
-abbrev pub piece_of : Side → List ℕ → Event
+abbrev pub piece_of : Side → List ℕ → PastEvent
 piece_of Client piece = ClientPiece piece
 piece_of Host piece = HostPiece piece
 
 -- memory ran out within an event: the first of its items were taken, what they send was sent, and the gate stands for
 -- them; or not even its bytes have come
-pub record StopsInEvent (first : ℕ) (new : GateKept) (events : List Event) (e : Event) (client_old client_new host_old host_new : List ℕ) : Type 0 where
+pub record StopsInEvent (first : ℕ) (new : GateKept) (events : List PastEvent) (e : PastEvent) (client_old client_new host_old host_new : List ℕ) : Type 0 where
   pub taken : List Item
   pub later : List Item
   pub parts : brought events e ≡ taken ++ later
-  pub seen : List Event
+  pub seen : List PastEvent
   pub seen-is : (seen ≡ e ∷ events) ⊎ ((seen ≡ events) × (taken ≡ []))
   -- to hold the bytes, or for the first of the items that are left
   pub wanted : ((seen ≡ events) × IsHeld first events e) ⊎ FirstWants first (onto taken (arrivals events)) later

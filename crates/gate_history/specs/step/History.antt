@@ -7,7 +7,7 @@ use Rattle.redir_wire.specs.declared.state.RedirState.{RedirState}
 use Rattle.redir_wire.specs.declared.packet.Header.{Header}
 use Rattle.redir_data.specs.declared.packet.RedirPacket.{RedirPacket}
 use Rattle.usbip_urb.specs.declared.client.ClientPacket.{ClientPacket}
-use Rattle.gate_history.specs.step.Events.{Event, ClientPiece, ClientEnd, HostPiece, HostEnd, client_bytes, host_bytes}
+use Rattle.gate_history.specs.step.Events.{PastEvent, ClientPiece, ClientEnd, HostPiece, HostEnd, client_bytes, host_bytes}
 use Rattle.gate_history.specs.declared.item.Item.{Item}
 use Rattle.gate_history.specs.declared.item.Item.TheVariants.{Asked, ClientWrong, ClientLeft, Told, HostWrong, HostLeft}
 use Rattle.redir_data.specs.Streams.{stream_start}
@@ -33,25 +33,25 @@ host_items bytes = items_of (λ place p. Told place p.0 p.1) HostWrong (host_spl
 
 -- ---- the items of events
 
-abbrev pub brought : List Event → Event → List Item
+abbrev pub brought : List PastEvent → PastEvent → List Item
 brought events (ClientPiece b) = added client_items (client_bytes events) b
 brought events ClientEnd = ClientLeft ∷ []
 brought events (HostPiece b) = added host_items (host_bytes events) b
 brought events HostEnd = HostLeft ∷ []
 
 -- all that came, the latest first
-abbrev pub arrivals : List Event → List Item
+abbrev pub arrivals : List PastEvent → List Item
 arrivals [] = []
 arrivals (e ∷ events) = onto (brought events e) (arrivals events)
 
 -- the ids of its packets begin with the first id
-abbrev pub history : ℕ → List Event → List Mark
+abbrev pub history : ℕ → List PastEvent → List Mark
 history first events = past first (arrivals events)
 
 -- ---- what is there of packets that aren't whole
 
 -- the bytes of the present client and of the host, where they aren't over
-abbrev pub rest_length : ℕ → List Event → ℕ
+abbrev pub rest_length : ℕ → List PastEvent → ℕ
 rest_length first events =
     (if client_over (history first events) then 0 else length (client_split (client_bytes events)).rest)
     + (if host_over (history first events) then 0 else length (host_split (host_bytes events)).rest)

@@ -5,7 +5,7 @@ use Rattle.std.specs.Prelude.{◌≡◌, ℕ, suc, false, if◌then◌else◌, L
 use Rattle.packet_stream.specs.Folds.{rfold}
 use Rattle.packet_stream.specs.Outputs.{past_outputs, outputs}
 use Rattle.gate_history.specs.declared.note.Counts.{Counts}
-use Rattle.gate_history.specs.step.Events.{Event}
+use Rattle.gate_history.specs.step.Events.{PastEvent}
 use Rattle.gate_history.specs.declared.item.Item.{Item}
 use Rattle.gate_history.specs.step.Marks.{Effect, Mark}
 use Rattle.gate_history.specs.state.Sides.{turned, imports, leaves, is_loss, refuses_client, ends_client, closes_host, agrees}
@@ -87,5 +87,5 @@ GivesPast gives = (first : ℕ) (items : List Item) → all_of gives first (past
 -- one event more gives what its items give, one after another
 abbrev pub AddsItems : {A : Type 0} → (State → Mark → List A) → Type 0
 AddsItems gives =
-    (first : ℕ) (events : List Event) (e : Event) →
+    (first : ℕ) (events : List PastEvent) (e : PastEvent) →
     all_of gives first (history first (e ∷ events)) ≡ all_of gives first (history first events) ++ given_by gives (state_of first (history first events)) (brought events e)

@@ -3,7 +3,7 @@
 use Rattle.std.specs.Prelude.{◌≡◌, ◌⊎◌, ◌<◌, ◌+◌, ℕ, Bool, true, false, List, [], ◌∷◌, length}
 use Rattle.usbip_urb.specs.ClientPackets.{takes_memory as asked_takes_memory}
 use Rattle.redir_data.specs.Packets.{takes_memory as told_takes_memory}
-use Rattle.gate_history.specs.step.Events.{Event, ClientPiece, ClientEnd, HostPiece, HostEnd}
+use Rattle.gate_history.specs.step.Events.{PastEvent, ClientPiece, ClientEnd, HostPiece, HostEnd}
 use Rattle.gate_history.specs.declared.item.Item.{Item}
 use Rattle.gate_history.specs.declared.item.Item.TheVariants.{Asked, Told}
 use Rattle.gate_history.specs.step.Marks.{Mark}
@@ -40,7 +40,7 @@ FirstWants first before [] = ⊥
 FirstWants first before (x ∷ xs) = Wants first before x
 
 -- behind these events a piece has bytes, and its side isn't over
-abbrev pub IsHeld : ℕ → List Event → Event → Type 0
+abbrev pub IsHeld : ℕ → List PastEvent → PastEvent → Type 0
 IsHeld first events (ClientPiece b) = (0 < length b) × (client_over (history first events) ≡ false)
 IsHeld first events ClientEnd = ⊥
 IsHeld first events (HostPiece b) = (0 < length b) × (host_over (history first events) ≡ false)

@@ -4,7 +4,7 @@ use Rattle.std.specs.Prelude.{◌≡◌, ◌⊎◌, ℕ, true, false, List, [], 
 use Rattle.gate_outside.specs.Calls.{Call}
 use Rattle.bridge_run.specs.declared.course.serve_end.ServeEnd.{ServeEnd}
 use Rattle.bridge_run.specs.course.Course.{AtDoor}
-use Rattle.bridge_run.specs.events.Events.{LinkEvent}
+use Rattle.bridge_run.specs.events.Events.{PastLinkEvent}
 use Rattle.bridge_run.specs.served.Gate.{gate_sends}
 use Rattle.bridge_run.specs.served.GateStops.{gate_runs_out}
 use Rattle.bridge_run.specs.log.Log.{Terms, Logged}
@@ -15,7 +15,7 @@ use Rattle.usbgate_commands.specs.words.Lending.{AskedLent}
 use Rattle.usbgate_commands.specs.links.Serves.{Known, device_sends, device_runs_out, ended_as, setting_lent, EndsOf, Serves}
 use Rattle.usbgate_commands.specs.words.Serving.{ServeSettings}
 
-pub record HasLog {D : Type 0} (gives : D → Call → D → Type 0) (runs_out : List LinkEvent → LinkEvent → List ℕ → List ℕ → Type 0) (tells : List ℕ → Type 0) (terms : Terms) (p : Prescribed) (status : Status) (old new : D) : Type 0 where
+pub record HasLog {D : Type 0} (gives : D → Call → D → Type 0) (runs_out : List PastLinkEvent → PastLinkEvent → List ℕ → List ℕ → Type 0) (tells : List ℕ → Type 0) (terms : Terms) (p : Prescribed) (status : Status) (old new : D) : Type 0 where
   pub end : ServeEnd
   pub status-is : status ≡ ended_as end
   pub log : Logged end gives runs_out tells terms p old new

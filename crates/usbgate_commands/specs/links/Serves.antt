@@ -6,7 +6,7 @@ use Rattle.bridge_run.specs.course.Course.{Setting, Course, Next, Making}
 use Rattle.bridge_run.specs.course.Calls.{Goes}
 use Rattle.bridge_run.specs.served.Gate.{gate_sends}
 use Rattle.bridge_run.specs.served.GateStops.{gate_runs_out}
-use Rattle.bridge_run.specs.events.Events.{LinkEvent}
+use Rattle.bridge_run.specs.events.Events.{PastLinkEvent}
 use Rattle.bridge_run.specs.served.Lent.{lent_sends}
 use Rattle.bridge_run.specs.served.LentStops.{LentStops}
 use Rattle.usb_base.specs.declared.side.Side.{Side}
@@ -34,7 +34,7 @@ abbrev pub device_sends : Device → Prescribed
 device_sends device = as_plugged (λ S m s. lent_sends m s) device
 
 -- where memory runs out in it
-abbrev pub device_runs_out : Device → List LinkEvent → LinkEvent → List ℕ → List ℕ → Type 0
+abbrev pub device_runs_out : Device → List PastLinkEvent → PastLinkEvent → List ℕ → List ℕ → Type 0
 device_runs_out device = as_plugged (λ S m s. LentStops m s) device
 
 abbrev pub setting_lent : AskedLent → Setting
@@ -86,7 +86,7 @@ with_tape held known = record known { written = written known.written.begun know
 
 -- it ends with the status of its end, which has its cause and its reason; and over doors that tell, and a sink and a
 -- tape that may, these are left as that end leaves them, by where memory may run out within an event
-pub record EndsOf (runs_out : List LinkEvent → LinkEvent → List ℕ → List ℕ → Type 0) (setting : Setting) (first : Next) (status : Status) (old new : Known) : Type 0 where
+pub record EndsOf (runs_out : List PastLinkEvent → PastLinkEvent → List ℕ → List ℕ → Type 0) (setting : Setting) (first : Next) (status : Status) (old new : Known) : Type 0 where
   pub end : ServeEnd
   pub status-is : status ≡ ended_as end
   pub cause : HasCause end old.outside new.outside old.faults new.faults

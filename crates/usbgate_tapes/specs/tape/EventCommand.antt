@@ -1,7 +1,7 @@
 -- Commands over a replay tape, as data: they keep the events that its lines say, the latest first.
 use Rattle.std.specs.Prelude.{ℕ, Bool, if◌then◌else◌, List, [], ◌∷◌, Option, Some, None, is_some, option_and_then}
 use Rattle.packet_show.specs.Tape.{replay_line}
-use Rattle.gate_history.specs.step.Events.{Event}
+use Rattle.gate_history.specs.step.Events.{PastEvent}
 use Rattle.usbgate_tapes.specs.tape.Tape.{event_said, may_happen}
 use Rattle.usbgate_tapes.specs.tape.TapeCommand.{TapeCommand}
 
@@ -9,18 +9,18 @@ pub record EventCommand : Type 0 where
   -- the text before the first line
   pub opening : List ℕ
   -- what an event adds to the text, after those before it
-  pub text : List Event → Event → List ℕ
+  pub text : List PastEvent → PastEvent → List ℕ
   -- the text behind the last line
-  pub closing : List Event → List ℕ
+  pub closing : List PastEvent → List ℕ
   -- whether it ends in a refusal
-  pub refused : List Event → Bool
+  pub refused : List PastEvent → Bool
 
 -- a line that says nothing adds nothing, and one that may not stand there is bad
-abbrev pub on_event : EventCommand → List Event → Option Event → Option (List ℕ × List Event)
+abbrev pub on_event : EventCommand → List PastEvent → Option PastEvent → Option (List ℕ × List PastEvent)
 on_event command events None = Some ([], events)
 on_event command events (Some e) = if may_happen events e then Some (command.text events e, e ∷ events) else None
 
-abbrev pub over_events : EventCommand → TapeCommand (List Event)
+abbrev pub over_events : EventCommand → TapeCommand (List PastEvent)
 over_events command = record {
   opening = command.opening;
   start = [];

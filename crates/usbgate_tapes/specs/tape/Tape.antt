@@ -4,7 +4,7 @@ use Rattle.std.specs.Io.BufRead.{strip_last}
 use Rattle.packet_show.specs.Line.{LF}
 use Rattle.packet_show.specs.declared.tape.ReplayLine.{ReplayLine}
 use Rattle.packet_show.specs.declared.tape.ReplayLine.TheVariants as line
-use Rattle.gate_history.specs.step.Events.{Event, ClientPiece, ClientEnd, HostPiece, HostEnd}
+use Rattle.gate_history.specs.step.Events.{PastEvent, ClientPiece, ClientEnd, HostPiece, HostEnd}
 
 -- ---- lines
 
@@ -25,7 +25,7 @@ content line = strip_last LF line
 -- ---- events
 
 -- the event that a line says, or none
-abbrev pub event_said : ReplayLine → Option Event
+abbrev pub event_said : ReplayLine → Option PastEvent
 event_said line.Skip = None
 event_said (line.Client piece) = Some (ClientPiece piece)
 event_said line.ClientEnd = Some ClientEnd
@@ -33,16 +33,16 @@ event_said (line.Host piece) = Some (HostPiece piece)
 event_said line.HostEnd = Some HostEnd
 
 -- nothing of the host comes after its end; after a client's comes the next client
-abbrev pub host_ended : List Event → Bool
+abbrev pub host_ended : List PastEvent → Bool
 host_ended [] = false
 host_ended (HostEnd ∷ events) = true
 host_ended (e ∷ events) = host_ended events
 
-abbrev pub may_happen : List Event → Event → Bool
+abbrev pub may_happen : List PastEvent → PastEvent → Bool
 may_happen events (HostPiece b) = not (host_ended events)
 may_happen events HostEnd = not (host_ended events)
 may_happen events e = true
 
 -- what there is with an event, and without it isn't
-abbrev pub added : {X : Type 0} → (List Event → List X) → List Event → Event → List X
+abbrev pub added : {X : Type 0} → (List PastEvent → List X) → List PastEvent → PastEvent → List X
 added all events e = drop (length (all events)) (all (e ∷ events))

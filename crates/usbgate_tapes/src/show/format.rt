@@ -4,7 +4,7 @@ ghost use Rattle.std.specs.Prelude.{◌≡◌, ◌++◌, ◌∷◌, [], ℕ, Lis
 ghost use Rattle.usb_base.specs.declared.side.Side.{Side as ASide};
 ghost use Rattle.usb_base.specs.declared.side.Side.TheVariants as side;
 ghost use Rattle.packet_stream.specs.Split.{reads};
-ghost use Rattle.gate_history.specs.step.Events.{Event as PastEvent, event_of, client_bytes, host_bytes};
+ghost use Rattle.gate_history.specs.step.Events.{PastEvent, event_of, client_bytes, host_bytes};
 ghost use Rattle.usbgate_tapes.specs.Show.{asked_line, told_line};
 ghost use Rattle.usbgate_tapes.specs.inner.show.Shown.{HasNone, clients_none, host_none};
 ghost use Rattle.usbgate_tapes.specs.inner.show.Part.{IsPart};

@@ -1,7 +1,7 @@
 //! Commands over the events that a replay tape's lines say.
 
 ghost use Rattle.std.specs.Prelude.{◌≡◌, ◌++◌, ◌∷◌, [], List, None, OnOk, option_map, true, false};
-ghost use Rattle.gate_history.specs.step.Events.{Event as PastEvent, event_of};
+ghost use Rattle.gate_history.specs.step.Events.{PastEvent, event_of};
 ghost use Rattle.packet_show.specs.Tape.{replay_line};
 ghost use Rattle.usbgate_tapes.specs.tape.Tape.{event_said, host_ended};
 ghost use Rattle.usbgate_tapes.specs.tape.EventCommand.{EventCommand as Meant, over_events};

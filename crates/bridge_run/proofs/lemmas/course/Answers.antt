@@ -9,7 +9,7 @@ use Rattle.gate_outside.specs.declared.turn.Polled.TheVariants.{Took, NotYet, En
 use Rattle.gate_outside.specs.Link.{Link, Door, other}
 use Rattle.gate_outside.specs.Turns.{pending, answer, given, after, taken}
 use Rattle.gate_outside.specs.Doors.{faulted, first, Accepts, GivesTurns, PollFails, FailTaken}
-use Rattle.bridge_run.specs.events.Events.{LinkEvent, ClientComes}
+use Rattle.bridge_run.specs.events.Events.{PastLinkEvent, ClientComes}
 use Rattle.bridge_run.specs.declared.course.rounds.Rounds.{Rounds}
 use Rattle.bridge_run.specs.events.Prescribed.{Prescribed}
 use Rattle.bridge_run.specs.course.Course.{Setting, Course, Next, AtDoor, AtClient, AtHost, AtEnd, Takes}
@@ -44,12 +44,12 @@ come-is : (clients : List (List Turn)) (turns : List Turn) (later : List (List T
 come-is clients turns later c e = ap (λ (cs : List (List Turn)). come cs c) e
 
 -- a client has come, whose coming is the next event
-pub record HasCome (stands : List LinkEvent → Type 0) (p : Prescribed) (k : Rounds) (w : Outside) (out : Written) (c : Course) : Type 0 where
+pub record HasCome (stands : List PastLinkEvent → Type 0) (p : Prescribed) (k : Rounds) (w : Outside) (out : Written) (c : Course) : Type 0 where
   pub course : Course
   pub is : come c.clients c ≡ Goes (Takes ClientComes AtClient) course
   pub follows : IsServing stands p k w out course
 
-pub accepted : (stands : List LinkEvent → Type 0) (p : Prescribed) (k k' : Rounds) (w w' : Outside) (out : Written) (c : Course) → IsServing stands p k w out c
+pub accepted : (stands : List PastLinkEvent → Type 0) (p : Prescribed) (k k' : Rounds) (w w' : Outside) (out : Written) (c : Course) → IsServing stands p k w out c
     → Accepts {E = Fault} (Ok true) w.door w'.door w.client w'.client → w'.host ≡ w.host → k' ≡ record k { client_up = true; busy = true; left = k.left - 1 }
     → HasCome stands p k' w' out c
 accepted stands p k k' w w' out c f a host kept =
@@ -90,7 +90,7 @@ none-come (Some cs) clients e none = sym (some-is cs clients e) ∙ none
 same-shows : (old new : Link) (up : Bool) (turns : List Turn) (written : List ℕ) → new.up ≡ old.up → new.turns ≡ old.turns → new.written ≡ old.written → Shows old up turns written → Shows new up turns written
 same-shows old new up turns written a b d s = record { up-is = a ∙ s.up-is; turns-is = b ∙ s.turns-is; written-is = d ∙ s.written-is }
 
-pub waited : (stands : List LinkEvent → Type 0) (p : Prescribed) (k : Rounds) (w w' : Outside) (out : Written) (c : Course) → IsServing stands p k w out c
+pub waited : (stands : List PastLinkEvent → Type 0) (p : Prescribed) (k : Rounds) (w w' : Outside) (out : Written) (c : Course) → IsServing stands p k w out c
     → Accepts {E = Fault} (Ok false) w.door w'.door w.client w'.client → w'.host ≡ w.host → (come c.clients c ≡ Goes AtClient c) × IsServing stands p k w' out c
 waited stands p k w w' out c f a host = (
   ap (λ (cs : List (List Turn)). come cs c) (none-come w.door.to_come c.clients f.tells.clients a.0),
@@ -114,7 +114,7 @@ pub between-same : (x : List ℕ) (known : Option (List ℕ)) (y : List ℕ) →
 between-same x known y e f = between-none x known y [] e (f ∙ sym (append-nil x))
 
 -- nothing was recorded either
-pub same-recorded : (ran_out : List LinkEvent → LinkEvent → List ℕ → List ℕ → Type 0) (P : Type 0) (w : Outside) (out : Written) (c d : Course) (known : Option (List ℕ)) → IfSome known (λ held. (held ≡ c.recorded) × P) → d.recorded ≡ c.recorded → IfSome known (λ held. HasLines ran_out w out c d held)
+pub same-recorded : (ran_out : List PastLinkEvent → PastLinkEvent → List ℕ → List ℕ → Type 0) (P : Type 0) (w : Outside) (out : Written) (c d : Course) (known : Option (List ℕ)) → IfSome known (λ held. (held ≡ c.recorded) × P) → d.recorded ≡ c.recorded → IfSome known (λ held. HasLines ran_out w out c d held)
 same-recorded ran_out P w out c d known is same = all-recorded ran_out P w out c d known (subst (λ (r : List ℕ). IfSome known (λ held. (held ≡ r) × P)) (sym same) is)
 
 come-writes : (clients : List (List Turn)) (c : Course) → WroteNothing c (course_of (come clients c))
@@ -122,7 +122,7 @@ come-writes [] c = record { to_client = refl; to_host = refl; told = refl; recor
 come-writes (turns ∷ later) c = record { to_client = refl; to_host = refl; told = refl; recorded = refl }
 
 -- nobody has come, and the turns and all that was written are as they were
-pub door-cut : {ran_out : List LinkEvent → LinkEvent → List ℕ → List ℕ → Type 0} → (w : Outside) (out : Written) (c : Course) → w.client.turns ≡ Some c.client → w.host.turns ≡ Some c.host → w.door.to_come ≡ Some c.clients
+pub door-cut : {ran_out : List PastLinkEvent → PastLinkEvent → List ℕ → List ℕ → Type 0} → (w : Outside) (out : Written) (c : Course) → w.client.turns ≡ Some c.client → w.host.turns ≡ Some c.host → w.door.to_come ≡ Some c.clients
     → w.client.written ≡ Some c.to_client → w.host.written ≡ Some c.to_host → IsTold out c.told → IsTaped out c → Cut ran_out w out c (course_of (come c.clients c))
 door-cut {ran_out = ran_out} w out c client host clients to_client to_host told tape =
     let d = course_of (come c.clients c) in
@@ -137,7 +137,7 @@ door-cut {ran_out = ran_out} w out c client host clients to_client to_host told 
       tape = same-recorded ran_out _ w out c d out.tape tape same.recorded;
     }
 
-pub not_accepted : {ran_out : List LinkEvent → LinkEvent → List ℕ → List ℕ → Type 0} → (w w' : Outside) (out : Written) (c : Course) → Tells w out c → w'.client ≡ faulted w.client → w'.host ≡ w.host → w'.door ≡ w.door → Cut ran_out w' out c (course_of (come c.clients c))
+pub not_accepted : {ran_out : List PastLinkEvent → PastLinkEvent → List ℕ → List ℕ → Type 0} → (w w' : Outside) (out : Written) (c : Course) → Tells w out c → w'.client ≡ faulted w.client → w'.host ≡ w.host → w'.door ≡ w.door → Cut ran_out w' out c (course_of (come c.clients c))
 not_accepted w w' out c t client host door =
     door-cut w' out c (ap (λ (l : Link). l.turns) client ∙ t.client.turns-is) (ap (λ (l : Link). l.turns) host ∙ t.host.turns-is) (ap (λ (d : Door). d.to_come) door ∙ t.clients)
     (ap (λ (l : Link). l.written) client ∙ t.client.written-is) (ap (λ (l : Link). l.written) host ∙ t.host.written-is) t.told t.tape
@@ -225,7 +225,7 @@ passed-tells Host up links links' door door' out c len t is moved u turns writte
 }
 
 -- the poll gave nothing that is an event
-pub passed-follows : (side : Side) (stands : List LinkEvent → Type 0) (p : Prescribed) (k : Rounds) (links links' : Side → Link) (door door' : Door) (out : Written) (c : Course) (len : ℕ) → IsServing stands p k (outside links door) out c → len ≡ POLL_LIMIT
+pub passed-follows : (side : Side) (stands : List PastLinkEvent → Type 0) (p : Prescribed) (k : Rounds) (links links' : Side → Link) (door door' : Door) (out : Written) (c : Course) (len : ℕ) → IsServing stands p k (outside links door) out c → len ≡ POLL_LIMIT
     → OneMoved side links links' door door' → (links' side).up ≡ (links side).up → (links' side).turns ≡ option_map (λ ts. after len (pending ts)) (links side).turns → (links' side).written ≡ (links side).written
     → IsServing stands p k (outside links' door') out (passed side c)
 passed-follows Client stands p k links links' door door' out c len f is moved u turns written =
@@ -236,7 +236,7 @@ passed-follows Host stands p k links links' door door' out c len f is moved u tu
     (passed-tells Host c.host_up links links' door door' out c len f.tells is moved (u ∙ f.tells.host.up-is) turns written)
 
 -- bytes have come
-pub took-follows : (stands : List LinkEvent → Type 0) (p : Prescribed) (k k' : Rounds) (w : Outside) (out : Written) (c : Course) (n : ℕ) → IsServing stands p k w out c → k' ≡ record k { busy = true; left = k.left - n }
+pub took-follows : (stands : List PastLinkEvent → Type 0) (p : Prescribed) (k k' : Rounds) (w : Outside) (out : Written) (c : Course) (n : ℕ) → IsServing stands p k w out c → k' ≡ record k { busy = true; left = k.left - n }
     → IsServing stands p k' w out (record c { busy = true; left = c.left - n })
 took-follows stands p k k' w out c n f kept =
     subst (λ (q : Rounds). IsServing stands p q w out (record c { busy = true; left = c.left - n })) (sym kept) (record {
@@ -251,7 +251,7 @@ took-follows stands p k k' w out c n f kept =
     })
 
 -- the link has ended
-ended-as : (side : Side) (stands : List LinkEvent → Type 0) (p : Prescribed) (k : Rounds) (links links' : Side → Link) (door door' : Door) (out : Written) (c : Course) (len : ℕ) → IsServing stands p k (outside links door) out c → len ≡ POLL_LIMIT
+ended-as : (side : Side) (stands : List PastLinkEvent → Type 0) (p : Prescribed) (k : Rounds) (links links' : Side → Link) (door door' : Door) (out : Written) (c : Course) (len : ℕ) → IsServing stands p k (outside links door) out c → len ≡ POLL_LIMIT
     → OneMoved side links links' door door' → (links' side).up ≡ false → (links' side).turns ≡ option_map (λ ts. after len (pending ts)) (links side).turns → (links' side).written ≡ (links side).written
     → IsServing stands p (record (with_down side k) { busy = true }) (outside links' door') out (record (down side (passed side c)) { busy = true })
 ended-as Client stands p k links links' door door' out c len f is moved u turns written =
@@ -261,7 +261,7 @@ ended-as Host stands p k links links' door door' out c len f is moved u turns wr
     let t = passed-tells Host false links links' door door' out c len f.tells is moved u turns written in
     record { stands_for = f.stands_for; tells = record { client = t.client; host = t.host; clients = t.clients; told = t.told; tape = t.tape }; client_up = f.client_up; host_up = refl; busy = refl; waits = f.waits; left = f.left; refused = f.refused }
 
-pub ended-follows : (side : Side) (stands : List LinkEvent → Type 0) (p : Prescribed) (k k' : Rounds) (links links' : Side → Link) (door door' : Door) (out : Written) (c : Course) (len : ℕ) → IsServing stands p k (outside links door) out c → len ≡ POLL_LIMIT
+pub ended-follows : (side : Side) (stands : List PastLinkEvent → Type 0) (p : Prescribed) (k k' : Rounds) (links links' : Side → Link) (door door' : Door) (out : Written) (c : Course) (len : ℕ) → IsServing stands p k (outside links door) out c → len ≡ POLL_LIMIT
     → OneMoved side links links' door door' → (links' side).up ≡ false → (links' side).turns ≡ option_map (λ ts. after len (pending ts)) (links side).turns → (links' side).written ≡ (links side).written
     → k' ≡ record (with_down side k) { busy = true } → IsServing stands p k' (outside links' door') out (record (down side (passed side c)) { busy = true })
 ended-follows side stands p k k' links links' door door' out c len f is moved u turns written kept =
@@ -290,7 +290,7 @@ failed-turns old new up turns written behind s fails is = go fails.turns
     go (inl same) = inl (same ∙ s.turns-is)
     go (inr t) = inr (t.4 ∙ ap Some (sym (is ∙ ap (λ (ts : List Turn). after POLL_LIMIT (pending ts)) (some-is turns t.0 (sym s.turns-is ∙ t.2)) ∙ ap (λ (ts : List Turn). after POLL_LIMIT ts) t.3)))
 
-pub failed-cut : {ran_out : List LinkEvent → LinkEvent → List ℕ → List ℕ → Type 0} → (side : Side) (s : Setting) (links links' : Side → Link) (door door' : Door) (out : Written) (c : Course) → Tells (outside links door) out c → is_up side c ≡ true → OneMoved side links links' door door'
+pub failed-cut : {ran_out : List PastLinkEvent → PastLinkEvent → List ℕ → List ℕ → Type 0} → (side : Side) (s : Setting) (links links' : Side → Link) (door door' : Door) (out : Written) (c : Course) → Tells (outside links door) out c → is_up side c ≡ true → OneMoved side links links' door door'
     → PollFails (links side) (links' side) → Cut ran_out (outside links' door') out c (course_of (call s (polls side) c))
 failed-cut {ran_out = ran_out} Client s links links' door door' out c t up moved fails =
     let m = heard-moves Client AtHost (answer POLL_LIMIT (pending c.client)) (given POLL_LIMIT (pending c.client)) (passed Client c) in
@@ -315,7 +315,7 @@ failed-cut {ran_out = ran_out} Host s links links' door door' out c t up moved f
       tape = same-recorded ran_out _ _ out c _ out.tape t.tape m.writes.recorded;
     })
 
-pub up-is : (side : Side) (stands : List LinkEvent → Type 0) (p : Prescribed) (k : Rounds) (w : Outside) (out : Written) (c : Course) (b : Bool) → IsServing stands p k w out c → up_of side k ≡ b → is_up side c ≡ b
+pub up-is : (side : Side) (stands : List PastLinkEvent → Type 0) (p : Prescribed) (k : Rounds) (w : Outside) (out : Written) (c : Course) (b : Bool) → IsServing stands p k w out c → up_of side k ≡ b → is_up side c ≡ b
 up-is Client stands p k w out c b f e = sym f.client_up ∙ e
 up-is Host stands p k w out c b f e = sym f.host_up ∙ e
 

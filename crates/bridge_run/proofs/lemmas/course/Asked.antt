@@ -5,7 +5,7 @@ use Rattle.gate_outside.specs.declared.turn.Polled.{Polled}
 use Rattle.gate_outside.specs.Link.{Link, Door}
 use Rattle.gate_outside.specs.Turns.{taken}
 use Rattle.gate_outside.specs.Doors.{GivesTurns}
-use Rattle.bridge_run.specs.events.Events.{LinkEvent}
+use Rattle.bridge_run.specs.events.Events.{PastLinkEvent}
 use Rattle.bridge_run.specs.declared.course.rounds.Rounds.{Rounds}
 use Rattle.bridge_run.specs.declared.course.serve_end.ServeEnd.{ServeEnd}
 use Rattle.bridge_run.specs.events.Prescribed.{Prescribed}
@@ -21,7 +21,7 @@ use Rattle.bridge_run.proofs.lemmas.course.Answers.{OneMoved, poll-call, up-is, 
 use Rattle.bridge_run.proofs.lemmas.course.Rest.{faults-then}
 
 -- a side whose link is up is polled, and serving goes on from what that gave
-pub polled-runs : {T : Type 0} → (result : Result T ServeEnd) (stands stands' : List LinkEvent → Type 0) (runs_out : List LinkEvent → LinkEvent → List ℕ → List ℕ → Type 0) (p : Prescribed) (side : Side) (k k1 k' : Rounds) (links : Side → Link) (door : Door) (w' : Outside) (out out' : Written) (c d : Course) (polled : Polled) (buf : List ℕ) (next : Next)
+pub polled-runs : {T : Type 0} → (result : Result T ServeEnd) (stands stands' : List PastLinkEvent → Type 0) (runs_out : List PastLinkEvent → PastLinkEvent → List ℕ → List ℕ → Type 0) (p : Prescribed) (side : Side) (k k1 k' : Rounds) (links : Side → Link) (door : Door) (w' : Outside) (out out' : Written) (c d : Course) (polled : Polled) (buf : List ℕ) (next : Next)
     → IsServing stands p k (outside links door) out c → up_of side k ≡ true → length buf ≡ POLL_LIMIT → IfSome (links side).turns (GivesTurns polled buf) → heard side (behind side) polled (take (taken polled) buf) (passed side c) ≡ Goes next d → k1.idle ≡ k.idle
     → RunsOn result stands' runs_out (setting p k1) k' w' out' (Goes next d) (behind side) → RunsOn result stands' runs_out (setting p k) k' w' out' (Goes (polls side) c) (behind side)
 polled-runs result stands stands' runs_out p side k k1 k' links door w' out out' c d polled buf next f up len gives is idle run =

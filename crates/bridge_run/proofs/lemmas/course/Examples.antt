@@ -3,13 +3,13 @@ use Rattle.std.proofs.Common.{◌≡◌, ℕ, true, false, List, [], ◌∷◌, 
 use Rattle.usb_base.specs.declared.side.Side.TheVariants.{Client, Host}
 use Rattle.gate_outside.specs.declared.turn.Turn.{Turn}
 use Rattle.gate_outside.specs.declared.turn.Turn.TheVariants.{Piece, Wait}
-use Rattle.bridge_run.specs.events.Events.{LinkEvent, ClientComes, ClientQuiet, SidePiece, SideEnd}
+use Rattle.bridge_run.specs.events.Events.{PastLinkEvent, ClientComes, ClientQuiet, SidePiece, SideEnd}
 use Rattle.bridge_run.specs.declared.course.serve_end.ServeEnd.TheVariants.{Ended}
 use Rattle.bridge_run.specs.course.Course.{Setting, Course, Making}
 use Rattle.bridge_run.specs.written.Recorded.{lines_of}
 use Rattle.bridge_run.specs.course.Calls.{Goes, Stops, calls}
 
-abbrev echo : List LinkEvent → List ℕ
+abbrev echo : List PastLinkEvent → List ℕ
 echo [] = []
 echo (ClientComes ∷ events) = echo events
 echo (ClientQuiet ∷ events) = echo events
@@ -38,7 +38,7 @@ start idle clients host = record {
 }
 
 -- an event's lines are put behind those before it
-abbrev behind : List ℕ → LinkEvent → List ℕ
+abbrev behind : List ℕ → PastLinkEvent → List ℕ
 behind lines e = lines ++ lines_of e []
 
 -- A host's three pieces and its end, and a client's one, behind which it waits once. Each piece is sent to the client,

@@ -7,7 +7,7 @@ use Rattle.std.specs.Io.KnownBytes.{append_known}
 use Rattle.usb_base.specs.declared.side.Side.{Side}
 use Rattle.usb_base.specs.declared.side.Side.TheVariants.{Client, Host}
 use Rattle.gate_outside.specs.Faults.{Rose}
-use Rattle.bridge_run.specs.events.Events.{LinkEvent}
+use Rattle.bridge_run.specs.events.Events.{PastLinkEvent}
 use Rattle.bridge_run.specs.declared.course.serve_end.ServeEnd.{ServeEnd}
 use Rattle.bridge_run.specs.declared.course.serve_end.ServeEnd.TheVariants.{Ended, LinkFault, WriteFault, Idle, Spent, Memory}
 use Rattle.bridge_run.specs.declared.course.rounds.Rounds.{Rounds}
@@ -60,7 +60,7 @@ rests-faults (Err Memory) k k' a b f g r n = absurd r
 -- ---- the course
 
 -- what is kept has become another, and so has the course
-rested : (stands : List LinkEvent → Type 0) (p : Prescribed) (k k' : Rounds) (w : Outside) (out : Written) (c : Course) (busy : Bool) (waits : ℕ) → IsServing stands p k w out c → k' ≡ record k { busy = busy; waits = waits }
+rested : (stands : List PastLinkEvent → Type 0) (p : Prescribed) (k k' : Rounds) (w : Outside) (out : Written) (c : Course) (busy : Bool) (waits : ℕ) → IsServing stands p k w out c → k' ≡ record k { busy = busy; waits = waits }
     → (n : ℕ) → waits ≡ n → IsServing stands p k' w out (record c { busy = busy; waits = n })
 rested stands p k k' w out c busy waits f kept n is =
     subst (λ (q : Rounds). IsServing stands p q w out (record c { busy = busy; waits = n })) (sym kept) (record {
@@ -84,7 +84,7 @@ pub record Flushes (busy : Bool) (out out' : Written) : Type 0 where
   pub tape : out'.tape ≡ append_known out.tape (written_if (not busy) out.waiting)
   pub waits : IfSome out'.tape (λ held. out'.waiting ≡ waiting_if (not busy) out.waiting)
 
-flushed : (busy : Bool) (stands : List LinkEvent → Type 0) (p : Prescribed) (k : Rounds) (w : Outside) (out out' : Written) (c : Course) → IsServing stands p k w out c → Flushes busy out out' → IsServing stands p k w out' (cond busy c (gathered c))
+flushed : (busy : Bool) (stands : List PastLinkEvent → Type 0) (p : Prescribed) (k : Rounds) (w : Outside) (out out' : Written) (c : Course) → IsServing stands p k w out c → Flushes busy out out' → IsServing stands p k w out' (cond busy c (gathered c))
 flushed true stands p k w out out' c f is =
     retold stands p k w w out out' c c.client c.host c.recorded c.waiting f (record {
       client = f.tells.client;
@@ -103,7 +103,7 @@ flushed false stands p k w out out' c f is =
       tape = moved (λ (l : List ℕ). l) (λ (l : List ℕ). []) out.tape out'.tape out.waiting out'.waiting c.recorded c.waiting f.tells.tape is.tape is.waits;
     })
 
-rest-ok : (b : Bool) (stands : List LinkEvent → Type 0) (runs_out : List LinkEvent → LinkEvent → List ℕ → List ℕ → Type 0) (p : Prescribed) (idle : ℕ) (k k' : Rounds) (w : Outside) (out : Written) (from : Outcome) (c : Course) → k.busy ≡ b → RestsBusy b k k' → k.idle ≡ idle
+rest-ok : (b : Bool) (stands : List PastLinkEvent → Type 0) (runs_out : List PastLinkEvent → PastLinkEvent → List ℕ → List ℕ → Type 0) (p : Prescribed) (idle : ℕ) (k k' : Rounds) (w : Outside) (out : Written) (from : Outcome) (c : Course) → k.busy ≡ b → RestsBusy b k k' → k.idle ≡ idle
     → IsServing stands p k w out (cond b c (gathered c)) → Reaches (record { served = p; idle = idle }) from (Goes AtEnd c) → RunsOn {T = Unit {0}} (Ok tt) stands runs_out (record { served = p; idle = idle }) k' w out from AtDoor
 rest-ok true stands runs_out p idle k k' w out from c is r same f reach =
     let s : Setting = record { served = p; idle = idle } in
@@ -125,7 +125,7 @@ rest-ok false stands runs_out p idle k k' w out from c is r same f reach =
       follows = rested stands p k k' w out (gathered c) false (k.waits - 1) f (r.0 ∙ ap (λ (b : Bool). record k { busy = b; waits = k.waits - 1 }) is) (c.waits - 1) fewer;
     }
 
-rest-idle : (stands : List LinkEvent → Type 0) (runs_out : List LinkEvent → LinkEvent → List ℕ → List ℕ → Type 0) (p : Prescribed) (idle : ℕ) (k k' : Rounds) (w : Outside) (out : Written) (from : Outcome) (c : Course) → Rests (Err Idle) k k'
+rest-idle : (stands : List PastLinkEvent → Type 0) (runs_out : List PastLinkEvent → PastLinkEvent → List ℕ → List ℕ → Type 0) (p : Prescribed) (idle : ℕ) (k k' : Rounds) (w : Outside) (out : Written) (from : Outcome) (c : Course) → Rests (Err Idle) k k'
     → IsServing stands p k w out (gathered c) → Reaches (record { served = p; idle = idle }) from (Goes AtEnd c) → RunsOn {T = Unit {0}} (Err Idle) stands runs_out (record { served = p; idle = idle }) k' w out from AtDoor
 rest-idle stands runs_out p idle k k' w out from c r f reach =
     let s : Setting = record { served = p; idle = idle } in
@@ -136,7 +136,7 @@ rest-idle stands runs_out p idle k k' w out from c r f reach =
       tells = record { client = f.tells.client; host = f.tells.host; clients = f.tells.clients; told = f.tells.told; tape = f.tells.tape };
     }
 
-pub rests : (result : Result (Unit {0}) ServeEnd) (stands : List LinkEvent → Type 0) (runs_out : List LinkEvent → LinkEvent → List ℕ → List ℕ → Type 0) (p : Prescribed) (idle : ℕ) (k k' : Rounds) (w : Outside) (out out' : Written) (from : Outcome) (c : Course) → Rests result k k' → k.idle ≡ idle
+pub rests : (result : Result (Unit {0}) ServeEnd) (stands : List PastLinkEvent → Type 0) (runs_out : List PastLinkEvent → PastLinkEvent → List ℕ → List ℕ → Type 0) (p : Prescribed) (idle : ℕ) (k k' : Rounds) (w : Outside) (out out' : Written) (from : Outcome) (c : Course) → Rests result k k' → k.idle ≡ idle
     → IsServing stands p k w out c → Flushes k.busy out out' → Reaches (record { served = p; idle = idle }) from (Goes AtEnd c) → RunsOn result stands runs_out (record { served = p; idle = idle }) k' w out' from AtDoor
 rests (Ok x) stands runs_out p idle k k' w out out' from c r same f is reach = rest-ok k.busy stands runs_out p idle k k' w out' from c refl r same (flushed k.busy stands p k w out out' c f is) reach
 rests (Err Idle) stands runs_out p idle k k' w out out' from c r same f is reach =
@@ -162,7 +162,7 @@ rest-moves true last s c = record { to_client = refl; to_host = refl; told = ref
 rest-moves false true s c = record { to_client = refl; to_host = refl; told = refl; recorded = refl }
 rest-moves false false s c = record { to_client = refl; to_host = refl; told = refl; recorded = refl }
 
-pub rest-cut : {ran_out : List LinkEvent → LinkEvent → List ℕ → List ℕ → Type 0} → (s : Setting) (busy : Bool) (w : Outside) (out out' : Written) (c : Course) → busy ≡ c.busy → Tells w out c → IsTold out' c.told → GrowsInPart out.tape out'.tape (written_if (not busy) out.waiting) → Cut ran_out w out' c (course_of (rest s c))
+pub rest-cut : {ran_out : List PastLinkEvent → PastLinkEvent → List ℕ → List ℕ → Type 0} → (s : Setting) (busy : Bool) (w : Outside) (out out' : Written) (c : Course) → busy ≡ c.busy → Tells w out c → IsTold out' c.told → GrowsInPart out.tape out'.tape (written_if (not busy) out.waiting) → Cut ran_out w out' c (course_of (rest s c))
 rest-cut {ran_out = ran_out} s busy w out out' c is t told grows =
     let d = course_of (rest s c) in
     let m : RestMoves c.busy c d = rest-moves c.busy (c.waits - 1 == 0) s c in
@@ -220,14 +220,14 @@ fewer-if_ok (Err e) k m n w live r = tt
 
 -- ---- one part of a round behind another
 
-pub goes-on : {T : Type 0} → (result : Result T ServeEnd) (stands stands2 : List LinkEvent → Type 0) (runs_out : List LinkEvent → LinkEvent → List ℕ → List ℕ → Type 0) (p : Prescribed) (k0 k1 k2 : Rounds) (w w2 : Outside) (out out2 : Written) (from : Outcome) (next1 next2 : Next)
+pub goes-on : {T : Type 0} → (result : Result T ServeEnd) (stands stands2 : List PastLinkEvent → Type 0) (runs_out : List PastLinkEvent → PastLinkEvent → List ℕ → List ℕ → Type 0) (p : Prescribed) (k0 k1 k2 : Rounds) (w w2 : Outside) (out out2 : Written) (from : Outcome) (next1 next2 : Next)
     → (a : Comes stands (setting p k0) k1 w out from next1) → k1.idle ≡ k0.idle → RunsOn result stands2 runs_out (setting p k1) k2 w2 out2 (Goes next1 a.course) next2 → RunsOn result stands2 runs_out (setting p k0) k2 w2 out2 from next2
 goes-on result stands stands2 runs_out p k0 k1 k2 w w2 out out2 from next1 next2 a idle b =
     runs-then result stands2 runs_out (setting p k0) k2 w2 out2 from next1 a.course next2 a.reaches
     (subst (λ (i : ℕ). RunsOn result stands2 runs_out (record { served = p; idle = i }) k2 w2 out2 (Goes next1 a.course) next2) idle b)
 
 -- behind a step that went well
-pub goes-ok : {stands stands2 : List LinkEvent → Type 0} {k1 k2 : Rounds} {w w2 : Outside} {out out2 : Written} {from : Outcome} {next1 next2 : Next} → (p : Prescribed) (k0 : Rounds)
+pub goes-ok : {stands stands2 : List PastLinkEvent → Type 0} {k1 k2 : Rounds} {w w2 : Outside} {out out2 : Written} {from : Outcome} {next1 next2 : Next} → (p : Prescribed) (k0 : Rounds)
     → (a : Comes stands (setting p k0) k1 w out from next1) → k1.idle ≡ k0.idle → Comes stands2 (setting p k1) k2 w2 out2 (Goes next1 a.course) next2 → Comes stands2 (setting p k0) k2 w2 out2 from next2
 goes-ok {stands2 = stands2} {k2 = k2} {w2 = w2} {out2 = out2} {from = from} {next1 = next1} {next2 = next2} p k0 a idle b =
     let c = subst (λ (i : ℕ). Comes stands2 (record { served = p; idle = i }) k2 w2 out2 (Goes next1 a.course) next2) idle b in

@@ -4,7 +4,7 @@ use Rattle.std.specs.Result.{OnOk}
 use Rattle.std.proofs.lemmas.Bool.Decides.{nat_tests}
 use Rattle.usb_base.specs.declared.refusal.Refusal.{Refusal}
 use Rattle.usb_base.specs.declared.side.Side.TheVariants.{Client, Host}
-use Rattle.bridge_run.specs.events.Events.{LinkEvent, ClientComes, SidePiece, ClientQuiet, SideEnd}
+use Rattle.bridge_run.specs.events.Events.{PastLinkEvent, ClientComes, SidePiece, ClientQuiet, SideEnd}
 use Rattle.bridge_run.specs.declared.course.serve_end.ServeEnd.{ServeEnd}
 use Rattle.bridge_run.specs.declared.course.serve_end.ServeEnd.TheVariants.{Ended, LinkFault, WriteFault, Idle, Spent, Memory}
 use Rattle.bridge_run.specs.declared.course.rounds.Rounds.{Rounds}
@@ -26,7 +26,7 @@ settle-course s next c =
     course-choice (not c.client_up && not c.host_up) (Stops (Ended (first_of (s.served.refusals c.events))) c) (cond (c.left == 0) (Stops Spent c) (Goes next c)) c refl
     (course-choice (c.left == 0) (Stops Spent c) (Goes next c) c refl refl)
 
-pub take-course : (s : Setting) (e : LinkEvent) (next : Next) (c : Course) → course_of (call s (Takes e next) c) ≡ put s.served e c
+pub take-course : (s : Setting) (e : PastLinkEvent) (next : Next) (c : Course) → course_of (call s (Takes e next) c) ≡ put s.served e c
 take-course s e next c =
     course-choice (ends_next e (drops s.served c.events e)) (Goes (Takes (SideEnd Client) next) (put s.served e c)) (settle s next (put s.served e c)) (put s.served e c) refl
     (settle-course s next (put s.served e c))
@@ -42,7 +42,7 @@ choice a b u v x y z p q = ap (λ (k : Bool). cond k x (cond b y z)) p ∙ ap (�
 over-is : (k : Rounds) (c : Course) (b : Bool) → k.client_up ≡ c.client_up → k.host_up ≡ c.host_up → is_over k ≡ b → (not c.client_up && not c.host_up) ≡ b
 over-is k c b p q is = ap (λ (u : Bool). not u && not c.host_up) (sym p) ∙ ap (λ (u : Bool). not k.client_up && not u) (sym q) ∙ is
 
-pub settled : (result : Result (Unit {0}) ServeEnd) (stands : List LinkEvent → Type 0) (runs_out : List LinkEvent → LinkEvent → List ℕ → List ℕ → Type 0) (p : Prescribed) (idle : ℕ) (k : Rounds) (w : Outside) (out : Written) (from : Outcome) (now : Next) (b : Course) (next : Next) (c : Course)
+pub settled : (result : Result (Unit {0}) ServeEnd) (stands : List PastLinkEvent → Type 0) (runs_out : List PastLinkEvent → PastLinkEvent → List ℕ → List ℕ → Type 0) (p : Prescribed) (idle : ℕ) (k : Rounds) (w : Outside) (out : Written) (from : Outcome) (now : Next) (b : Course) (next : Next) (c : Course)
     → Settles result k → IsServing stands p k w out c → Reaches (record { served = p; idle = idle }) from (Goes now b) → call (record { served = p; idle = idle }) now b ≡ settle (record { served = p; idle = idle }) next c
     → RunsOn result stands runs_out (record { served = p; idle = idle }) k w out from next
 settled (Ok x) stands runs_out p idle k w out from now b next c is f r e =
@@ -75,17 +75,17 @@ settled (Err WriteFault) stands runs_out p idle k w out from now b next c is f r
 settled (Err (LinkFault side)) stands runs_out p idle k w out from now b next c is f r e = absurd is
 
 -- what a taken event comes to where no end of the client is next, and where one is
-pub take-settles : (s : Setting) (e : LinkEvent) (next : Next) (c : Course) (refused : Bool) → refused ≡ drops s.served c.events e → ends_next e refused ≡ false
+pub take-settles : (s : Setting) (e : PastLinkEvent) (next : Next) (c : Course) (refused : Bool) → refused ≡ drops s.served c.events e → ends_next e refused ≡ false
     → call s (Takes e next) c ≡ settle s next (put s.served e c)
 take-settles s e next c refused is none = ap (λ (b : Bool). cond b (Goes (Takes (SideEnd Client) next) (put s.served e c)) (settle s next (put s.served e c))) (ap (λ (b : Bool). ends_next e b) (sym is) ∙ none)
 
-pub take-ends : (s : Setting) (e : LinkEvent) (next : Next) (c : Course) (refused : Bool) → refused ≡ drops s.served c.events e → ends_next e refused ≡ true
+pub take-ends : (s : Setting) (e : PastLinkEvent) (next : Next) (c : Course) (refused : Bool) → refused ≡ drops s.served c.events e → ends_next e refused ≡ true
     → call s (Takes e next) c ≡ Goes (Takes (SideEnd Client) next) (put s.served e c)
 take-ends s e next c refused is some = ap (λ (b : Bool). cond b (Goes (Takes (SideEnd Client) next) (put s.served e c)) (settle s next (put s.served e c))) (ap (λ (b : Bool). ends_next e b) (sym is) ∙ some)
 
 -- ---- a quiet client
 
-pub quiet-on : (e : LinkEvent) (refused : Bool) → refused ≡ false → ends_next e refused ≡ false
+pub quiet-on : (e : PastLinkEvent) (refused : Bool) → refused ≡ false → ends_next e refused ≡ false
 quiet-on ClientComes refused r = r
 quiet-on ClientQuiet refused r = r
 quiet-on (SidePiece side b) refused r = r

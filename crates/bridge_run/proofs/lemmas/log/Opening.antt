@@ -5,7 +5,7 @@ use Rattle.usb_base.specs.declared.side.Side.{Side}
 use Rattle.usb_base.specs.declared.side.Side.TheVariants.{Client, Host}
 use Rattle.gate_outside.specs.declared.fault.Failed.{Failed as Fault}
 use Rattle.gate_outside.specs.Calls.{Call, Dial, Listen, Called, went}
-use Rattle.bridge_run.specs.events.Events.{LinkEvent}
+use Rattle.bridge_run.specs.events.Events.{PastLinkEvent}
 use Rattle.bridge_run.specs.declared.course.rounds.Rounds.{Rounds}
 use Rattle.bridge_run.specs.declared.course.serve_end.ServeEnd.{ServeEnd}
 use Rattle.bridge_run.specs.declared.course.serve_end.ServeEnd.TheVariants as end
@@ -26,7 +26,7 @@ with_host host door taped idle budget = record { host = Some host; door = door; 
 abbrev pub no_host : (door : List ℕ) (idle budget : ℕ) → Terms
 no_host door idle budget = record { host = None; door = door; taped = false; idle = idle; budget = budget }
 
-pub nothing-before : {D : Type 0} → (gives : D → Call → D → Type 0) (runs_out : List LinkEvent → LinkEvent → List ℕ → List ℕ → Type 0) (tells : List ℕ → Type 0) (terms : Terms) (p : Prescribed) (now : D) → tells [] → Logged end.Memory gives runs_out tells terms p now now
+pub nothing-before : {D : Type 0} → (gives : D → Call → D → Type 0) (runs_out : List PastLinkEvent → PastLinkEvent → List ℕ → List ℕ → Type 0) (tells : List ℕ → Type 0) (terms : Terms) (p : Prescribed) (now : D) → tells [] → Logged end.Memory gives runs_out tells terms p now now
 nothing-before gives runs_out tells terms p now none = record { calls = []; called = refl; settled = tt; written = (refl, none); ended = tt }
 
 pub dial-failed : {D : Type 0} → (gives : D → Call → D → Type 0) (p : Prescribed) (host door : List ℕ) (taped : Bool) (idle budget : ℕ) (failed : Fault) (begun now : D) → gives begun (Dial host (Err failed)) now → OpenFailed Host gives (with_host host door taped idle budget) p begun now
@@ -100,12 +100,12 @@ open-err Q (Ok x) gives terms p begun now is logs = absurd is
 open-err Q (Err x) gives terms p begun now is logs = logs x is
 
 -- it ends at the opening, and no line was told
-pub open-logged : {D : Type 0} → (x : ServeEnd) (gives : D → Call → D → Type 0) (runs_out : List LinkEvent → LinkEvent → List ℕ → List ℕ → Type 0) (tells : List ℕ → Type 0) (terms : Terms) (p : Prescribed) (begun now : D) → tells [] → OpenLogs {T = Unit {0}} (Err x) gives terms p begun now → Logged x gives runs_out tells terms p begun now
+pub open-logged : {D : Type 0} → (x : ServeEnd) (gives : D → Call → D → Type 0) (runs_out : List PastLinkEvent → PastLinkEvent → List ℕ → List ℕ → Type 0) (tells : List ℕ → Type 0) (terms : Terms) (p : Prescribed) (begun now : D) → tells [] → OpenLogs {T = Unit {0}} (Err x) gives terms p begun now → Logged x gives runs_out tells terms p begun now
 open-logged (end.LinkFault side) gives runs_out tells terms p begun now none o = record {
   calls = o.calls;
   called = o.called;
   settled = o.settled;
-  written = subst (λ (es : List LinkEvent). WroteInPart tells terms p es o.calls) (sym o.none) (record { links = o.written; told = told-all tells (told_of p (events_before o.calls)) [] (front-whole [] _ (ap (told_of p) o.none_before)) none });
+  written = subst (λ (es : List PastLinkEvent). WroteInPart tells terms p es o.calls) (sym o.none) (record { links = o.written; told = told-all tells (told_of p (events_before o.calls)) [] (front-whole [] _ (ap (told_of p) o.none_before)) none });
   ended = o.failed;
 }
 open-logged (end.Ended refused) gives runs_out tells terms p begun now none o = absurd o
@@ -124,7 +124,7 @@ same-waits : (idle waits : ℕ) → waits ≡ idle → waits ≤ idle
 same-waits idle waits is = omega arith
 
 -- nothing has come
-begun-asking : {D : Type 0} → (gives : D → Call → D → Type 0) (stands : List LinkEvent → Type 0) (tells : List ℕ → Type 0) (terms : Terms) (p : Prescribed) (up : Bool) (k : Rounds) (begun now : D) (calls : List Call) → Called gives calls begun now → Settled terms p calls → asks_of calls ≡ [] → events_of calls ≡ [] → events_before calls ≡ []
+begun-asking : {D : Type 0} → (gives : D → Call → D → Type 0) (stands : List PastLinkEvent → Type 0) (tells : List ℕ → Type 0) (terms : Terms) (p : Prescribed) (up : Bool) (k : Rounds) (begun now : D) (calls : List Call) → Called gives calls begun now → Settled terms p calls → asks_of calls ≡ [] → events_of calls ≡ [] → events_before calls ≡ []
     → ((of : Side) → up_by of calls ≡ is_up of terms p []) → IsWritten terms p [] calls → stands [] → tells [] → p.refusals [] ≡ [] → up ≡ is_some terms.host → 0 < terms.idle → 0 < terms.budget → k ≡ record (fresh terms.idle terms.budget) { host_up = up } → IsAsking AtDoor gives stands tells terms p k begun now
 begun-asking gives stands tells terms p up k begun now calls called settled asks none before links w st told refusals host idle budget kept = record {
   asks = [];
@@ -135,14 +135,14 @@ begun-asking gives stands tells terms p up k begun now calls called settled asks
       settled = settled;
       asks-are = asks;
       stands_for = subst stands (sym none) st;
-      written = subst (λ (es : List LinkEvent). IsWritten terms p es calls) (sym none) w;
-      told = subst (λ (es : List LinkEvent). tells (told_of p es)) (sym none) told;
+      written = subst (λ (es : List PastLinkEvent). IsWritten terms p es calls) (sym none) w;
+      told = subst (λ (es : List PastLinkEvent). tells (told_of p es)) (sym none) told;
       told_before = front-whole (told_of p (events_of calls)) _ (ap (told_of p) (before ∙ sym none));
       left = all-left terms.budget k.left (ap (λ (q : Rounds). q.left) kept);
       client_up = ap (λ (q : Rounds). q.client_up) kept ∙ ap (client_behind p) (sym none);
       host_up = ap (λ (q : Rounds). q.host_up) kept ∙ host ∙ ap (host_since (is_some terms.host) p) (sym none);
       links = λ of. links of ∙ ap (is_up of terms p) (sym none);
-      refused = ap (λ (q : Rounds). q.refused) kept ∙ ap first_of (sym refusals) ∙ ap (λ (es : List LinkEvent). first_of (p.refusals es)) (sym none);
+      refused = ap (λ (q : Rounds). q.refused) kept ∙ ap first_of (sym refusals) ∙ ap (λ (es : List PastLinkEvent). first_of (p.refusals es)) (sym none);
     };
     goes_on = record { links = ap (is_over terms p) none; left = subst (λ (l : List Ask). taken l < terms.budget) (sym asks) budget };
   };
@@ -151,13 +151,13 @@ begun-asking gives stands tells terms p up k begun now calls called settled asks
   turn = λ up. refl;
 }
 
-pub opened-at : {D : Type 0} → (gives : D → Call → D → Type 0) (stands : List LinkEvent → Type 0) (tells : List ℕ → Type 0) (host door : List ℕ) (taped : Bool) (idle budget : ℕ) (p : Prescribed) (k : Rounds) (begun now : D) → HasOpened gives (with_host host door taped idle budget) p begun now → stands [] → tells []
+pub opened-at : {D : Type 0} → (gives : D → Call → D → Type 0) (stands : List PastLinkEvent → Type 0) (tells : List ℕ → Type 0) (host door : List ℕ) (taped : Bool) (idle budget : ℕ) (p : Prescribed) (k : Rounds) (begun now : D) → HasOpened gives (with_host host door taped idle budget) p begun now → stands [] → tells []
     → p.refusals [] ≡ [] → 0 < idle → 0 < budget → k ≡ record (fresh idle budget) { host_up = true } → IsAsking AtDoor gives stands tells (with_host host door taped idle budget) p k begun now
 opened-at gives stands tells host door taped idle budget p k begun now o st told refusals some much kept =
     begun-asking gives stands tells (with_host host door taped idle budget) p true k begun now o.calls o.called o.settled o.asked o.none o.none_before o.links o.written st told refusals refl some much kept
 
 -- with no host the door is made, and that is all
-pub door-failed : {D : Type 0} → (gives : D → Call → D → Type 0) (runs_out : List LinkEvent → LinkEvent → List ℕ → List ℕ → Type 0) (tells : List ℕ → Type 0) (p : Prescribed) (door : List ℕ) (idle budget : ℕ) (failed : Fault) (begun now : D) → gives begun (Listen door (Err failed)) now → tells []
+pub door-failed : {D : Type 0} → (gives : D → Call → D → Type 0) (runs_out : List PastLinkEvent → PastLinkEvent → List ℕ → List ℕ → Type 0) (tells : List ℕ → Type 0) (p : Prescribed) (door : List ℕ) (idle budget : ℕ) (failed : Fault) (begun now : D) → gives begun (Listen door (Err failed)) now → tells []
     → Logged (end.LinkFault Client) gives runs_out tells (no_host door idle budget) p begun now
 door-failed gives runs_out tells p door idle budget failed begun now g none = record {
   calls = Listen door (Err failed) ∷ [];
@@ -167,7 +167,7 @@ door-failed gives runs_out tells p door idle budget failed begun now g none = re
   ended = refl;
 }
 
-pub door-at : {D : Type 0} → (gives : D → Call → D → Type 0) (stands : List LinkEvent → Type 0) (tells : List ℕ → Type 0) (p : Prescribed) (k : Rounds) (idle budget : ℕ) (door : List ℕ) (answer : Result (Unit {0}) Fault) (begun now : D) → gives begun (Listen door answer) now → stands [] → tells []
+pub door-at : {D : Type 0} → (gives : D → Call → D → Type 0) (stands : List PastLinkEvent → Type 0) (tells : List ℕ → Type 0) (p : Prescribed) (k : Rounds) (idle budget : ℕ) (door : List ℕ) (answer : Result (Unit {0}) Fault) (begun now : D) → gives begun (Listen door answer) now → stands [] → tells []
     → p.refusals [] ≡ [] → 0 < idle → 0 < budget → k ≡ fresh idle budget → IsAsking AtDoor gives stands tells (no_host door idle budget) p k begun now
 door-at gives stands tells p k idle budget door answer begun now g st told refusals some much kept =
     begun-asking gives stands tells (no_host door idle budget) p false k begun now (Listen door answer ∷ []) (begun, (refl, g)) (tt, (refl, refl)) refl refl refl (λ of. door-links of door answer idle budget p) (record { client = refl; host = refl }) st told refusals refl some much kept

@@ -2,7 +2,7 @@
 use Rattle.std.proofs.Common.{◌≡◌, ℕ, ◌+◌, ◌-◌, ◌<◌, ◌≤◌, not, Bool, true, false, List, is_some, Result, Ok, Err, refl, sym, ap, ◌∙◌, subst, inr, arith}
 use Rattle.std.proofs.lemmas.Bool.{false≢true, not-true}
 use Rattle.gate_outside.specs.Calls.{Call}
-use Rattle.bridge_run.specs.events.Events.{LinkEvent}
+use Rattle.bridge_run.specs.events.Events.{PastLinkEvent}
 use Rattle.bridge_run.specs.declared.course.rounds.Rounds.{Rounds}
 use Rattle.bridge_run.specs.declared.course.serve_end.ServeEnd.{ServeEnd}
 use Rattle.bridge_run.specs.declared.course.serve_end.ServeEnd.TheVariants as end
@@ -16,7 +16,7 @@ use Rattle.bridge_run.specs.inner.Logging.{IsOn, IsAsking, Logs}
 use Rattle.bridge_run.proofs.lemmas.log.Log.{lines-fault}
 
 -- what was kept of the links is the same
-at-kept : {D : Type 0} → (gives : D → Call → D → Type 0) (stands : List LinkEvent → Type 0) (tells : List ℕ → Type 0) (terms : Terms) (p : Prescribed) (asks : List Ask) (k k' : Rounds) (begun now : D) → k'.left ≡ k.left → k'.client_up ≡ k.client_up → k'.host_up ≡ k.host_up → k'.refused ≡ k.refused
+at-kept : {D : Type 0} → (gives : D → Call → D → Type 0) (stands : List PastLinkEvent → Type 0) (tells : List ℕ → Type 0) (terms : Terms) (p : Prescribed) (asks : List Ask) (k k' : Rounds) (begun now : D) → k'.left ≡ k.left → k'.client_up ≡ k.client_up → k'.host_up ≡ k.host_up → k'.refused ≡ k.refused
     → IsOn gives stands tells terms p asks k begun now → IsOn gives stands tells terms p asks k' begun now
 at-kept gives stands tells terms p asks k k' begun now left client host refused a = record {
   at = record {
@@ -49,7 +49,7 @@ whole-wait w i is = omega arith
 less-wait : (w i w' : ℕ) → w' ≡ w - 1 → w ≤ i → w' ≤ i
 less-wait w i w' less within = omega arith
 
-rested-busy : {D : Type 0} → (busy : Bool) (gives : D → Call → D → Type 0) (stands : List LinkEvent → Type 0) (tells : List ℕ → Type 0) (terms : Terms) (p : Prescribed) (k k' : Rounds) (begun now : D) → k.busy ≡ busy → RestsBusy busy k k'
+rested-busy : {D : Type 0} → (busy : Bool) (gives : D → Call → D → Type 0) (stands : List PastLinkEvent → Type 0) (tells : List ℕ → Type 0) (terms : Terms) (p : Prescribed) (k k' : Rounds) (begun now : D) → k.busy ≡ busy → RestsBusy busy k k'
     → IsAsking AtEnd gives stands tells terms p k begun now → IsAsking AtDoor gives stands tells terms p k' begun now
 rested-busy true gives stands tells terms p k k' begun now is r a =
     let waits : k'.waits ≡ terms.idle = ap (λ (q : Rounds). q.waits) r ∙ a.patient.idle in
@@ -91,7 +91,7 @@ begins-of terms p k asks calls host is turn = λ up. ap is_behind_host is ∙ tu
 last-wait : (w q i w' : ℕ) → w + q ≡ i + 1 → w' ≡ w - 1 → w' ≡ 0 → 0 < w → q ≡ i
 last-wait w q i w' is less none some = omega arith
 
-pub rested-logs : {D : Type 0} → (result : Result (Unit {0}) ServeEnd) (gives : D → Call → D → Type 0) (stands : List LinkEvent → Type 0) (runs_out : List LinkEvent → LinkEvent → List ℕ → List ℕ → Type 0) (tells : List ℕ → Type 0) (terms : Terms) (p : Prescribed) (k k' : Rounds) (begun now : D) → Rests result k k'
+pub rested-logs : {D : Type 0} → (result : Result (Unit {0}) ServeEnd) (gives : D → Call → D → Type 0) (stands : List PastLinkEvent → Type 0) (runs_out : List PastLinkEvent → PastLinkEvent → List ℕ → List ℕ → Type 0) (tells : List ℕ → Type 0) (terms : Terms) (p : Prescribed) (k k' : Rounds) (begun now : D) → Rests result k k'
     → IsAsking AtEnd gives stands tells terms p k begun now → Logs result AtDoor gives stands runs_out tells terms p k' begun now
 rested-logs (Ok x) gives stands runs_out tells terms p k k' begun now r a = rested-busy k.busy gives stands tells terms p k k' begun now refl r a
 rested-logs (Err end.Idle) gives stands runs_out tells terms p k k' begun now r a = record {
@@ -108,7 +108,7 @@ rested-logs (Err end.WriteFault) gives stands runs_out tells terms p k k' begun 
 rested-logs (Err end.Memory) gives stands runs_out tells terms p k k' begun now r a = absurd r
 
 -- the lines that wait couldn't be written
-pub rest-fault : {D : Type 0} → (gives : D → Call → D → Type 0) (stands : List LinkEvent → Type 0) (runs_out : List LinkEvent → LinkEvent → List ℕ → List ℕ → Type 0) (tells : List ℕ → Type 0) (terms : Terms) (p : Prescribed) (k : Rounds) (begun now : D) → IsAsking AtEnd gives stands tells terms p k begun now → not k.busy ≡ true → terms.taped ≡ true
+pub rest-fault : {D : Type 0} → (gives : D → Call → D → Type 0) (stands : List PastLinkEvent → Type 0) (runs_out : List PastLinkEvent → PastLinkEvent → List ℕ → List ℕ → Type 0) (tells : List ℕ → Type 0) (terms : Terms) (p : Prescribed) (k : Rounds) (begun now : D) → IsAsking AtEnd gives stands tells terms p k begun now → not k.busy ≡ true → terms.taped ≡ true
     → Logged end.WriteFault gives runs_out tells terms p begun now
 rest-fault gives stands runs_out tells terms p k begun now a due taped =
     lines-fault gives stands runs_out tells terms p a.asks k begun now a.on.at

@@ -8,7 +8,7 @@ use Rattle.gate_outside.specs.declared.fault.Failed.{Failed as Fault}
 use Rattle.gate_outside.specs.declared.turn.Polled.{Polled}
 use Rattle.gate_outside.specs.declared.turn.Polled.TheVariants.{Took, NotYet, Ended, Failed}
 use Rattle.gate_outside.specs.Calls.{Call, Accept, Poll, written_by, went}
-use Rattle.bridge_run.specs.events.Events.{LinkEvent, ClientComes, ClientQuiet, SidePiece, SideEnd}
+use Rattle.bridge_run.specs.events.Events.{PastLinkEvent, ClientComes, ClientQuiet, SidePiece, SideEnd}
 use Rattle.bridge_run.specs.declared.course.rounds.Rounds.{Rounds}
 use Rattle.bridge_run.specs.declared.course.serve_end.ServeEnd.{ServeEnd}
 use Rattle.bridge_run.specs.declared.course.serve_end.ServeEnd.TheVariants as end
@@ -64,23 +64,23 @@ turn-of Host terms p k asks calls client host is waited turn up = (ap is_behind_
     gone false down just = down
 
 -- a side is up as is kept
-kept-up : {D : Type 0} → (side : Side) (gives : D → Call → D → Type 0) (stands : List LinkEvent → Type 0) (tells : List ℕ → Type 0) (terms : Terms) (p : Prescribed) (asks : List Ask) (k : Rounds) (begun now : D) → (at : IsAt gives stands tells terms p asks k begun now) → is_up side terms p (events_of at.calls) ≡ up_of side k
+kept-up : {D : Type 0} → (side : Side) (gives : D → Call → D → Type 0) (stands : List PastLinkEvent → Type 0) (tells : List ℕ → Type 0) (terms : Terms) (p : Prescribed) (asks : List Ask) (k : Rounds) (begun now : D) → (at : IsAt gives stands tells terms p asks k begun now) → is_up side terms p (events_of at.calls) ≡ up_of side k
 kept-up Client gives stands tells terms p asks k begun now at = sym at.client_up
 kept-up Host gives stands tells terms p asks k begun now at = sym at.host_up
 
 -- a side is polled
-pub may-poll : {D : Type 0} → (side : Side) (gives : D → Call → D → Type 0) (stands : List LinkEvent → Type 0) (tells : List ℕ → Type 0) (terms : Terms) (p : Prescribed) (k : Rounds) (begun now : D) → up_of side k ≡ true
+pub may-poll : {D : Type 0} → (side : Side) (gives : D → Call → D → Type 0) (stands : List PastLinkEvent → Type 0) (tells : List ℕ → Type 0) (terms : Terms) (p : Prescribed) (k : Rounds) (begun now : D) → up_of side k ≡ true
     → (a : IsAsking (polls side) gives stands tells terms p k begun now) → MayAsk side terms p a.on.at.calls × IsTurnOf side terms p a.on.at.calls × (is_up side terms p (events_of a.on.at.calls) ≡ true)
 may-poll side gives stands tells terms p k begun now up a = (record { written = a.on.at.written; goes_on = a.on.goes_on; round = may-begin side terms k a.asks a.on.at.calls a.on.at.asks-are a.patient a.waited up; links = a.on.at.links }, turn-of side terms p k a.asks a.on.at.calls a.on.at.client_up a.on.at.host_up a.on.at.asks-are a.waited a.turn up, kept-up side gives stands tells terms p a.asks k begun now a.on.at ∙ up)
 
-pub may-accept : {D : Type 0} → (gives : D → Call → D → Type 0) (stands : List LinkEvent → Type 0) (tells : List ℕ → Type 0) (terms : Terms) (p : Prescribed) (k : Rounds) (begun now : D) → k.client_up ≡ false → (a : IsAsking AtDoor gives stands tells terms p k begun now) → MayAsk Client terms p a.on.at.calls × BeginsRound terms p a.on.at.calls × (is_up Client terms p (events_of a.on.at.calls) ≡ false)
+pub may-accept : {D : Type 0} → (gives : D → Call → D → Type 0) (stands : List PastLinkEvent → Type 0) (tells : List ℕ → Type 0) (terms : Terms) (p : Prescribed) (k : Rounds) (begun now : D) → k.client_up ≡ false → (a : IsAsking AtDoor gives stands tells terms p k begun now) → MayAsk Client terms p a.on.at.calls × BeginsRound terms p a.on.at.calls × (is_up Client terms p (events_of a.on.at.calls) ≡ false)
 may-accept gives stands tells terms p k begun now down a =
     (record { written = a.on.at.written; goes_on = a.on.goes_on; round = subst (λ (l : List Ask). quiet_rounds l < terms.idle) (sym a.on.at.asks-are) (door-begins terms k a.asks a.patient a.waited); links = a.on.at.links }, begins-of terms p k a.asks a.on.at.calls a.on.at.host_up a.on.at.asks-are a.turn, sym a.on.at.client_up ∙ down)
 
 -- ---- what the doors answered
 
 -- a call that wrote nothing behind these
-quiet-written : (terms : Terms) (p : Prescribed) (events : List LinkEvent) (calls : List Call) (call : Call) → written_by Client call ≡ [] → written_by Host call ≡ [] → IsWritten terms p events calls → IsWritten terms p events (call ∷ calls)
+quiet-written : (terms : Terms) (p : Prescribed) (events : List PastLinkEvent) (calls : List Call) (call : Call) → written_by Client call ≡ [] → written_by Host call ≡ [] → IsWritten terms p events calls → IsWritten terms p events (call ∷ calls)
 quiet-written terms p events calls call client host w = record {
   client = ap (λ (l : List ℕ). went Client calls ++ l) client ∙ append-nil (went Client calls) ∙ w.client;
   host = ap (λ (l : List ℕ). went Host calls ++ l) host ∙ append-nil (went Host calls) ∙ w.host;
@@ -99,7 +99,7 @@ some-left : (b t n : ℕ) → n ≡ 0 → t < b → t + n < b
 some-left b t n none is = omega arith
 
 -- a call whose answer is an event, which is still to be taken
-brings-taking : {D : Type 0} → (gives : D → Call → D → Type 0) (stands : List LinkEvent → Type 0) (tells : List ℕ → Type 0) (terms : Terms) (p : Prescribed) (asks : List Ask) (ask : Ask) (call : Call) (e : LinkEvent) (k k' : Rounds) (begun d0 d1 : D) → (at : IsAt gives stands tells terms p asks k begun d0) → gives d0 call d1
+brings-taking : {D : Type 0} → (gives : D → Call → D → Type 0) (stands : List PastLinkEvent → Type 0) (tells : List ℕ → Type 0) (terms : Terms) (p : Prescribed) (asks : List Ask) (ask : Ask) (call : Call) (e : PastLinkEvent) (k k' : Rounds) (begun d0 d1 : D) → (at : IsAt gives stands tells terms p asks k begun d0) → gives d0 call d1
     → AsksSettled terms p call at.calls → asks_of (call ∷ at.calls) ≡ ask ∷ asks_of at.calls → events_of (call ∷ at.calls) ≡ e ∷ events_of at.calls → events_before (call ∷ at.calls) ≡ events_of at.calls → JustCame (call ∷ at.calls) → IsWritten terms p (events_of at.calls) (call ∷ at.calls)
     → k'.left ≡ terms.budget - taken (ask ∷ asks) → k'.client_up ≡ client_at e (client_behind p (events_of at.calls)) → k'.host_up ≡ host_at e (host_since (is_some terms.host) p (events_of at.calls)) → ((of : Side) → up_by of (call ∷ at.calls) ≡ up_at of terms p e (events_of at.calls)) → k'.refused ≡ k.refused
     → IsTaking gives stands tells terms p (ask ∷ asks) e k' begun d1
@@ -123,7 +123,7 @@ brings-taking gives stands tells terms p asks ask call e k k' begun d0 d1 at g m
 }
 
 -- a call whose answer is no event, and brings nothing
-quiet-on : {D : Type 0} → (gives : D → Call → D → Type 0) (stands : List LinkEvent → Type 0) (tells : List ℕ → Type 0) (terms : Terms) (p : Prescribed) (asks : List Ask) (ask : Ask) (call : Call) (k : Rounds) (begun d0 d1 : D) → (on : IsOn gives stands tells terms p asks k begun d0) → gives d0 call d1
+quiet-on : {D : Type 0} → (gives : D → Call → D → Type 0) (stands : List PastLinkEvent → Type 0) (tells : List ℕ → Type 0) (terms : Terms) (p : Prescribed) (asks : List Ask) (ask : Ask) (call : Call) (k : Rounds) (begun d0 d1 : D) → (on : IsOn gives stands tells terms p asks k begun d0) → gives d0 call d1
     → AsksSettled terms p call on.at.calls → written_by Client call ≡ [] → written_by Host call ≡ [] → asks_of (call ∷ on.at.calls) ≡ ask ∷ asks_of on.at.calls → events_of (call ∷ on.at.calls) ≡ events_of on.at.calls → events_before (call ∷ on.at.calls) ≡ events_of on.at.calls → ((of : Side) → up_by of (call ∷ on.at.calls) ≡ up_by of on.at.calls) → taken_by ask ≡ 0
     → IsOn gives stands tells terms p (ask ∷ asks) k begun d1
 quiet-on gives stands tells terms p asks ask call k begun d0 d1 on g may client host asked same before links none =
@@ -136,17 +136,17 @@ quiet-on gives stands tells terms p asks ask call k begun d0 d1 on g may client 
         settled = (at.settled, may);
         asks-are = asked ∙ ap (λ (l : List Ask). ask ∷ l) at.asks-are;
         stands_for = subst stands same' at.stands_for;
-        written = subst (λ (events : List LinkEvent). IsWritten terms p events (call ∷ at.calls)) same' (quiet-written terms p (events_of at.calls) at.calls call client host at.written);
-        told = subst (λ (events : List LinkEvent). tells (told_of p events)) same' at.told;
+        written = subst (λ (events : List PastLinkEvent). IsWritten terms p events (call ∷ at.calls)) same' (quiet-written terms p (events_of at.calls) at.calls call client host at.written);
+        told = subst (λ (events : List PastLinkEvent). tells (told_of p events)) same' at.told;
         told_before = front-whole (told_of p (events_of (call ∷ at.calls))) _ (ap (told_of p) (before ∙ same'));
         left = all-left terms.budget (taken asks) (taken_by ask) k.left none at.left;
         client_up = at.client_up ∙ ap (client_behind p) same';
         host_up = at.host_up ∙ ap (host_since (is_some terms.host) p) same';
         links = λ of. links of ∙ at.links of ∙ ap (is_up of terms p) same';
-        refused = at.refused ∙ ap (λ (events : List LinkEvent). first_of (p.refusals events)) same';
+        refused = at.refused ∙ ap (λ (events : List PastLinkEvent). first_of (p.refusals events)) same';
       };
       goes_on = record {
-        links = subst (λ (events : List LinkEvent). is_over terms p events ≡ false) same' on.goes_on.links;
+        links = subst (λ (events : List PastLinkEvent). is_over terms p events ≡ false) same' on.goes_on.links;
         left = subst (λ (l : List Ask). taken l < terms.budget) (sym asked) (some-left terms.budget (taken (asks_of at.calls)) (taken_by ask) none on.goes_on.left);
       };
     }
@@ -182,7 +182,7 @@ client-links : (of : Side) (terms : Terms) (p : Prescribed) (calls : List Call) 
 client-links Client terms p calls is = refl
 client-links Host terms p calls is = is
 
-pub took-taking : {D : Type 0} → (gives : D → Call → D → Type 0) (stands : List LinkEvent → Type 0) (tells : List ℕ → Type 0) (terms : Terms) (p : Prescribed) (side : Side) (n : ℕ) (buf : List ℕ) (k k' : Rounds) (begun d0 d1 : D) → (a : IsAsking (polls side) gives stands tells terms p k begun d0)
+pub took-taking : {D : Type 0} → (gives : D → Call → D → Type 0) (stands : List PastLinkEvent → Type 0) (tells : List ℕ → Type 0) (terms : Terms) (p : Prescribed) (side : Side) (n : ℕ) (buf : List ℕ) (k k' : Rounds) (begun d0 d1 : D) → (a : IsAsking (polls side) gives stands tells terms p k begun d0)
     → up_of side k ≡ true → gives d0 (Poll side (Took n) buf) d1 → k' ≡ record k { busy = true; left = k.left - n } → IsTaking gives stands tells terms p (OfSide side (Took n) ∷ a.asks) (SidePiece side (take n buf)) k' begun d1
 took-taking gives stands tells terms p side n buf k k' begun d0 d1 a up g kept =
     let at = a.on.at in
@@ -194,7 +194,7 @@ took-taking gives stands tells terms p side n buf k k' begun d0 d1 a up g kept =
     (λ of. piece-links side of n buf terms p at.calls (at.links of))
     (ap (λ (q : Rounds). q.refused) kept)
 
-pub rest-resting : {D : Type 0} → (gives : D → Call → D → Type 0) (stands : List LinkEvent → Type 0) (tells : List ℕ → Type 0) (terms : Terms) (p : Prescribed) (side : Side) (buf : List ℕ) (k : Rounds) (begun d0 d1 : D) → (a : IsAsking (polls side) gives stands tells terms p k begun d0)
+pub rest-resting : {D : Type 0} → (gives : D → Call → D → Type 0) (stands : List PastLinkEvent → Type 0) (tells : List ℕ → Type 0) (terms : Terms) (p : Prescribed) (side : Side) (buf : List ℕ) (k : Rounds) (begun d0 d1 : D) → (a : IsAsking (polls side) gives stands tells terms p k begun d0)
     → up_of side k ≡ true → gives d0 (Poll side NotYet buf) d1 → IsResting side gives stands tells terms p (OfSide side NotYet ∷ a.asks) k begun d1
 rest-resting gives stands tells terms p Client buf k begun d0 d1 a up g =
     let at = a.on.at in
@@ -220,7 +220,7 @@ down-host : (side : Side) (k k' : Rounds) (up : Bool) → k' ≡ record (with_do
 down-host Client k k' up is was = ap (λ (q : Rounds). q.host_up) is ∙ was
 down-host Host k k' up is was = ap (λ (q : Rounds). q.host_up) is
 
-pub end-taking : {D : Type 0} → (gives : D → Call → D → Type 0) (stands : List LinkEvent → Type 0) (tells : List ℕ → Type 0) (terms : Terms) (p : Prescribed) (side : Side) (buf : List ℕ) (k k' : Rounds) (begun d0 d1 : D) → (a : IsAsking (polls side) gives stands tells terms p k begun d0)
+pub end-taking : {D : Type 0} → (gives : D → Call → D → Type 0) (stands : List PastLinkEvent → Type 0) (tells : List ℕ → Type 0) (terms : Terms) (p : Prescribed) (side : Side) (buf : List ℕ) (k k' : Rounds) (begun d0 d1 : D) → (a : IsAsking (polls side) gives stands tells terms p k begun d0)
     → up_of side k ≡ true → gives d0 (Poll side Ended buf) d1 → k' ≡ record (with_down side k) { busy = true } → IsTaking gives stands tells terms p (OfSide side Ended ∷ a.asks) (SideEnd side) k' begun d1
 end-taking gives stands tells terms p side buf k k' begun d0 d1 a up g kept =
     let at = a.on.at in
@@ -229,13 +229,13 @@ end-taking gives stands tells terms p side buf k k' begun d0 d1 a up g kept =
     (quiet-written terms p events at.calls (Poll side Ended buf) refl refl at.written) (down-left side k k' kept ∙ same-left terms.budget (taken a.asks) k.left at.left)
     (down-client side k k' (client_behind p events) kept at.client_up) (down-host side k k' (host_since (is_some terms.host) p events) kept at.host_up) (λ of. end-links side of buf terms p at.calls (at.links of)) (down-refused side k k' kept)
 
-pub poll-failed : {D : Type 0} → (gives : D → Call → D → Type 0) (stands : List LinkEvent → Type 0) (runs_out : List LinkEvent → LinkEvent → List ℕ → List ℕ → Type 0) (tells : List ℕ → Type 0) (terms : Terms) (p : Prescribed) (side : Side) (buf : List ℕ) (k : Rounds) (begun d0 d1 : D) → IsAsking (polls side) gives stands tells terms p k begun d0
+pub poll-failed : {D : Type 0} → (gives : D → Call → D → Type 0) (stands : List PastLinkEvent → Type 0) (runs_out : List PastLinkEvent → PastLinkEvent → List ℕ → List ℕ → Type 0) (tells : List ℕ → Type 0) (terms : Terms) (p : Prescribed) (side : Side) (buf : List ℕ) (k : Rounds) (begun d0 d1 : D) → IsAsking (polls side) gives stands tells terms p k begun d0
     → up_of side k ≡ true → gives d0 (Poll side Failed buf) d1 → Logged (end.LinkFault side) gives runs_out tells terms p begun d1
 poll-failed gives stands runs_out tells terms p side buf k begun d0 d1 a up g =
     failed-logs gives stands runs_out tells terms p a.asks side (Poll side Failed buf) k begun d0 d1 a.on.at (d0, (a.on.at.called, g)) (a.on.at.settled, may-poll side gives stands tells terms p k begun d0 up a) refl refl
     (quiet-written terms p (events_of a.on.at.calls) a.on.at.calls (Poll side Failed buf) refl refl a.on.at.written) refl
 
-pub came-taking : {D : Type 0} → (gives : D → Call → D → Type 0) (stands : List LinkEvent → Type 0) (tells : List ℕ → Type 0) (terms : Terms) (p : Prescribed) (k k' : Rounds) (begun d0 d1 : D) → k.client_up ≡ false → (a : IsAsking AtDoor gives stands tells terms p k begun d0) → gives d0 (Accept (Ok true)) d1
+pub came-taking : {D : Type 0} → (gives : D → Call → D → Type 0) (stands : List PastLinkEvent → Type 0) (tells : List ℕ → Type 0) (terms : Terms) (p : Prescribed) (k k' : Rounds) (begun d0 d1 : D) → k.client_up ≡ false → (a : IsAsking AtDoor gives stands tells terms p k begun d0) → gives d0 (Accept (Ok true)) d1
     → k' ≡ record k { client_up = true; busy = true; left = k.left - 1 } → IsTaking gives stands tells terms p (ForClient (Ok true) ∷ a.asks) ClientComes k' begun d1
 came-taking gives stands tells terms p k k' begun d0 d1 down a g kept =
     let at = a.on.at in
@@ -246,7 +246,7 @@ came-taking gives stands tells terms p k k' begun d0 d1 down a g kept =
 asked-more : (w q i o : ℕ) → w + q ≡ i + 0 → o ≡ 1 → w + (q + 1) ≡ i + o
 asked-more w q i o is one = omega arith
 
-pub nobody-at : {D : Type 0} → (gives : D → Call → D → Type 0) (stands : List LinkEvent → Type 0) (tells : List ℕ → Type 0) (terms : Terms) (p : Prescribed) (k : Rounds) (begun d0 d1 : D) → IsAsking AtDoor gives stands tells terms p k begun d0 → k.client_up ≡ false → gives d0 (Accept (Ok false)) d1
+pub nobody-at : {D : Type 0} → (gives : D → Call → D → Type 0) (stands : List PastLinkEvent → Type 0) (tells : List ℕ → Type 0) (terms : Terms) (p : Prescribed) (k : Rounds) (begun d0 d1 : D) → IsAsking AtDoor gives stands tells terms p k begun d0 → k.client_up ≡ false → gives d0 (Accept (Ok false)) d1
     → IsAsking AtClient gives stands tells terms p k begun d1
 nobody-at gives stands tells terms p k begun d0 d1 a down g = record {
   asks = ForClient (Ok false) ∷ a.asks;
@@ -260,7 +260,7 @@ nobody-at gives stands tells terms p k begun d0 d1 a down g = record {
   turn = subst (λ (b : Bool). DoorTurn b k (ForClient (Ok false) ∷ a.asks)) (sym down) refl;
 }
 
-pub accept-failed : {D : Type 0} → (gives : D → Call → D → Type 0) (stands : List LinkEvent → Type 0) (runs_out : List LinkEvent → LinkEvent → List ℕ → List ℕ → Type 0) (tells : List ℕ → Type 0) (terms : Terms) (p : Prescribed) (failed : Fault) (k : Rounds) (begun d0 d1 : D) → k.client_up ≡ false → IsAsking AtDoor gives stands tells terms p k begun d0
+pub accept-failed : {D : Type 0} → (gives : D → Call → D → Type 0) (stands : List PastLinkEvent → Type 0) (runs_out : List PastLinkEvent → PastLinkEvent → List ℕ → List ℕ → Type 0) (tells : List ℕ → Type 0) (terms : Terms) (p : Prescribed) (failed : Fault) (k : Rounds) (begun d0 d1 : D) → k.client_up ≡ false → IsAsking AtDoor gives stands tells terms p k begun d0
     → gives d0 (Accept (Err failed)) d1 → Logged (end.LinkFault Client) gives runs_out tells terms p begun d1
 accept-failed gives stands runs_out tells terms p failed k begun d0 d1 down a g =
     failed-logs gives stands runs_out tells terms p a.asks Client (Accept (Err failed)) k begun d0 d1 a.on.at (d0, (a.on.at.called, g)) (a.on.at.settled, may-accept gives stands tells terms p k begun d0 down a) refl refl
@@ -269,7 +269,7 @@ accept-failed gives stands runs_out tells terms p failed k begun d0 d1 down a g 
 -- ---- behind an answer
 
 -- the client is there, and is polled next
-pub there-asking : {D : Type 0} → (gives : D → Call → D → Type 0) (stands : List LinkEvent → Type 0) (tells : List ℕ → Type 0) (terms : Terms) (p : Prescribed) (k : Rounds) (begun now : D) → k.client_up ≡ true → IsAsking AtDoor gives stands tells terms p k begun now
+pub there-asking : {D : Type 0} → (gives : D → Call → D → Type 0) (stands : List PastLinkEvent → Type 0) (tells : List ℕ → Type 0) (terms : Terms) (p : Prescribed) (k : Rounds) (begun now : D) → k.client_up ≡ true → IsAsking AtDoor gives stands tells terms p k begun now
     → IsAsking AtClient gives stands tells terms p k begun now
 there-asking gives stands tells terms p k begun now there a = record {
   asks = a.asks;
@@ -284,7 +284,7 @@ there-asking gives stands tells terms p k begun now there a = record {
 }
 
 -- the side isn't there, and isn't polled
-pub gone-asking : {D : Type 0} → (side : Side) (gives : D → Call → D → Type 0) (stands : List LinkEvent → Type 0) (tells : List ℕ → Type 0) (terms : Terms) (p : Prescribed) (k : Rounds) (begun now : D) → up_of side k ≡ false → IsAsking (polls side) gives stands tells terms p k begun now
+pub gone-asking : {D : Type 0} → (side : Side) (gives : D → Call → D → Type 0) (stands : List PastLinkEvent → Type 0) (tells : List ℕ → Type 0) (terms : Terms) (p : Prescribed) (k : Rounds) (begun now : D) → up_of side k ≡ false → IsAsking (polls side) gives stands tells terms p k begun now
     → IsAsking (behind side) gives stands tells terms p k begun now
 gone-asking Client gives stands tells terms p k begun now down a = record {
   asks = a.asks;
@@ -331,7 +331,7 @@ came-turn true k asks = inl refl
 came-turn false k asks = refl
 
 -- something has come of a side
-pub came-logs : {D : Type 0} → (result : Result (Unit {0}) ServeEnd) (gives : D → Call → D → Type 0) (stands : List LinkEvent → Type 0) (runs_out : List LinkEvent → LinkEvent → List ℕ → List ℕ → Type 0) (tells : List ℕ → Type 0) (terms : Terms) (p : Prescribed) (side : Side) (polled : Polled) (asks : List Ask) (k k1 k2 : Rounds) (begun now : D)
+pub came-logs : {D : Type 0} → (result : Result (Unit {0}) ServeEnd) (gives : D → Call → D → Type 0) (stands : List PastLinkEvent → Type 0) (runs_out : List PastLinkEvent → PastLinkEvent → List ℕ → List ℕ → Type 0) (tells : List ℕ → Type 0) (terms : Terms) (p : Prescribed) (side : Side) (polled : Polled) (asks : List Ask) (k k1 k2 : Rounds) (begun now : D)
     → HappenLogs result gives stands runs_out tells terms p (OfSide side polled ∷ asks) k2 begun now → quiet_rounds (OfSide side polled ∷ asks) ≡ 0 → IsPatient terms k → k1.busy ≡ true → k1.idle ≡ k.idle → k1.waits ≡ k.waits → Wears k1 k2
     → Logs result (behind side) gives stands runs_out tells terms p k2 begun now
 came-logs (Ok x) gives stands runs_out tells terms p side polled asks k k1 k2 begun now h none patient busy idle waits w = record {
@@ -344,7 +344,7 @@ came-logs (Ok x) gives stands runs_out tells terms p side polled asks k k1 k2 be
 came-logs (Err e) gives stands runs_out tells terms p side polled asks k k1 k2 begun now h none patient busy idle waits w = h
 
 -- a client has come
-pub client-logs : {D : Type 0} → (result : Result (Unit {0}) ServeEnd) (gives : D → Call → D → Type 0) (stands : List LinkEvent → Type 0) (runs_out : List LinkEvent → LinkEvent → List ℕ → List ℕ → Type 0) (tells : List ℕ → Type 0) (terms : Terms) (p : Prescribed) (asks : List Ask) (k k1 k2 : Rounds) (begun now : D)
+pub client-logs : {D : Type 0} → (result : Result (Unit {0}) ServeEnd) (gives : D → Call → D → Type 0) (stands : List PastLinkEvent → Type 0) (runs_out : List PastLinkEvent → PastLinkEvent → List ℕ → List ℕ → Type 0) (tells : List ℕ → Type 0) (terms : Terms) (p : Prescribed) (asks : List Ask) (k k1 k2 : Rounds) (begun now : D)
     → HappenLogs result gives stands runs_out tells terms p (ForClient (Ok true) ∷ asks) k2 begun now → IsPatient terms k → k1.busy ≡ true → k1.idle ≡ k.idle → k1.waits ≡ k.waits → Wears k1 k2
     → Logs result AtClient gives stands runs_out tells terms p k2 begun now
 client-logs (Ok x) gives stands runs_out tells terms p asks k k1 k2 begun now h patient busy idle waits w = record {
@@ -366,7 +366,7 @@ quiet-waited Client terms k asks w up = record {
 }
 quiet-waited Host terms k asks w up = record { came = λ there. refl; busy = w.busy; quiet = w.quiet }
 
-pub quiet-logs : {D : Type 0} → (result : Result (Unit {0}) ServeEnd) (gives : D → Call → D → Type 0) (stands : List LinkEvent → Type 0) (runs_out : List LinkEvent → LinkEvent → List ℕ → List ℕ → Type 0) (tells : List ℕ → Type 0) (terms : Terms) (p : Prescribed) (side : Side) (asks : List Ask) (k k1 : Rounds) (begun now : D)
+pub quiet-logs : {D : Type 0} → (result : Result (Unit {0}) ServeEnd) (gives : D → Call → D → Type 0) (stands : List PastLinkEvent → Type 0) (runs_out : List PastLinkEvent → PastLinkEvent → List ℕ → List ℕ → Type 0) (tells : List ℕ → Type 0) (terms : Terms) (p : Prescribed) (side : Side) (asks : List Ask) (k k1 : Rounds) (begun now : D)
     → HappenLogs result gives stands runs_out tells terms p (OfSide side NotYet ∷ asks) k1 begun now → IsPatient terms k → Waits (polls side) terms k asks → up_of side k ≡ true → OnOk result (k1 ≡ k)
     → Logs result (behind side) gives stands runs_out tells terms p k1 begun now
 quiet-logs (Ok x) gives stands runs_out tells terms p side asks k k1 begun now h patient w up same = record {

@@ -4,7 +4,7 @@ use Rattle.std.proofs.lemmas.List.{append_cancel_left}
 use Rattle.usb_base.specs.declared.side.Side.TheVariants.{Client, Host}
 use Rattle.gate_outside.specs.declared.turn.Polled.TheVariants.{Took, NotYet, Ended, Failed}
 use Rattle.gate_outside.specs.Calls.{Call, Dial, Listen, Accept, Poll, Write, Close, written_by, went}
-use Rattle.bridge_run.specs.events.Events.{LinkEvent, ClientComes, SideEnd}
+use Rattle.bridge_run.specs.events.Events.{PastLinkEvent, ClientComes, SideEnd}
 use Rattle.bridge_run.specs.events.Prescribed.{Prescribed, gained}
 use Rattle.bridge_run.specs.course.Calls.{ends_next}
 use Rattle.bridge_run.specs.written.Ups.{client_at, client_behind, to_clients}
@@ -29,11 +29,11 @@ got-joined (Poll side polled buf ∷ calls) = same-joined (got_by calls) (went C
 got-joined (Write side bytes answer ∷ calls) = more-joined (got_by calls).earlier (got_by calls).latest (written_by Client (Write side bytes answer)) (went Client calls) (got-joined calls)
 got-joined (Close side ∷ calls) = same-joined (got_by calls) (went Client calls) (got-joined calls)
 
-event-joined : (e : LinkEvent) (bytes all : List ℕ) (s : Shares) → joined s ≡ all → joined (with_event e bytes s) ≡ all ++ bytes
+event-joined : (e : PastLinkEvent) (bytes all : List ℕ) (s : Shares) → joined s ≡ all → joined (with_event e bytes s) ≡ all ++ bytes
 event-joined ClientComes bytes all s is = ap (λ (l : List ℕ). l ++ bytes) is
 event-joined e bytes all s is = more-joined s.earlier s.latest bytes all is
 
-sent-joined : (p : Prescribed) (events : List LinkEvent) → joined (sent_to_each p events) ≡ to_clients p events
+sent-joined : (p : Prescribed) (events : List PastLinkEvent) → joined (sent_to_each p events) ≡ to_clients p events
 sent-joined p [] = refl
 sent-joined p (e ∷ events) = event-joined e (cond (client_at e (client_behind p events)) (gained p.to_client events e) []) (to_clients p events) (sent_to_each p events) (sent-joined p events)
 
@@ -43,14 +43,14 @@ same-shares a b earlier is =
     let latest = append_cancel_left (joined_list a.earlier) a.latest b.latest (is ∙ ap (λ (l : List (List ℕ)). joined_list l ++ b.latest) (sym earlier)) in
     ap (λ (l : List ℕ). record a { latest = l }) latest ∙ ap (λ (l : List (List ℕ)). record b { earlier = l }) earlier
 
-written-shares : (terms : Terms) (p : Prescribed) (events : List LinkEvent) (calls : List Call) → (got_by calls).earlier ≡ (sent_to_each p events).earlier → IsWritten terms p events calls → got_by calls ≡ sent_to_each p events
+written-shares : (terms : Terms) (p : Prescribed) (events : List PastLinkEvent) (calls : List Call) → (got_by calls).earlier ≡ (sent_to_each p events).earlier → IsWritten terms p events calls → got_by calls ≡ sent_to_each p events
 written-shares terms p events calls earlier w = same-shares (got_by calls) (sent_to_each p events) earlier (got-joined calls ∙ w.client ∙ sym (sent-joined p events))
 
-end-if : (b : Bool) (p : Prescribed) (e : LinkEvent) (events : List LinkEvent) → (sent_to_each p (e ∷ events)).earlier ≡ (sent_to_each p (cond b (SideEnd Client ∷ e ∷ events) (e ∷ events))).earlier
+end-if : (b : Bool) (p : Prescribed) (e : PastLinkEvent) (events : List PastLinkEvent) → (sent_to_each p (e ∷ events)).earlier ≡ (sent_to_each p (cond b (SideEnd Client ∷ e ∷ events) (e ∷ events))).earlier
 end-if true p e events = refl
 end-if false p e events = refl
 
-close-earlier : (p : Prescribed) (events : List LinkEvent) → (sent_to_each p events).earlier ≡ (sent_to_each p (behind_call (Close Client) events)).earlier
+close-earlier : (p : Prescribed) (events : List PastLinkEvent) → (sent_to_each p events).earlier ≡ (sent_to_each p (behind_call (Close Client) events)).earlier
 close-earlier p [] = refl
 close-earlier p (e ∷ events) = end-if (ends_next e true) p e events
 

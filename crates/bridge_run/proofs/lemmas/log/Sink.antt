@@ -7,7 +7,7 @@ use Rattle.usb_base.specs.Refusal.{refusal_line}
 use Rattle.gate_outside.specs.declared.fault.Failed.{Failed}
 use Rattle.gate_outside.specs.Moved.{Moves, MovesFront}
 use Rattle.gate_outside.proofs.Moving.{moves-none, moves-append}
-use Rattle.bridge_run.specs.events.Events.{LinkEvent}
+use Rattle.bridge_run.specs.events.Events.{PastLinkEvent}
 use Rattle.bridge_run.specs.declared.events.sent.Sent.{Sent}
 use Rattle.bridge_run.specs.events.Prescribed.{Prescribed, gained}
 use Rattle.bridge_run.specs.written.Ups.{told_of}
@@ -23,17 +23,17 @@ pub told-more : {S : Type 0} (gives : S → List ℕ → Result ℕ Failed → S
 told-more gives bytes more old mid new before behind = moves-append gives bytes more old mid new before behind
 
 -- the lines of an event
-lines-of : (p : Prescribed) (events : List LinkEvent) (e : LinkEvent) (sent : Sent) (lines : List ℕ) → Prepared p events e sent lines → lines ≡ flat_map refusal_line (gained p.refusals events e)
+lines-of : (p : Prescribed) (events : List PastLinkEvent) (e : PastLinkEvent) (sent : Sent) (lines : List ℕ) → Prepared p events e sent lines → lines ≡ flat_map refusal_line (gained p.refusals events e)
 lines-of p events e sent lines prepared = prepared.lines-is ∙ ap (λ (rs : List Refusal). flat_map refusal_line rs) prepared.refusals
 
 -- an event's lines were told
-pub told-event : {S : Type 0} (gives : S → List ℕ → Result ℕ Failed → S → Type 0) (p : Prescribed) (events : List LinkEvent) (e : LinkEvent) (sent : Sent) (lines given : List ℕ) (old mid new : S) → Prepared p events e sent lines → given ≡ lines
+pub told-event : {S : Type 0} (gives : S → List ℕ → Result ℕ Failed → S → Type 0) (p : Prescribed) (events : List PastLinkEvent) (e : PastLinkEvent) (sent : Sent) (lines given : List ℕ) (old mid new : S) → Prepared p events e sent lines → given ≡ lines
     → Told gives old mid (told_of p events) → Moves gives given mid new → Told gives old new (told_of p (e ∷ events))
 told-event gives p events e sent lines given old mid new prepared is before m =
     told-more gives (told_of p events) (flat_map refusal_line (gained p.refusals events e)) old mid new before (subst (λ (l : List ℕ). Moves gives l mid new) (is ∙ lines-of p events e sent lines prepared) m)
 
 -- a front of them was
-pub told-front : {S : Type 0} (gives : S → List ℕ → Result ℕ Failed → S → Type 0) (p : Prescribed) (events : List LinkEvent) (e : LinkEvent) (sent : Sent) (lines given : List ℕ) (old mid new : S) → Prepared p events e sent lines → given ≡ lines
+pub told-front : {S : Type 0} (gives : S → List ℕ → Result ℕ Failed → S → Type 0) (p : Prescribed) (events : List PastLinkEvent) (e : PastLinkEvent) (sent : Sent) (lines given : List ℕ) (old mid new : S) → Prepared p events e sent lines → given ≡ lines
     → Told gives old mid (told_of p events) → MovesFront gives given mid new → InPart (Told gives old new) (told_of p events) (told_of p (e ∷ events))
 told-front gives p events e sent lines given old mid new prepared is before f = (
   told_of p events ++ f.front,

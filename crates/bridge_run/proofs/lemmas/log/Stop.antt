@@ -7,7 +7,7 @@ use Rattle.usb_base.specs.declared.refusal.Refusal.{Refusal}
 use Rattle.usb_base.specs.Lists.{is_empty}
 use Rattle.gate_outside.specs.Calls.{Call, went}
 use Rattle.session_tape.specs.Tapes.{Counts}
-use Rattle.bridge_run.specs.events.Events.{LinkEvent}
+use Rattle.bridge_run.specs.events.Events.{PastLinkEvent}
 use Rattle.bridge_run.specs.declared.course.rounds.Rounds.{Rounds}
 use Rattle.bridge_run.specs.declared.events.sent.Sent.{Sent}
 use Rattle.bridge_run.specs.declared.course.serve_end.ServeEnd.{ServeEnd}
@@ -35,13 +35,13 @@ unsent true all written bytes is none = is ∙ sym (append-nil all) ∙ ap (λ (
 unsent false all written bytes is none = is ∙ sym (append-nil all)
 
 -- what was sent of it says where memory ran out
-why : (runs_out : List LinkEvent → LinkEvent → List ℕ → List ℕ → Type 0) (taped : Bool) (p : Prescribed) (events : List LinkEvent) (e : LinkEvent) (client host : List ℕ) → runs_out events e client host ⊎ Untold p events e client host → RanOut runs_out taped p events e client host
+why : (runs_out : List PastLinkEvent → PastLinkEvent → List ℕ → List ℕ → Type 0) (taped : Bool) (p : Prescribed) (events : List PastLinkEvent) (e : PastLinkEvent) (client host : List ℕ) → runs_out events e client host ⊎ Untold p events e client host → RanOut runs_out taped p events e client host
 why runs_out taped p events e client host (inl is) = inl is
 why runs_out taped p events e client host (inr is) = inr (inl is)
 
 -- ---- before an event is taken
 
-pub stopping : {D : Type 0} → (gives : D → Call → D → Type 0) (stands : List LinkEvent → Type 0) (tells : List ℕ → Type 0) (terms : Terms) (p : Prescribed) (asks : List Ask) (e : LinkEvent) (k k1 : Rounds) (begun now : D) → k1 ≡ k → (t : IsTaking gives stands tells terms p asks e k begun now)
+pub stopping : {D : Type 0} → (gives : D → Call → D → Type 0) (stands : List PastLinkEvent → Type 0) (tells : List ℕ → Type 0) (terms : Terms) (p : Prescribed) (asks : List Ask) (e : PastLinkEvent) (k k1 : Rounds) (begun now : D) → k1 ≡ k → (t : IsTaking gives stands tells terms p asks e k begun now)
     → IsStopping gives terms p e t.events k1 begun now
 stopping gives stands tells terms p asks e k k1 begun now same t = record {
   calls = t.calls;
@@ -56,7 +56,7 @@ stopping gives stands tells terms p asks e k k1 begun now same t = record {
 }
 
 -- nothing is written of it
-none-written : {D : Type 0} → (gives : D → Call → D → Type 0) (runs_out : List LinkEvent → LinkEvent → List ℕ → List ℕ → Type 0) (terms : Terms) (p : Prescribed) (e : LinkEvent) (events : List LinkEvent) (k : Rounds) (client host : List ℕ) (begun now : D) → client ≡ [] → host ≡ []
+none-written : {D : Type 0} → (gives : D → Call → D → Type 0) (runs_out : List PastLinkEvent → PastLinkEvent → List ℕ → List ℕ → Type 0) (terms : Terms) (p : Prescribed) (e : PastLinkEvent) (events : List PastLinkEvent) (k : Rounds) (client host : List ℕ) (begun now : D) → client ≡ [] → host ≡ []
     → RanOut runs_out terms.taped p events e client host → IsStopping gives terms p e events k begun now → HasStopped gives runs_out terms p e events begun now
 none-written gives runs_out terms p e events k client host begun now none-client none-host why s = record {
   calls = s.calls;
@@ -71,14 +71,14 @@ none-written gives runs_out terms p e events k client host begun now none-client
   host = unsent (host_at e (host_since (is_some terms.host) p events)) (sent_to_host (is_some terms.host) p events) (went Host s.calls) host s.written.host none-host;
 }
 
-pub stop-none : {D : Type 0} → (gives : D → Call → D → Type 0) (runs_out : List LinkEvent → LinkEvent → List ℕ → List ℕ → Type 0) (terms : Terms) (p : Prescribed) (e : LinkEvent) (events : List LinkEvent) (k : Rounds) (client host : List ℕ) (begun now : D) → (not (is_empty client) || not (is_empty host)) ≡ false
+pub stop-none : {D : Type 0} → (gives : D → Call → D → Type 0) (runs_out : List PastLinkEvent → PastLinkEvent → List ℕ → List ℕ → Type 0) (terms : Terms) (p : Prescribed) (e : PastLinkEvent) (events : List PastLinkEvent) (k : Rounds) (client host : List ℕ) (begun now : D) → (not (is_empty client) || not (is_empty host)) ≡ false
     → IsPart runs_out p events e client host → IsStopping gives terms p e events k begun now → HasStopped gives runs_out terms p e events begun now
 stop-none gives runs_out terms p e events k client host begun now none part s =
     none-written gives runs_out terms p e events k client host begun now (has-none client (or_parts (not (is_empty client)) (not (is_empty host)) none).0) (has-none host (or_parts (not (is_empty client)) (not (is_empty host)) none).1)
     (why runs_out terms.taped p events e client host part.ran_out) s
 
 -- its line couldn't be recorded
-stop-failed : {D : Type 0} → (gives : D → Call → D → Type 0) (terms : Terms) (p : Prescribed) (e : LinkEvent) (events : List LinkEvent) (k : Rounds) (begun now : D) → IsStopping gives terms p e events k begun now → StopFailed gives terms p e events begun now
+stop-failed : {D : Type 0} → (gives : D → Call → D → Type 0) (terms : Terms) (p : Prescribed) (e : PastLinkEvent) (events : List PastLinkEvent) (k : Rounds) (begun now : D) → IsStopping gives terms p e events k begun now → StopFailed gives terms p e events begun now
 stop-failed gives terms p e events k begun now s = record {
   calls = s.calls;
   called = s.called;
@@ -92,7 +92,7 @@ stop-failed gives terms p e events k begun now s = record {
   told_before = s.told_before;
 }
 
-pub stop-tape : {D : Type 0} → (x : ServeEnd) (old new : Counts) (gives : D → Call → D → Type 0) (runs_out : List LinkEvent → LinkEvent → List ℕ → List ℕ → Type 0) (terms : Terms) (p : Prescribed) (e : LinkEvent) (events : List LinkEvent) (k : Rounds) (made : Bool) (refusals : List Refusal) (begun now : D)
+pub stop-tape : {D : Type 0} → (x : ServeEnd) (old new : Counts) (gives : D → Call → D → Type 0) (runs_out : List PastLinkEvent → PastLinkEvent → List ℕ → List ℕ → Type 0) (terms : Terms) (p : Prescribed) (e : PastLinkEvent) (events : List PastLinkEvent) (k : Rounds) (made : Bool) (refusals : List Refusal) (begun now : D)
     → TapeFaults {T = Unit {0}} (Err x) old new → (x ≡ end.Memory → (made ≡ true) × ((is_recorded e || not (is_empty refusals)) ≡ true)) → refusals ≡ [] → terms.taped ≡ made → IsStopping gives terms p e events k begun now
     → StopLogs x gives runs_out terms p e events begun now
 stop-tape (end.Ended refused) old new gives runs_out terms p e events k made refusals begun now is wants none taped s = absurd is
@@ -116,7 +116,7 @@ stop-tape end.Memory old new gives runs_out terms p e events k made refusals beg
 -- ---- what it sent is written
 
 -- a front of what went to the client
-pub stop-client : {D : Type 0} → (gives : D → Call → D → Type 0) (runs_out : List LinkEvent → LinkEvent → List ℕ → List ℕ → Type 0) (terms : Terms) (p : Prescribed) (e : LinkEvent) (events : List LinkEvent) (k : Rounds) (client host bytes : List ℕ) (begun d0 d1 : D)
+pub stop-client : {D : Type 0} → (gives : D → Call → D → Type 0) (runs_out : List PastLinkEvent → PastLinkEvent → List ℕ → List ℕ → Type 0) (terms : Terms) (p : Prescribed) (e : PastLinkEvent) (events : List PastLinkEvent) (k : Rounds) (client host bytes : List ℕ) (begun d0 d1 : D)
     → IsPart runs_out p events e client host → (s : IsStopping gives terms p e events k begun d0) → bytes ≡ client → FailedBehind gives Client k.client_up bytes s.calls begun d1 → StopLogs (end.LinkFault Client) gives runs_out terms p e events begun d1
 stop-client gives runs_out terms p e events k client host bytes begun d0 d1 part s is f = record {
   part = record {
@@ -143,7 +143,7 @@ longer-front true all written client more rest is alike = record { more = rest; 
 longer-front false all written client more rest is alike = front-whole (all ++ []) written is
 
 -- all of that, and a front of what went to the host
-pub stop-host : {D : Type 0} → (gives : D → Call → D → Type 0) (runs_out : List LinkEvent → LinkEvent → List ℕ → List ℕ → Type 0) (terms : Terms) (p : Prescribed) (e : LinkEvent) (events : List LinkEvent) (k : Rounds) (client host bytes1 bytes2 : List ℕ) (begun d0 d1 d2 : D)
+pub stop-host : {D : Type 0} → (gives : D → Call → D → Type 0) (runs_out : List PastLinkEvent → PastLinkEvent → List ℕ → List ℕ → Type 0) (terms : Terms) (p : Prescribed) (e : PastLinkEvent) (events : List PastLinkEvent) (k : Rounds) (client host bytes1 bytes2 : List ℕ) (begun d0 d1 d2 : D)
     → IsPart runs_out p events e client host → (s : IsStopping gives terms p e events k begun d0) → bytes1 ≡ client → bytes2 ≡ host → (w1 : WroteMore gives Client (written_if k.client_up bytes1) s.calls begun d1) → FailedBehind gives Host k.host_up bytes2 w1.behind begun d2
     → StopLogs (end.LinkFault Host) gives runs_out terms p e events begun d2
 stop-host gives runs_out terms p e events k client host bytes1 bytes2 begun d0 d1 d2 part s is1 is2 w1 f = record {
@@ -165,7 +165,7 @@ stop-host gives runs_out terms p e events k client host bytes1 bytes2 begun d0 d
 }
 
 -- all of both
-pub stop-all : {D : Type 0} → (gives : D → Call → D → Type 0) (runs_out : List LinkEvent → LinkEvent → List ℕ → List ℕ → Type 0) (terms : Terms) (p : Prescribed) (e : LinkEvent) (events : List LinkEvent) (k : Rounds) (client host bytes1 bytes2 : List ℕ) (begun d0 d1 d2 : D)
+pub stop-all : {D : Type 0} → (gives : D → Call → D → Type 0) (runs_out : List PastLinkEvent → PastLinkEvent → List ℕ → List ℕ → Type 0) (terms : Terms) (p : Prescribed) (e : PastLinkEvent) (events : List PastLinkEvent) (k : Rounds) (client host bytes1 bytes2 : List ℕ) (begun d0 d1 d2 : D)
     → IsPart runs_out p events e client host → (s : IsStopping gives terms p e events k begun d0) → bytes1 ≡ client → bytes2 ≡ host → (w1 : WroteMore gives Client (written_if k.client_up bytes1) s.calls begun d1) → (w2 : WroteMore gives Host (written_if k.host_up bytes2) w1.behind begun d2)
     → HasStopped gives runs_out terms p e events begun d2
 stop-all gives runs_out terms p e events k client host bytes1 bytes2 begun d0 d1 d2 part s is1 is2 w1 w2 = record {
@@ -188,7 +188,7 @@ came-or-none : (terms : Terms) (p : Prescribed) (calls : List Call) → JustCame
 came-or-none terms p [] j = tt
 came-or-none terms p (call ∷ calls) j = j
 
-pub stop-logs : {D : Type 0} → (x : ServeEnd) (gives : D → Call → D → Type 0) (runs_out : List LinkEvent → LinkEvent → List ℕ → List ℕ → Type 0) (tells : List ℕ → Type 0) (terms : Terms) (p : Prescribed) (e : LinkEvent) (events : List LinkEvent) (begun now : D) → tells (told_of p events)
+pub stop-logs : {D : Type 0} → (x : ServeEnd) (gives : D → Call → D → Type 0) (runs_out : List PastLinkEvent → PastLinkEvent → List ℕ → List ℕ → Type 0) (tells : List ℕ → Type 0) (terms : Terms) (p : Prescribed) (e : PastLinkEvent) (events : List PastLinkEvent) (begun now : D) → tells (told_of p events)
     → StopLogs x gives runs_out terms p e events begun now → Logged x gives runs_out tells terms p begun now
 stop-logs (end.Ended refused) gives runs_out tells terms p e events begun now told s = absurd s
 stop-logs end.Idle gives runs_out tells terms p e events begun now told s = absurd s
@@ -197,26 +197,26 @@ stop-logs end.Memory gives runs_out tells terms p e events begun now told s = re
   calls = s.calls;
   called = s.called;
   settled = s.settled;
-  written = subst (λ (es : List LinkEvent). HasWritten end.Memory runs_out tells terms p es s.calls) (sym s.events-are) (record { to_client = s.to_client; to_host = s.to_host; ran_out = s.ran_out; client = s.client; host = s.host; told = told });
+  written = subst (λ (es : List PastLinkEvent). HasWritten end.Memory runs_out tells terms p es s.calls) (sym s.events-are) (record { to_client = s.to_client; to_host = s.to_host; ran_out = s.ran_out; client = s.client; host = s.host; told = told });
   ended = came-or-none terms p s.calls s.just_came;
 }
 stop-logs end.WriteFault gives runs_out tells terms p e events begun now told s = record {
   calls = s.calls;
   called = s.called;
   settled = s.settled;
-  written = subst (λ (es : List LinkEvent). WroteInPart tells terms p es s.calls) (sym s.events-are) (record { links = s.written; told = part-more tells (told_of p (events_before s.calls)) (told_of p events) _ (told-all tells (told_of p (events_before s.calls)) (told_of p events) s.told_before told) });
+  written = subst (λ (es : List PastLinkEvent). WroteInPart tells terms p es s.calls) (sym s.events-are) (record { links = s.written; told = part-more tells (told_of p (events_before s.calls)) (told_of p events) _ (told-all tells (told_of p (events_before s.calls)) (told_of p events) s.told_before told) });
   ended = inl s.just_came;
 }
 stop-logs (end.LinkFault side) gives runs_out tells terms p e events begun now told s = record {
   calls = s.part.calls;
   called = s.part.called;
   settled = s.part.settled;
-  written = subst (λ (es : List LinkEvent). WroteInPart tells terms p es s.part.calls) (sym s.part.events-are) (record { links = s.part.written; told = part-more tells (told_of p (events_before s.part.calls)) (told_of p events) _ (told-all tells (told_of p (events_before s.part.calls)) (told_of p events) s.part.told_before told) });
+  written = subst (λ (es : List PastLinkEvent). WroteInPart tells terms p es s.part.calls) (sym s.part.events-are) (record { links = s.part.written; told = part-more tells (told_of p (events_before s.part.calls)) (told_of p events) _ (told-all tells (told_of p (events_before s.part.calls)) (told_of p events) s.part.told_before told) });
   ended = s.failed;
 }
 
 -- all was sent, and its lines couldn't be recorded, before anything is written
-pub tape-logs : {D : Type 0} → (x : ServeEnd) (old new : Counts) (gives : D → Call → D → Type 0) (stands : List LinkEvent → Type 0) (runs_out : List LinkEvent → LinkEvent → List ℕ → List ℕ → Type 0) (tells : List ℕ → Type 0) (terms : Terms) (p : Prescribed) (asks : List Ask) (e : LinkEvent) (k : Rounds) (sent : Sent) (lines : List ℕ) (made : Bool) (begun now : D)
+pub tape-logs : {D : Type 0} → (x : ServeEnd) (old new : Counts) (gives : D → Call → D → Type 0) (stands : List PastLinkEvent → Type 0) (runs_out : List PastLinkEvent → PastLinkEvent → List ℕ → List ℕ → Type 0) (tells : List ℕ → Type 0) (terms : Terms) (p : Prescribed) (asks : List Ask) (e : PastLinkEvent) (k : Rounds) (sent : Sent) (lines : List ℕ) (made : Bool) (begun now : D)
     → TapeFaults {T = Unit {0}} (Err x) old new → (x ≡ end.Memory → (made ≡ true) × ((is_recorded e || not (is_empty sent.refusals)) ≡ true)) → terms.taped ≡ made → (t : IsTaking gives stands tells terms p asks e k begun now) → Prepared p t.events e sent lines
     → Logged x gives runs_out tells terms p begun now
 tape-logs (end.Ended refused) old new gives stands runs_out tells terms p asks e k sent lines made begun now is wants taped t prepared = absurd is

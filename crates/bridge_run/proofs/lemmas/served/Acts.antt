@@ -18,7 +18,7 @@ use Rattle.redir_host.specs.step.Stands.{HostStands, DoesAct, TakesAct}
 use Rattle.redir_host.proofs.lemmas.step.Acts.{act-out}
 use Rattle.bridge_run.specs.declared.served.lent.Lent.{Lent}
 use Rattle.bridge_run.specs.declared.events.sent.Sent.{Sent}
-use Rattle.bridge_run.specs.events.Events.{LinkEvent, SidePiece}
+use Rattle.bridge_run.specs.events.Events.{PastLinkEvent, SidePiece}
 use Rattle.bridge_run.specs.served.Lent.{each, used, refusal_in, acts_behind, acts_of, is_coming, has_come, refused_by, lent_refusals, lent_sends}
 use Rattle.bridge_run.specs.inner.Sends.{SendsAll}
 use Rattle.bridge_run.specs.inner.Lending.{Acts, IsLent}
@@ -102,7 +102,7 @@ handed-is true false before given behind waiting later is w l = l ∙ ap (λ (b 
 handed-is false true before given behind waiting later is w l = l ∙ ap (λ (b : List ℕ). b ++ given) w ∙ sym is
 handed-is false false before given behind waiting later is w l = refl
 
-pub lent-sends : {S : Type 0} (m : Meaning S) (s : S) (old mid : Lent S) (past : List LinkEvent) (e : LinkEvent) (sent sent' : Sent) → IsLent m s old past
+pub lent-sends : {S : Type 0} (m : Meaning S) (s : S) (old mid : Lent S) (past : List PastLinkEvent) (e : PastLinkEvent) (sent sent' : Sent) → IsLent m s old past
     → Acts m s mid.core (acts_of m s past) (acts_behind m s (acts_of m s past) e) old.waiting mid.waiting → mid.has_come ≡ (is_coming e || old.has_come)
     → sent'.to_client ≡ sent.to_client ++ cond mid.has_come mid.waiting [] → sent'.to_host ≡ sent.to_host → sent'.refusals ≡ sent.refusals ++ refused_by m s (acts_of m s past) e → sent'.lets_go ≡ sent.lets_go
     → SendsAll (lent_sends m s) past e sent sent'

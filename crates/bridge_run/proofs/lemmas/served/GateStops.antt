@@ -7,7 +7,7 @@ use Rattle.usb_base.specs.Writes.{Begins}
 use Rattle.usb_base.specs.declared.refusal.Refusal.{Refusal}
 use Rattle.usb_base.specs.Lists.{is_empty}
 use Rattle.packet_stream.specs.Items.{onto}
-use Rattle.gate_history.specs.step.Events.{Event as GateEvent}
+use Rattle.gate_history.specs.step.Events.{PastEvent}
 use Rattle.gate_history.specs.declared.item.Item.{Item}
 use Rattle.gate_history.specs.step.Marks.{Mark}
 use Rattle.gate_history.specs.step.Meaning.{mark_of}
@@ -24,7 +24,7 @@ use Rattle.gate_core.specs.state.Kept.{GateKept}
 use Rattle.gate_core.specs.step.Stands.{StopsInEvent, TakesEvent}
 use Rattle.bridge_run.specs.declared.served.after_loss.AfterLoss.{AfterLoss}
 use Rattle.bridge_run.specs.declared.events.sent.Sent.{Sent}
-use Rattle.bridge_run.specs.events.Events.{LinkEvent}
+use Rattle.bridge_run.specs.events.Events.{PastLinkEvent}
 use Rattle.gate_history.specs.write.Refusals.{refusal_in}
 use Rattle.bridge_run.specs.served.Gate.{gate_event, gate_events, gate_notes, gate_sends}
 use Rattle.bridge_run.specs.served.GateStops.{GateStops, gate_runs_out}
@@ -65,31 +65,31 @@ host-more first taken later before =
 -- ---- an event
 
 -- a front of what the event sends
-front-of : (all : List LinkEvent → List ℕ) (events : List LinkEvent) (e : LinkEvent) (mid behind sent more : List ℕ) → mid ≡ all events ++ sent → behind ≡ mid ++ more → all (e ∷ events) ≡ behind → Begins sent (gained all events e)
+front-of : (all : List PastLinkEvent → List ℕ) (events : List PastLinkEvent) (e : PastLinkEvent) (mid behind sent more : List ℕ) → mid ≡ all events ++ sent → behind ≡ mid ++ more → all (e ∷ events) ≡ behind → Begins sent (gained all events e)
 front-of all events e mid behind sent more is longer same =
     record { more = more; is = gained-is (all events) (sent ++ more) (all (e ∷ events)) (same ∙ longer ∙ ap (λ (l : List ℕ). l ++ more) is ∙ append_assoc (all events) sent more) }
 
-no-longer : (e : GateEvent) (events : List GateEvent) → e ∷ events ≡ events → ⊥
+no-longer : (e : PastEvent) (events : List PastEvent) → e ∷ events ≡ events → ⊥
 no-longer e events is = differ (length events) (ap length is)
   where
     differ : (n : ℕ) → suc n ≡ n → ⊥
     differ n is = omega arith
 
 -- where its items stopped
-wanted-at : (first : ℕ) (events : List GateEvent) (e : GateEvent) (seen : List GateEvent) (taken later : List Item) → (seen ≡ e ∷ events) ⊎ ((seen ≡ events) × (taken ≡ [])) → ((seen ≡ events) × IsHeld first events e) ⊎ FirstWants first (onto taken (arrivals events)) later
+wanted-at : (first : ℕ) (events : List PastEvent) (e : PastEvent) (seen : List PastEvent) (taken later : List Item) → (seen ≡ e ∷ events) ⊎ ((seen ≡ events) × (taken ≡ [])) → ((seen ≡ events) × IsHeld first events e) ⊎ FirstWants first (onto taken (arrivals events)) later
     → ((taken ≡ []) × IsHeld first events e) ⊎ FirstWants first (onto taken (arrivals events)) later
 wanted-at first events e seen taken later (inl all) (inl held) = absurd (no-longer e events (sym all ∙ held.0))
 wanted-at first events e seen taken later (inr none) (inl held) = inl (none.1, held.1)
 wanted-at first events e seen taken later s (inr wants) = inr wants
 
-stops-at : (first : ℕ) (events : List LinkEvent) (e : LinkEvent) (ge : GateEvent) (client host : List ℕ) → gate_event e ≡ Some ge → GateStops first (gate_events events) ge client host → gate_runs_out first events e client host
-stops-at first events e ge client host is x = subst (λ (o : Option GateEvent). IsSomeAnd o (λ it. GateStops first (gate_events events) it client host)) (sym is) x
+stops-at : (first : ℕ) (events : List PastLinkEvent) (e : PastLinkEvent) (ge : PastEvent) (client host : List ℕ) → gate_event e ≡ Some ge → GateStops first (gate_events events) ge client host → gate_runs_out first events e client host
+stops-at first events e ge client host is x = subst (λ (o : Option PastEvent). IsSomeAnd o (λ it. GateStops first (gate_events events) it client host)) (sym is) x
 
-pub gate-stops : (setting : AfterLoss) (first : ℕ) (events : List LinkEvent) (e : LinkEvent) (ge : GateEvent) (kept : GateKept) (old new : Sent) → gate_event e ≡ Some ge
+pub gate-stops : (setting : AfterLoss) (first : ℕ) (events : List PastLinkEvent) (e : PastLinkEvent) (ge : PastEvent) (kept : GateKept) (old new : Sent) → gate_event e ≡ Some ge
     → StopsInEvent first kept (gate_events events) ge old.to_client new.to_client old.to_host new.to_host → SendsPart (gate_runs_out first) (gate_sends setting first) events e old new
 gate-stops setting first events e ge kept old new is x =
     let before = arrivals (gate_events events) in
-    let came : gate_events (e ∷ events) ≡ ge ∷ gate_events events = ap (λ (o : Option GateEvent). cons_option o (gate_events events)) is in
+    let came : gate_events (e ∷ events) ≡ ge ∷ gate_events events = ap (λ (o : Option PastEvent). cons_option o (gate_events events)) is in
     let all : arrivals (gate_events (e ∷ events)) ≡ onto (x.taken ++ x.later) before = ap arrivals came ∙ ap (λ (xs : List Item). onto xs before) x.parts in
     let client = client-more first x.taken x.later before in
     let host = host-more first x.taken x.later before in
@@ -113,11 +113,11 @@ gate-stops setting first events e ge kept old new is x =
     }
 
 -- all was sent, and its refusals couldn't be told
-pub gate-untold : (setting : AfterLoss) (first : ℕ) (past : List LinkEvent) (e : LinkEvent) (ge : GateEvent) (kept : GateKept) (old new : Sent) (notes : List Note) → gate_event e ≡ Some ge
+pub gate-untold : (setting : AfterLoss) (first : ℕ) (past : List PastLinkEvent) (e : PastLinkEvent) (ge : PastEvent) (kept : GateKept) (old new : Sent) (notes : List Note) → gate_event e ≡ Some ge
     → TakesEvent first kept (gate_events past) ge old.to_client new.to_client old.to_host new.to_host notes → not (is_empty (flat_map refusal_in notes)) ≡ true → SendsPart (gate_runs_out first) (gate_sends setting first) past e old new
 gate-untold setting first past e ge kept old new notes is t some =
     let p = gate_sends setting first in
-    let came : gate_events (e ∷ past) ≡ ge ∷ gate_events past = ap (λ (o : Option GateEvent). cons_option o (gate_events past)) is in
+    let came : gate_events (e ∷ past) ≡ ge ∷ gate_events past = ap (λ (o : Option PastEvent). cons_option o (gate_events past)) is in
     let told : gate_notes first (e ∷ past) ≡ gate_notes first past ++ notes = ap (told_notes first) came ∙ t.sends.notes-are in
     let refused : p.refusals (e ∷ past) ≡ p.refusals past ++ flat_map refusal_in notes = ap (flat_map refusal_in) told ∙ flat_map-append refusal_in (gate_notes first past) notes in
     record {

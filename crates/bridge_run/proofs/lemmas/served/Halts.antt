@@ -18,7 +18,7 @@ use Rattle.bridge_run.specs.declared.served.lent.Lent.{Lent}
 use Rattle.bridge_run.specs.declared.served.lent.Use.{Use}
 use Rattle.bridge_run.specs.declared.served.lent.Use.TheVariants.{Perform, Offer}
 use Rattle.bridge_run.specs.declared.events.sent.Sent.{Sent}
-use Rattle.bridge_run.specs.events.Events.{LinkEvent, SidePiece}
+use Rattle.bridge_run.specs.events.Events.{PastLinkEvent, SidePiece}
 use Rattle.bridge_run.specs.events.Prescribed.{gained}
 use Rattle.usb_base.specs.Endpoint.{in_endpoints, out_endpoints}
 use Rattle.usb_base.specs.Lists.{is_empty}
@@ -194,7 +194,7 @@ front-if true waiting given more client all is alike = record { more = more; is 
 front-if false waiting given more client all is alike = record { more = []; is = sym alike ∙ ap (λ (l : List ℕ). l ++ []) (sym is) }
 
 -- memory ran out in an event
-pub lent-part : {S : Type 0} (m : Meaning S) (s : S) (old mid : Lent S) (past : List LinkEvent) (e : LinkEvent) (sent sent' : Sent) → IsLent m s old past
+pub lent-part : {S : Type 0} (m : Meaning S) (s : S) (old mid : Lent S) (past : List PastLinkEvent) (e : PastLinkEvent) (sent sent' : Sent) → IsLent m s old past
     → Halts m s (acts_of m s past) (acts_behind m s (acts_of m s past) e) (refused_by m s (acts_of m s past) e) old.waiting mid.waiting → mid.has_come ≡ (is_coming e || old.has_come)
     → sent.to_client ≡ [] → sent'.to_client ≡ cond mid.has_come mid.waiting [] → sent'.to_host ≡ sent.to_host → SendsPart (LentStops m s) (lent_sends m s) past e sent sent'
 lent-part m s old mid past e sent sent' lent halts came empty client host = go halts

@@ -11,7 +11,7 @@ use Rattle.gate_outside.specs.declared.turn.Polled.TheVariants.{Took, NotYet, En
 use Rattle.gate_outside.specs.Turns.{pending, answer, given}
 use Rattle.bridge_run.specs.declared.course.serve_end.ServeEnd.{ServeEnd}
 use Rattle.bridge_run.specs.declared.course.serve_end.ServeEnd.TheVariants as end
-use Rattle.bridge_run.specs.events.Events.{LinkEvent, SideEnd}
+use Rattle.bridge_run.specs.events.Events.{PastLinkEvent, SideEnd}
 use Rattle.bridge_run.specs.events.Prescribed.{Prescribed, gained, refuses, drops, first_of}
 use Rattle.bridge_run.specs.declared.written.recording.TheConstants.{WAITING_LIMIT}
 use Rattle.bridge_run.specs.written.Recorded.{sends_any, is_last, is_full, waiting_if}
@@ -40,7 +40,7 @@ last-due false true false false false false by_client true z full f g is = absur
 last-due false true false false false false by_client false z full f g is = absurd (false≢true is)
 last-due false false false false false false by_client by_host z full f g is = refl
 
-over-due : (p : Prescribed) (e : LinkEvent) (c : Course) → (not (put p e c).client_up && not (put p e c).host_up) ≡ true → is_due p e c ≡ true
+over-due : (p : Prescribed) (e : PastLinkEvent) (c : Course) → (not (put p e c).client_up && not (put p e c).host_up) ≡ true → is_due p e c ≡ true
 over-due p e c is =
     let refused = gained p.refusals c.events e in
     last-due c.client_up c.host_up (not (is_empty (gained p.to_client c.events e))) (not (is_empty (gained p.to_host c.events e))) (not (is_empty refused)) (p.lets_go (e ∷ c.events)) (refuses Client refused) (refuses Host refused) (c.left == 0) (is_full (lines_with p e c))
@@ -52,13 +52,13 @@ spent false true z full is = refl
 spent false false true full is = refl
 spent false false false full is = absurd (false≢true is)
 
-spent-due : (p : Prescribed) (e : LinkEvent) (c : Course) → (c.left == 0) ≡ true → is_due p e c ≡ true
+spent-due : (p : Prescribed) (e : PastLinkEvent) (c : Course) → (c.left == 0) ≡ true → is_due p e c ≡ true
 spent-due p e c is =
     let refused = gained p.refusals c.events e in
     spent (not (is_empty (gained p.to_client c.events e)) || (not (is_empty (gained p.to_host c.events e)) || (not (is_empty refused) || p.lets_go (e ∷ c.events)))) (not c.client_up && not c.host_up) (c.left == 0) (is_full (lines_with p e c)) is
 
 -- behind lines that are due nothing waits
-due-none : (p : Prescribed) (e : LinkEvent) (c : Course) → is_due p e c ≡ true → (put p e c).waiting ≡ []
+due-none : (p : Prescribed) (e : PastLinkEvent) (c : Course) → is_due p e c ≡ true → (put p e c).waiting ≡ []
 due-none p e c is = ap (λ (b : Bool). waiting_if b (lines_with p e c)) is
 
 -- ---- any call
@@ -70,13 +70,13 @@ IsWritten (Stops e c) = NoneWaits e c
 if-written : (b : Bool) (x y : Outcome) → (b ≡ true → IsWritten x) → (b ≡ false → IsWritten y) → IsWritten (cond b x y)
 if-written b x y f g = cond_both b x y IsWritten f g
 
-settle-written : (s : Setting) (e : LinkEvent) (next : Next) (c : Course) → IsWritten (settle s next (put s.served e c))
+settle-written : (s : Setting) (e : PastLinkEvent) (next : Next) (c : Course) → IsWritten (settle s next (put s.served e c))
 settle-written s e next c =
     let d = put s.served e c in
     if-written (not d.client_up && not d.host_up) (Stops (end.Ended (first_of (s.served.refusals d.events))) d) (cond (d.left == 0) (Stops end.Spent d) (Goes next d)) (λ over. due-none s.served e c (over-due s.served e c over))
     (λ up. if-written (d.left == 0) (Stops end.Spent d) (Goes next d) (λ none. due-none s.served e c (spent-due s.served e c none)) (λ some. tt))
 
-take-written : (s : Setting) (e : LinkEvent) (next : Next) (c : Course) → IsWritten (take_event s e next c)
+take-written : (s : Setting) (e : PastLinkEvent) (next : Next) (c : Course) → IsWritten (take_event s e next c)
 take-written s e next c =
     if-written (ends_next e (drops s.served c.events e)) (Goes (Takes (SideEnd Client) next) (put s.served e c)) (settle s next (put s.served e c)) (λ dropped. tt) (λ stays. settle-written s e next c)
 
@@ -123,7 +123,7 @@ sent-due : (sends last full : Bool) → sends ≡ true → ((sends || last) || f
 sent-due true last full is = refl
 sent-due false last full is = absurd (false≢true is)
 
-pub sent-none : (p : Prescribed) (e : LinkEvent) (c : Course) → sends_any (gained p.to_client c.events e) (gained p.to_host c.events e) (gained p.refusals c.events e) (p.lets_go (e ∷ c.events)) ≡ true → (put p e c).waiting ≡ []
+pub sent-none : (p : Prescribed) (e : PastLinkEvent) (c : Course) → sends_any (gained p.to_client c.events e) (gained p.to_host c.events e) (gained p.refusals c.events e) (p.lets_go (e ∷ c.events)) ≡ true → (put p e c).waiting ≡ []
 sent-none p e c is =
     due-none p e c (sent-due (sends_any (gained p.to_client c.events e) (gained p.to_host c.events e) (gained p.refusals c.events e) (p.lets_go (e ∷ c.events))) (is_last c) (is_full (lines_with p e c)) is)
 
@@ -146,7 +146,7 @@ few-if true full lines is = none-few
 few-if false true lines is = none-few
 few-if false false lines is = ltb-true (length lines) WAITING_LIMIT (not-false (ltb (length lines) WAITING_LIMIT) is)
 
-put-few : (p : Prescribed) (e : LinkEvent) (c : Course) → length (put p e c).waiting < WAITING_LIMIT
+put-few : (p : Prescribed) (e : PastLinkEvent) (c : Course) → length (put p e c).waiting < WAITING_LIMIT
 put-few p e c = few-if (sends_now p e c) (is_full (lines_with p e c)) (lines_with p e c) refl
 
 abbrev IsFew : Outcome → Type 0
@@ -213,7 +213,7 @@ ends-so s next c e w begun told tape waiting none x = record {
   };
 }
 
-cut-short : {e : ServeEnd} {runs_out : List LinkEvent → LinkEvent → List ℕ → List ℕ → Type 0} → (s : Setting) (next : Next) (c : Course) (w : Outside) (begun told tape : Option (List ℕ)) (waiting : List ℕ) → CutShort e runs_out s (Goes next c) w (gathering begun told tape waiting) → CutShort e runs_out s (Goes next c) w (written begun told tape)
+cut-short : {e : ServeEnd} {runs_out : List PastLinkEvent → PastLinkEvent → List ℕ → List ℕ → Type 0} → (s : Setting) (next : Next) (c : Course) (w : Outside) (begun told tape : Option (List ℕ)) (waiting : List ℕ) → CutShort e runs_out s (Goes next c) w (gathering begun told tape waiting) → CutShort e runs_out s (Goes next c) w (written begun told tape)
 cut-short {e = e} {runs_out = runs_out} s next c w begun told tape waiting x = record {
   next = x.next;
   course = x.course;
@@ -230,7 +230,7 @@ cut-short {e = e} {runs_out = runs_out} s next c w begun told tape waiting x = r
 }
 
 -- at an end that is no fault nothing waits, and at any other what waits is on no tape
-pub leaves-written : (e : ServeEnd) (runs_out : List LinkEvent → LinkEvent → List ℕ → List ℕ → Type 0) (s : Setting) (next : Next) (c : Course) (w : Outside) (begun told tape : Option (List ℕ)) (waiting : List ℕ) → Leaves e runs_out s (Goes next c) w (gathering begun told tape waiting) → Leaves e runs_out s (Goes next c) w (written begun told tape)
+pub leaves-written : (e : ServeEnd) (runs_out : List PastLinkEvent → PastLinkEvent → List ℕ → List ℕ → Type 0) (s : Setting) (next : Next) (c : Course) (w : Outside) (begun told tape : Option (List ℕ)) (waiting : List ℕ) → Leaves e runs_out s (Goes next c) w (gathering begun told tape waiting) → Leaves e runs_out s (Goes next c) w (written begun told tape)
 leaves-written (end.Ended refused) runs_out s next c w begun told tape waiting x = ends-so s next c (end.Ended refused) w begun told tape waiting (λ d h. h) x
 leaves-written end.Idle runs_out s next c w begun told tape waiting x = ends-so s next c end.Idle w begun told tape waiting (λ d h. h) x
 leaves-written end.Spent runs_out s next c w begun told tape waiting x = ends-so s next c end.Spent w begun told tape waiting (λ d h. h) x

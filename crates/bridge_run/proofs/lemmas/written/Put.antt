@@ -13,7 +13,7 @@ use Rattle.gate_outside.specs.declared.turn.Turn.{Turn}
 use Rattle.gate_outside.specs.Link.{Link, Door}
 use Rattle.gate_outside.specs.Doors.{closes}
 use Rattle.gate_outside.specs.Front.{AppendsFront}
-use Rattle.bridge_run.specs.events.Events.{LinkEvent}
+use Rattle.bridge_run.specs.events.Events.{PastLinkEvent}
 use Rattle.bridge_run.specs.declared.course.rounds.Rounds.{Rounds}
 use Rattle.bridge_run.specs.declared.events.sent.Sent.{Sent}
 use Rattle.bridge_run.specs.declared.course.serve_end.ServeEnd.{ServeEnd}
@@ -73,11 +73,11 @@ between-front false x b old new t s w = absurd (false≢true w.is_up)
 -- ---- the course behind it
 
 -- whether the client's link is closed
-pub dropped-is : (p : Prescribed) (events : List LinkEvent) (e : LinkEvent) (sent : Sent) (lines : List ℕ) → Prepared p events e sent lines → (refuses Client sent.refusals || sent.lets_go) ≡ drops p events e
+pub dropped-is : (p : Prescribed) (events : List PastLinkEvent) (e : PastLinkEvent) (sent : Sent) (lines : List ℕ) → Prepared p events e sent lines → (refuses Client sent.refusals || sent.lets_go) ≡ drops p events e
 dropped-is p events e sent lines prepared =
     ap (λ (rs : List Refusal). refuses Client rs || sent.lets_go) prepared.refusals ∙ ap (λ (b : Bool). refuses Client (gained p.refusals events e) || b) prepared.lets_go
 
-put-client : (p : Prescribed) (c : Course) (e : LinkEvent) (sent : Sent) (lines : List ℕ) (old new : Link) (up : Bool) → Prepared p c.events e sent lines
+put-client : (p : Prescribed) (c : Course) (e : PastLinkEvent) (sent : Sent) (lines : List ℕ) (old new : Link) (up : Bool) → Prepared p c.events e sent lines
     → Shows old c.client_up c.client c.to_client → up ≡ c.client_up → new ≡ closed_if (refuses Client sent.refusals || sent.lets_go) Client (wrote_if up sent.to_client old)
     → Shows new (put p e c).client_up (put p e c).client (put p e c).to_client
 put-client p c e sent lines old new up prepared s u is =
@@ -89,7 +89,7 @@ put-client p c e sent lines old new up prepared s u is =
     let first = subst (λ (d : Bool). Shows new (c.client_up && not d) (cond d [] c.client) (cond c.client_up (c.to_client ++ sent.to_client) c.to_client)) (dropped-is p c.events e sent lines prepared) there in
     subst (λ (b : List ℕ). Shows new (c.client_up && not (drops p c.events e)) (cond (drops p c.events e) [] c.client) (cond c.client_up (c.to_client ++ b) c.to_client)) prepared.client first
 
-put-host : (p : Prescribed) (c : Course) (e : LinkEvent) (sent : Sent) (lines : List ℕ) (old new : Link) (up : Bool) → Prepared p c.events e sent lines
+put-host : (p : Prescribed) (c : Course) (e : PastLinkEvent) (sent : Sent) (lines : List ℕ) (old new : Link) (up : Bool) → Prepared p c.events e sent lines
     → Shows old c.host_up c.host c.to_host → up ≡ c.host_up → new ≡ closed_if (refuses Host sent.refusals) Host (wrote_if up sent.to_host old)
     → Shows new (put p e c).host_up (put p e c).host (put p e c).to_host
 put-host p c e sent lines old new up prepared s u is =
@@ -140,7 +140,7 @@ moved writes leaves (Some held) known' waiting waiting' x ws has is rest =
     (ap (λ (l : List ℕ). l ++ writes waiting) has.0 ∙ ap (λ (l : List ℕ). x ++ writes l) has.1, left ∙ ap leaves has.1)
 
 -- the event's lines are put behind those that wait, and all are written where they are due
-pub record IsRecorded (p : Prescribed) (c : Course) (e : LinkEvent) (sent : Sent) (due : Bool) (out out' : Written) : Type 0 where
+pub record IsRecorded (p : Prescribed) (c : Course) (e : PastLinkEvent) (sent : Sent) (due : Bool) (out out' : Written) : Type 0 where
   pub due-is : due ≡ sends_now p e c
   pub tape-is : out'.tape ≡ append_known out.tape (written_if (due || is_full (out.waiting ++ lines_of e sent.refusals)) (out.waiting ++ lines_of e sent.refusals))
   pub waits : IfSome out'.tape (λ held. out'.waiting ≡ waiting_if (due || is_full (out.waiting ++ lines_of e sent.refusals)) (out.waiting ++ lines_of e sent.refusals))
@@ -152,7 +152,7 @@ last-of k c client host left =
     ∙ ap (λ (n : ℕ). (not c.client_up && not c.host_up) || (n == 0)) left
 
 -- whether they are due is known of what is kept
-due-of : (p : Prescribed) (c : Course) (e : LinkEvent) (sent : Sent) (lines : List ℕ) (k : Rounds) (due : Bool) → Prepared p c.events e sent lines → k.client_up ≡ c.client_up → k.host_up ≡ c.host_up → k.left ≡ c.left
+due-of : (p : Prescribed) (c : Course) (e : PastLinkEvent) (sent : Sent) (lines : List ℕ) (k : Rounds) (due : Bool) → Prepared p c.events e sent lines → k.client_up ≡ c.client_up → k.host_up ≡ c.host_up → k.left ≡ c.left
     → due ≡ (sends_any sent.to_client sent.to_host sent.refusals sent.lets_go || last_kept k) → due ≡ sends_now p e c
 due-of p c e sent lines k due prepared client host left is =
     is
@@ -162,7 +162,7 @@ due-of p c e sent lines k due prepared client host left is =
     ∙ ap (λ (b : Bool). sends_any (gained p.to_client c.events e) (gained p.to_host c.events e) (gained p.refusals c.events e) b || last_kept k) prepared.lets_go
     ∙ ap (λ (b : Bool). sends_any (gained p.to_client c.events e) (gained p.to_host c.events e) (gained p.refusals c.events e) (p.lets_go (e ∷ c.events)) || b) (last-of k c client host left)
 
-pub recorded-by : (p : Prescribed) (c : Course) (e : LinkEvent) (sent : Sent) (due : Bool) (out out' : Written) (waiting : List ℕ) → waiting ≡ out.waiting → due ≡ sends_now p e c
+pub recorded-by : (p : Prescribed) (c : Course) (e : PastLinkEvent) (sent : Sent) (due : Bool) (out out' : Written) (waiting : List ℕ) → waiting ≡ out.waiting → due ≡ sends_now p e c
     → out'.tape ≡ append_known out.tape (written_if (due || is_full (waiting ++ lines_of e sent.refusals)) (waiting ++ lines_of e sent.refusals))
     → IfSome out'.tape (λ held. out'.waiting ≡ waiting_if (due || is_full (waiting ++ lines_of e sent.refusals)) (waiting ++ lines_of e sent.refusals)) → IsRecorded p c e sent due out out'
 recorded-by p c e sent due out out' waiting same due-is tape waits = record {
@@ -172,7 +172,7 @@ recorded-by p c e sent due out out' waiting same due-is tape waits = record {
 }
 
 -- and so where what is kept follows the course
-pub due-now : {stands : List LinkEvent → Type 0} {p : Prescribed} {k : Rounds} {w : Outside} {out : Written} {c : Course} → (e : LinkEvent) (sent : Sent) (lines : List ℕ) (k1 : Rounds) (due : Bool) → IsServing stands p k w out c → k1 ≡ k → Prepared p c.events e sent lines
+pub due-now : {stands : List PastLinkEvent → Type 0} {p : Prescribed} {k : Rounds} {w : Outside} {out : Written} {c : Course} → (e : PastLinkEvent) (sent : Sent) (lines : List ℕ) (k1 : Rounds) (due : Bool) → IsServing stands p k w out c → k1 ≡ k → Prepared p c.events e sent lines
     → due ≡ (sends_any sent.to_client sent.to_host sent.refusals sent.lets_go || last_kept k1) → due ≡ sends_now p e c
 due-now {p = p} {c = c} e sent lines k1 due f same prepared is =
     due-of p c e sent lines k1 due prepared (ap (λ (q : Rounds). q.client_up) same ∙ f.client_up) (ap (λ (q : Rounds). q.host_up) same ∙ f.host_up) (ap (λ (q : Rounds). q.left) same ∙ f.left) is
@@ -182,19 +182,19 @@ abbrev Gathers : Written → Course → Bool → List ℕ → Type 0
 Gathers out c due lines = IfSome out.tape (λ held. (held ≡ c.recorded ++ written_if (due || is_full (c.waiting ++ lines)) (c.waiting ++ lines)) × (out.waiting ≡ waiting_if (due || is_full (c.waiting ++ lines)) (c.waiting ++ lines)))
 
 -- the lines of the event are recorded, or wait
-taped : (p : Prescribed) (c : Course) (e : LinkEvent) (sent : Sent) (lines : List ℕ) (due : Bool) (out out' : Written) → Prepared p c.events e sent lines → IsTaped out c → IsRecorded p c e sent due out out' → IsTaped out' (put p e c)
+taped : (p : Prescribed) (c : Course) (e : PastLinkEvent) (sent : Sent) (lines : List ℕ) (due : Bool) (out out' : Written) → Prepared p c.events e sent lines → IsTaped out c → IsRecorded p c e sent due out out' → IsTaped out' (put p e c)
 taped p c e sent lines due out out' prepared is recorded =
     subst (λ (d : Bool). Gathers out' c d (lines_of e (gained p.refusals c.events e))) recorded.due-is
     (subst (λ (rs : List Refusal). Gathers out' c due (lines_of e rs)) prepared.refusals
     (moved (λ (l : List ℕ). written_if (due || is_full (l ++ lines_of e sent.refusals)) (l ++ lines_of e sent.refusals)) (λ (l : List ℕ). waiting_if (due || is_full (l ++ lines_of e sent.refusals)) (l ++ lines_of e sent.refusals))
     out.tape out'.tape out.waiting out'.waiting c.recorded c.waiting is recorded.tape-is recorded.waits))
 
-pub all-recorded : (ran_out : List LinkEvent → LinkEvent → List ℕ → List ℕ → Type 0) (P : Type 0) (w : Outside) (out : Written) (c d : Course) (known : Option (List ℕ)) → IfSome known (λ held. (held ≡ d.recorded) × P) → IfSome known (λ held. HasLines ran_out w out c d held)
+pub all-recorded : (ran_out : List PastLinkEvent → PastLinkEvent → List ℕ → List ℕ → Type 0) (P : Type 0) (w : Outside) (out : Written) (c d : Course) (known : Option (List ℕ)) → IfSome known (λ held. (held ≡ d.recorded) × P) → IfSome known (λ held. HasLines ran_out w out c d held)
 all-recorded ran_out P w out c d None is = tt
 all-recorded ran_out P w out c d (Some held) is = inl is.0
 
 -- a front of them is recorded, and nothing is sent
-recorded-front : (ran_out : List LinkEvent → LinkEvent → List ℕ → List ℕ → Type 0) (P : Type 0) (w : Outside) (out : Written) (c d : Course) (front back : List ℕ) → d.recorded ≡ c.recorded ++ (front ++ back) → w.client.written ≡ Some c.to_client → w.host.written ≡ Some c.to_host → IsTold out c.told
+recorded-front : (ran_out : List PastLinkEvent → PastLinkEvent → List ℕ → List ℕ → Type 0) (P : Type 0) (w : Outside) (out : Written) (c d : Course) (front back : List ℕ) → d.recorded ≡ c.recorded ++ (front ++ back) → w.client.written ≡ Some c.to_client → w.host.written ≡ Some c.to_host → IsTold out c.told
     → (known : Option (List ℕ)) → IfSome known (λ held. (held ≡ c.recorded) × P) → IfSome (append_known known front) (λ held. HasLines ran_out w out c d held)
 recorded-front ran_out P w out c d front back all client host told None is = tt
 recorded-front ran_out P w out c d front back all client host told (Some held) is = inr (
@@ -210,7 +210,7 @@ recorded-front ran_out P w out c d front back all client host told (Some held) i
 )
 
 -- of what a call writes of those that wait a front is written
-pub written-front : (ran_out : List LinkEvent → LinkEvent → List ℕ → List ℕ → Type 0) (writes : List ℕ → List ℕ) (w : Outside) (out : Written) (c d : Course) (known known' : Option (List ℕ)) (waiting : List ℕ) → GrowsInPart known known' (writes waiting) → IfSome known (λ held. (held ≡ c.recorded) × (waiting ≡ c.waiting))
+pub written-front : (ran_out : List PastLinkEvent → PastLinkEvent → List ℕ → List ℕ → Type 0) (writes : List ℕ → List ℕ) (w : Outside) (out : Written) (c d : Course) (known known' : Option (List ℕ)) (waiting : List ℕ) → GrowsInPart known known' (writes waiting) → IfSome known (λ held. (held ≡ c.recorded) × (waiting ≡ c.waiting))
     → d.recorded ≡ c.recorded ++ writes c.waiting → w.client.written ≡ Some c.to_client → w.host.written ≡ Some c.to_host → IsTold out c.told → IfSome known' (λ held. HasLines ran_out w out c d held)
 written-front ran_out writes w out c d None known' waiting grows has all client host told = subst (λ (k : Option (List ℕ)). IfSome k (λ held. HasLines ran_out w out c d held)) (sym grows.grows) tt
 written-front ran_out writes w out c d (Some held) known' waiting grows has all client host told =
@@ -218,13 +218,13 @@ written-front ran_out writes w out c d (Some held) known' waiting grows has all 
     subst (λ (k : Option (List ℕ)). IfSome k (λ (l : List ℕ). HasLines ran_out w out c d l)) (sym grows.grows) (recorded-front ran_out _ w out c d grows.front grows.back whole client host told (Some held) has)
 
 -- a course of which only the turns, the lines on the tape and those that wait have become others
-pub retold : (stands : List LinkEvent → Type 0) (p : Prescribed) (k : Rounds) (w w' : Outside) (out out' : Written) (c : Course) (client host : List Turn) (recorded waiting : List ℕ) → IsServing stands p k w out c
+pub retold : (stands : List PastLinkEvent → Type 0) (p : Prescribed) (k : Rounds) (w w' : Outside) (out out' : Written) (c : Course) (client host : List Turn) (recorded waiting : List ℕ) → IsServing stands p k w out c
     → Tells w' out' (record c { client = client; host = host; recorded = recorded; waiting = waiting }) → IsServing stands p k w' out' (record c { client = client; host = host; recorded = recorded; waiting = waiting })
 retold stands p k w w' out out' c client host recorded waiting f t =
     record { stands_for = f.stands_for; tells = t; client_up = f.client_up; host_up = f.host_up; busy = f.busy; waits = f.waits; left = f.left; refused = f.refused }
 
-pub put-follows : (stands : List LinkEvent → Type 0) (p : Prescribed) (k k' : Rounds) (w w' : Outside) (out out' : Written) (c : Course) (e : LinkEvent) (sent : Sent) (lines : List ℕ) (due : Bool)
-    (old-stands : List LinkEvent → Type 0) → IsServing old-stands p k w out c → Prepared p c.events e sent lines → stands (e ∷ c.events) → k' ≡ refusing sent.refusals sent.lets_go k
+pub put-follows : (stands : List PastLinkEvent → Type 0) (p : Prescribed) (k k' : Rounds) (w w' : Outside) (out out' : Written) (c : Course) (e : PastLinkEvent) (sent : Sent) (lines : List ℕ) (due : Bool)
+    (old-stands : List PastLinkEvent → Type 0) → IsServing old-stands p k w out c → Prepared p c.events e sent lines → stands (e ∷ c.events) → k' ≡ refusing sent.refusals sent.lets_go k
     → Shows w'.client (put p e c).client_up (put p e c).client (put p e c).to_client → Shows w'.host (put p e c).host_up (put p e c).host (put p e c).to_host
     → w'.door ≡ w.door → IsTold out' (c.told ++ lines) → IsRecorded p c e sent due out out' → IsServing stands p k' w' out' (put p e c)
 put-follows stands p k k' w w' out out' c e sent lines due old-stands f prepared now kept client host door written recorded =
@@ -251,7 +251,7 @@ put-follows stands p k k' w w' out out' c e sent lines due old-stands f prepared
     }
 
 -- what both links tell once all is written that an event sends, and each side that it refuses is closed
-pub sides-put : (p : Prescribed) (c : Course) (e : LinkEvent) (sent : Sent) (lines : List ℕ) {up_client up_host dropped refused : Bool} {client host client1 host1 client2 host2 client3 host3 client4 host4 : Link} {to_client to_host : List ℕ} → Prepared p c.events e sent lines
+pub sides-put : (p : Prescribed) (c : Course) (e : PastLinkEvent) (sent : Sent) (lines : List ℕ) {up_client up_host dropped refused : Bool} {client host client1 host1 client2 host2 client3 host3 client4 host4 : Link} {to_client to_host : List ℕ} → Prepared p c.events e sent lines
     → Shows client c.client_up c.client c.to_client → Shows host c.host_up c.host c.to_host → up_client ≡ c.client_up → up_host ≡ c.host_up
     → to_client ≡ sent.to_client → client1 ≡ wrote_if up_client to_client client → host1 ≡ host → to_host ≡ sent.to_host → host2 ≡ wrote_if up_host to_host host1 → client2 ≡ client1
     → dropped ≡ (refuses Client sent.refusals || sent.lets_go) → client3 ≡ closed_if dropped Client client2 → host3 ≡ host2 → refused ≡ refuses Host sent.refusals → host4 ≡ closed_if refused Host host3 → client4 ≡ client3
@@ -265,17 +265,17 @@ sides-put p c e sent lines {up_client = up_client} {up_host = up_host} {dropped 
 
 -- ---- cuts
 
-client-before : (p : Prescribed) (c : Course) (e : LinkEvent) (l : Link) → Shows l c.client_up c.client c.to_client → IsOneOf c.client l.turns (put p e c).client × IsBetween c.to_client l.written (put p e c).to_client
+client-before : (p : Prescribed) (c : Course) (e : PastLinkEvent) (l : Link) → Shows l c.client_up c.client c.to_client → IsOneOf c.client l.turns (put p e c).client × IsBetween c.to_client l.written (put p e c).to_client
 client-before p c e l s = (inl s.turns-is, between-none c.to_client l.written (put p e c).to_client _ s.written-is (more_if c.client_up c.to_client (gained p.to_client c.events e)))
 
-host-before : (p : Prescribed) (c : Course) (e : LinkEvent) (l : Link) → Shows l c.host_up c.host c.to_host → IsOneOf c.host l.turns (put p e c).host × IsBetween c.to_host l.written (put p e c).to_host
+host-before : (p : Prescribed) (c : Course) (e : PastLinkEvent) (l : Link) → Shows l c.host_up c.host c.to_host → IsOneOf c.host l.turns (put p e c).host × IsBetween c.to_host l.written (put p e c).to_host
 host-before p c e l s = (inl s.turns-is, between-none c.to_host l.written (put p e c).to_host _ s.written-is (more_if c.host_up c.to_host (gained p.to_host c.events e)))
 
-pub told-before : (p : Prescribed) (c : Course) (e : LinkEvent) (out : Written) → IsTold out c.told → IfSome out.begun (λ first. IsBetween c.told out.told (put p e c).told)
+pub told-before : (p : Prescribed) (c : Course) (e : PastLinkEvent) (out : Written) → IsTold out c.told → IfSome out.begun (λ first. IsBetween c.told out.told (put p e c).told)
 told-before p c e out s = if-told out.begun (λ (is : out.told ≡ Some c.told). between-none c.told out.told (put p e c).told _ is refl) s
 
 -- nothing of it is written to the links yet
-put-cut : {ran_out : List LinkEvent → LinkEvent → List ℕ → List ℕ → Type 0} → (p : Prescribed) (c : Course) (e : LinkEvent) (w : Outside) (out out' : Written) → Tells w out c → IfSome out'.begun (λ first. IsBetween c.told out'.told (put p e c).told)
+put-cut : {ran_out : List PastLinkEvent → PastLinkEvent → List ℕ → List ℕ → Type 0} → (p : Prescribed) (c : Course) (e : PastLinkEvent) (w : Outside) (out out' : Written) → Tells w out c → IfSome out'.begun (λ first. IsBetween c.told out'.told (put p e c).told)
     → IfSome out'.tape (λ held. HasLines ran_out w out' c (put p e c) held) → Cut ran_out w out' c (put p e c)
 put-cut p c e w out out' t told tape =
     let client = client-before p c e w.client t.client in
@@ -283,7 +283,7 @@ put-cut p c e w out out' t told tape =
     record { client = client.0; host = host.0; clients = inl t.clients; to_client = client.1; to_host = host.1; told = told; tape = tape }
 
 -- while its lines are recorded
-pub put-in_entry : {ran_out : List LinkEvent → LinkEvent → List ℕ → List ℕ → Type 0} → (p : Prescribed) (c : Course) (e : LinkEvent) (sent : Sent) (lines : List ℕ) (due : Bool) (w : Outside) (out out' : Written) (waiting : List ℕ) → Prepared p c.events e sent lines → Tells w out c → IsTold out' c.told → due ≡ sends_now p e c
+pub put-in_entry : {ran_out : List PastLinkEvent → PastLinkEvent → List ℕ → List ℕ → Type 0} → (p : Prescribed) (c : Course) (e : PastLinkEvent) (sent : Sent) (lines : List ℕ) (due : Bool) (w : Outside) (out out' : Written) (waiting : List ℕ) → Prepared p c.events e sent lines → Tells w out c → IsTold out' c.told → due ≡ sends_now p e c
     → waiting ≡ out.waiting → GrowsInPart out.tape out'.tape (written_if (due || is_full (waiting ++ lines_of e sent.refusals)) (waiting ++ lines_of e sent.refusals)) → Cut ran_out w out' c (put p e c)
 put-in_entry {ran_out = ran_out} p c e sent lines due w out out' waiting prepared t told due-is same grows =
     let all : (put p e c).recorded ≡ c.recorded ++ written_if (due || is_full (c.waiting ++ lines_of e sent.refusals)) (c.waiting ++ lines_of e sent.refusals) =
@@ -294,14 +294,14 @@ put-in_entry {ran_out = ran_out} p c e sent lines due w out out' waiting prepare
     (subst (λ (l : List ℕ). GrowsInPart out.tape out'.tape (written_if (due || is_full (l ++ lines_of e sent.refusals)) (l ++ lines_of e sent.refusals))) same grows) t.tape all t.client.written-is t.host.written-is told)
 
 -- before anything is written
-pub put-before : {ran_out : List LinkEvent → LinkEvent → List ℕ → List ℕ → Type 0} → (p : Prescribed) (c : Course) (e : LinkEvent) (w : Outside) (out : Written) → Tells w out c → Cut ran_out w out c (put p e c)
+pub put-before : {ran_out : List PastLinkEvent → PastLinkEvent → List ℕ → List ℕ → Type 0} → (p : Prescribed) (c : Course) (e : PastLinkEvent) (w : Outside) (out : Written) → Tells w out c → Cut ran_out w out c (put p e c)
 put-before {ran_out = ran_out} p c e w out t =
     put-cut p c e w out out t (told-before p c e out t.told)
     (subst (λ (known : Option (List ℕ)). IfSome known (λ held. HasLines ran_out w out c (put p e c) held)) (append_known-nil out.tape)
     (recorded-front ran_out _ w out c (put p e c) [] _ refl t.client.written-is t.host.written-is t.told out.tape t.tape))
 
 -- within what goes to the client
-pub put-in_client : {ran_out : List LinkEvent → LinkEvent → List ℕ → List ℕ → Type 0} → (p : Prescribed) (c : Course) (e : LinkEvent) (sent : Sent) (lines : List ℕ) (due : Bool) (w w' : Outside) (out out' : Written) (up : Bool) → Prepared p c.events e sent lines → Tells w out c → IsTold out' c.told → IsRecorded p c e sent due out out'
+pub put-in_client : {ran_out : List PastLinkEvent → PastLinkEvent → List ℕ → List ℕ → Type 0} → (p : Prescribed) (c : Course) (e : PastLinkEvent) (sent : Sent) (lines : List ℕ) (due : Bool) (w w' : Outside) (out out' : Written) (up : Bool) → Prepared p c.events e sent lines → Tells w out c → IsTold out' c.told → IsRecorded p c e sent due out out'
     → up ≡ c.client_up → WritesFront up sent.to_client w.client w'.client → w'.host ≡ w.host → w'.door ≡ w.door → Cut ran_out w' out' c (put p e c)
 put-in_client {ran_out = ran_out} p c e sent lines due w w' out out' up prepared t told recorded u front host door =
     let h = host-before p c e w'.host (subst (λ (l : Link). Shows l c.host_up c.host c.to_host) (sym host) t.host) in
@@ -317,7 +317,7 @@ put-in_client {ran_out = ran_out} p c e sent lines due w w' out out' up prepared
     }
 
 -- within what goes to the host, behind all that goes to the client
-pub put-in_host : {ran_out : List LinkEvent → LinkEvent → List ℕ → List ℕ → Type 0} → (p : Prescribed) (c : Course) (e : LinkEvent) (sent : Sent) (lines : List ℕ) (due : Bool) (w w' : Outside) (out out' : Written) (uc uh : Bool) → Prepared p c.events e sent lines → Tells w out c → IsTold out' c.told → IsRecorded p c e sent due out out'
+pub put-in_host : {ran_out : List PastLinkEvent → PastLinkEvent → List ℕ → List ℕ → Type 0} → (p : Prescribed) (c : Course) (e : PastLinkEvent) (sent : Sent) (lines : List ℕ) (due : Bool) (w w' : Outside) (out out' : Written) (uc uh : Bool) → Prepared p c.events e sent lines → Tells w out c → IsTold out' c.told → IsRecorded p c e sent due out out'
     → uc ≡ c.client_up → uh ≡ c.host_up
     → w'.client ≡ wrote_if uc sent.to_client w.client → WritesFront uh sent.to_host w.host w'.host → w'.door ≡ w.door → Cut ran_out w' out' c (put p e c)
 put-in_host {ran_out = ran_out} p c e sent lines due w w' out out' uc uh prepared t told recorded vc vh client front door =
@@ -347,7 +347,7 @@ pub tells-front : (begun known new : Option (List ℕ)) (x b : List ℕ) → IfS
 tells-front begun known new x b is a = if-told begun (λ (e : known ≡ Some x). appended-front known new x b e a) is
 
 -- within the lines of refusals, behind all that goes to both sides
-pub put-in_lines : {ran_out : List LinkEvent → LinkEvent → List ℕ → List ℕ → Type 0} → (p : Prescribed) (c : Course) (e : LinkEvent) (sent : Sent) (lines : List ℕ) (due : Bool) (w w' : Outside) (out out' : Written) → Prepared p c.events e sent lines → Tells w out c
+pub put-in_lines : {ran_out : List PastLinkEvent → PastLinkEvent → List ℕ → List ℕ → Type 0} → (p : Prescribed) (c : Course) (e : PastLinkEvent) (sent : Sent) (lines : List ℕ) (due : Bool) (w w' : Outside) (out out' : Written) → Prepared p c.events e sent lines → Tells w out c
     → Shows w'.client (put p e c).client_up (put p e c).client (put p e c).to_client → Shows w'.host (put p e c).host_up (put p e c).host (put p e c).to_host
     → w'.door ≡ w.door → IfSome out'.begun (λ first. IsBetween c.told out'.told (c.told ++ lines)) → IsRecorded p c e sent due out out' → Cut ran_out w' out' c (put p e c)
 put-in_lines {ran_out = ran_out} p c e sent lines due w w' out out' prepared t client host door front recorded = record {
@@ -374,7 +374,7 @@ refusing-none refusals go k k' none stays is =
     ∙ ap (λ (r : Option Refusal). record k { refused = r }) (or_else-none k.refused)
 
 -- an error that a `?` hands on
-pub cut-puts : (Q : ServeEnd → Type 0) (result : Result Bool ServeEnd) (stands : List LinkEvent → Type 0) (runs_out : List LinkEvent → LinkEvent → List ℕ → List ℕ → Type 0) (p : Prescribed) (e : LinkEvent) (k : Rounds) (w : Outside) (out : Written) (c : Course) → IsErrAnd result Q → ((end : ServeEnd) → Cut (MayRunOut end runs_out p) w out c (put p e c))
+pub cut-puts : (Q : ServeEnd → Type 0) (result : Result Bool ServeEnd) (stands : List PastLinkEvent → Type 0) (runs_out : List PastLinkEvent → PastLinkEvent → List ℕ → List ℕ → Type 0) (p : Prescribed) (e : PastLinkEvent) (k : Rounds) (w : Outside) (out : Written) (c : Course) → IsErrAnd result Q → ((end : ServeEnd) → Cut (MayRunOut end runs_out p) w out c (put p e c))
     → Puts result stands runs_out p e k w out c
 cut-puts Q (Ok x) stands runs_out p e k w out c is cut = absurd is
 cut-puts Q (Err x) stands runs_out p e k w out c is cut = cut x

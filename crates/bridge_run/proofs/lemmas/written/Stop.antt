@@ -11,7 +11,7 @@ use Rattle.session_tape.specs.Lines.{refusal_comment}
 use Rattle.session_tape.specs.Tapes.{GrowsInPart}
 use Rattle.gate_outside.specs.declared.turn.Turn.{Turn}
 use Rattle.gate_outside.specs.Link.{Link, Door}
-use Rattle.bridge_run.specs.events.Events.{LinkEvent}
+use Rattle.bridge_run.specs.events.Events.{PastLinkEvent}
 use Rattle.bridge_run.specs.events.Prescribed.{Prescribed, gained}
 use Rattle.bridge_run.specs.written.Recorded.{event_line, lines_of, is_last, is_full, written_if}
 use Rattle.bridge_run.specs.course.Course.{Course}
@@ -31,7 +31,7 @@ any-of true b x y rest some first second = ap (λ (z : Bool). z || (y || rest)) 
 any-of false b x y rest some first second = ap (λ (z : Bool). x || (z || rest)) (second some) ∙ or-true x
 
 -- bytes were sent of it
-due-bytes : (p : Prescribed) (c : Course) (e : LinkEvent) (client host : List ℕ) → Begins client (gained p.to_client c.events e) → Begins host (gained p.to_host c.events e) → (not (is_empty client) || not (is_empty host)) ≡ true → is_due p e c ≡ true
+due-bytes : (p : Prescribed) (c : Course) (e : PastLinkEvent) (client host : List ℕ) → Begins client (gained p.to_client c.events e) → Begins host (gained p.to_host c.events e) → (not (is_empty client) || not (is_empty host)) ≡ true → is_due p e c ≡ true
 due-bytes p c e client host f g some =
     let x = gained p.to_client c.events e in
     let y = gained p.to_host c.events e in
@@ -40,7 +40,7 @@ due-bytes p c e client host f g some =
     (any-of (not (is_empty client)) (not (is_empty host)) (not (is_empty x)) (not (is_empty y)) (not (is_empty rs) || p.lets_go (e ∷ c.events)) some (has-more client f.more x f.is) (has-more host g.more y g.is))
 
 -- so that they are all that the call records
-all-lines : (p : Prescribed) (c : Course) (e : LinkEvent) → is_due p e c ≡ true → (put p e c).recorded ≡ (c.recorded ++ (c.waiting ++ event_line e)) ++ flat_map refusal_comment (gained p.refusals c.events e)
+all-lines : (p : Prescribed) (c : Course) (e : PastLinkEvent) → is_due p e c ≡ true → (put p e c).recorded ≡ (c.recorded ++ (c.waiting ++ event_line e)) ++ flat_map refusal_comment (gained p.refusals c.events e)
 all-lines p c e due =
     let comments = flat_map refusal_comment (gained p.refusals c.events e) in
     ap (λ (b : Bool). c.recorded ++ written_if b (lines_with p e c)) due
@@ -50,7 +50,7 @@ all-lines p c e due =
 -- ---- the tape
 
 -- what the event had sent before memory ran out, and what of that is written
-pub record Sent (ran_out : List LinkEvent → LinkEvent → List ℕ → List ℕ → Type 0) (c : Course) (e : LinkEvent) (client host : List ℕ) (w : Outside) (out : Written) : Type 0 where
+pub record Sent (ran_out : List PastLinkEvent → PastLinkEvent → List ℕ → List ℕ → Type 0) (c : Course) (e : PastLinkEvent) (client host : List ℕ) (w : Outside) (out : Written) : Type 0 where
   pub stopped : ran_out c.events e client host
   pub some : (not (is_empty client) || not (is_empty host)) ≡ true
   pub to_client : IsBetween c.to_client w.client.written (cond c.client_up (c.to_client ++ client) c.to_client)
@@ -58,7 +58,7 @@ pub record Sent (ran_out : List LinkEvent → LinkEvent → List ℕ → List �
   pub told : IsTold out c.told
 
 -- its line is there, behind those that waited
-recorded-line : {ran_out : List LinkEvent → LinkEvent → List ℕ → List ℕ → Type 0} → (p : Prescribed) (c : Course) (e : LinkEvent) (w : Outside) (out : Written) (client host : List ℕ) → Sent ran_out c e client host w out → (known known' : Option (List ℕ)) (waiting : List ℕ) → is_due p e c ≡ true → IfSome known (λ held. (held ≡ c.recorded) × (waiting ≡ c.waiting))
+recorded-line : {ran_out : List PastLinkEvent → PastLinkEvent → List ℕ → List ℕ → Type 0} → (p : Prescribed) (c : Course) (e : PastLinkEvent) (w : Outside) (out : Written) (client host : List ℕ) → Sent ran_out c e client host w out → (known known' : Option (List ℕ)) (waiting : List ℕ) → is_due p e c ≡ true → IfSome known (λ held. (held ≡ c.recorded) × (waiting ≡ c.waiting))
     → known' ≡ append_known known (waiting ++ (event_line e ++ [])) → IfSome known' (λ held. HasLines ran_out w out c (put p e c) held)
 recorded-line {ran_out = ran_out} p c e w out client host sent None known' waiting due has is = subst (λ (k : Option (List ℕ)). IfSome k (λ held. HasLines ran_out w out c (put p e c) held)) (sym is) tt
 recorded-line {ran_out = ran_out} p c e w out client host sent (Some held) known' waiting due has is =
@@ -83,14 +83,14 @@ recorded-line {ran_out = ran_out} p c e w out client host sent (Some held) known
       }),
     ))
 
-stop-recorded : (ran_out : List LinkEvent → LinkEvent → List ℕ → List ℕ → Type 0) (p : Prescribed) (c : Course) (e : LinkEvent) (client host : List ℕ) (refusals : List Refusal) (w : Outside) (out out' : Written) (waiting : List ℕ) → Sent ran_out c e client host w out' → Begins client (gained p.to_client c.events e) → Begins host (gained p.to_host c.events e)
+stop-recorded : (ran_out : List PastLinkEvent → PastLinkEvent → List ℕ → List ℕ → Type 0) (p : Prescribed) (c : Course) (e : PastLinkEvent) (client host : List ℕ) (refusals : List Refusal) (w : Outside) (out out' : Written) (waiting : List ℕ) → Sent ran_out c e client host w out' → Begins client (gained p.to_client c.events e) → Begins host (gained p.to_host c.events e)
     → (not (is_empty client) || not (is_empty host)) ≡ true → refusals ≡ [] → waiting ≡ out.waiting → IsTaped out c → out'.tape ≡ append_known out.tape (waiting ++ lines_of e refusals) → IfSome out'.tape (λ held. HasLines ran_out w out' c (put p e c) held)
 stop-recorded ran_out p c e client host refusals w out out' waiting sent f g some none same taped is =
     recorded-line {ran_out = ran_out} p c e w out' client host sent out.tape out'.tape out.waiting (due-bytes p c e client host f g some) taped
     (is ∙ ap (λ (l : List ℕ). append_known out.tape (l ++ lines_of e refusals)) same ∙ ap (λ (rs : List Refusal). append_known out.tape (out.waiting ++ (event_line e ++ flat_map refusal_comment rs))) none)
 
 -- a front of that is there, and nothing is written
-recorded-part : (ran_out : List LinkEvent → LinkEvent → List ℕ → List ℕ → Type 0) (p : Prescribed) (c : Course) (e : LinkEvent) (w : Outside) (out : Written) (known known' : Option (List ℕ)) (waiting : List ℕ) → is_due p e c ≡ true → IfSome known (λ held. (held ≡ c.recorded) × (waiting ≡ c.waiting))
+recorded-part : (ran_out : List PastLinkEvent → PastLinkEvent → List ℕ → List ℕ → Type 0) (p : Prescribed) (c : Course) (e : PastLinkEvent) (w : Outside) (out : Written) (known known' : Option (List ℕ)) (waiting : List ℕ) → is_due p e c ≡ true → IfSome known (λ held. (held ≡ c.recorded) × (waiting ≡ c.waiting))
     → GrowsInPart known known' (waiting ++ (event_line e ++ [])) → w.client.written ≡ Some c.to_client → w.host.written ≡ Some c.to_host → IsTold out c.told → IfSome known' (λ held. HasLines ran_out w out c (put p e c) held)
 recorded-part ran_out p c e w out None known' waiting due has grows client host told = subst (λ (k : Option (List ℕ)). IfSome k (λ held. HasLines ran_out w out c (put p e c) held)) (sym grows.grows) tt
 recorded-part ran_out p c e w out (Some held) known' waiting due has grows client host told =
@@ -110,7 +110,7 @@ recorded-part ran_out p c e w out (Some held) known' waiting due has grows clien
       }),
     ))
 
-pub stop-unrecorded : (ran_out : List LinkEvent → LinkEvent → List ℕ → List ℕ → Type 0) (p : Prescribed) (c : Course) (e : LinkEvent) (client host : List ℕ) (refusals : List Refusal) (w : Outside) (out out' : Written) (waiting : List ℕ) → Begins client (gained p.to_client c.events e) → Begins host (gained p.to_host c.events e)
+pub stop-unrecorded : (ran_out : List PastLinkEvent → PastLinkEvent → List ℕ → List ℕ → Type 0) (p : Prescribed) (c : Course) (e : PastLinkEvent) (client host : List ℕ) (refusals : List Refusal) (w : Outside) (out out' : Written) (waiting : List ℕ) → Begins client (gained p.to_client c.events e) → Begins host (gained p.to_host c.events e)
     → (not (is_empty client) || not (is_empty host)) ≡ true → refusals ≡ [] → waiting ≡ out.waiting → Tells w out c → IsTold out' c.told → GrowsInPart out.tape out'.tape (waiting ++ lines_of e refusals) → IfSome out'.tape (λ held. HasLines ran_out w out' c (put p e c) held)
 stop-unrecorded ran_out p c e client host refusals w out out' waiting f g some none same t told grows =
     recorded-part ran_out p c e w out' out.tape out'.tape out.waiting (due-bytes p c e client host f g some) t.tape
@@ -155,7 +155,7 @@ pub still-shows : (u : Bool) (t : List Turn) (x : List ℕ) (old new : Link) →
 still-shows u t x old new is s = subst (λ (l : Link). Shows l u t x) (sym is) s
 
 -- the call is cut
-pub stop-cut : {ran_out : List LinkEvent → LinkEvent → List ℕ → List ℕ → Type 0} → (p : Prescribed) (c : Course) (e : LinkEvent) (client host : List ℕ) (w w' : Outside) (out out' : Written) → Begins client (gained p.to_client c.events e) → Begins host (gained p.to_host c.events e) → Tells w out c → IsTold out' c.told
+pub stop-cut : {ran_out : List PastLinkEvent → PastLinkEvent → List ℕ → List ℕ → Type 0} → (p : Prescribed) (c : Course) (e : PastLinkEvent) (client host : List ℕ) (w w' : Outside) (out out' : Written) → Begins client (gained p.to_client c.events e) → Begins host (gained p.to_host c.events e) → Tells w out c → IsTold out' c.told
     → w'.client.turns ≡ Some c.client → w'.host.turns ≡ Some c.host → w'.door ≡ w.door
     → IsBetween c.to_client w'.client.written (cond c.client_up (c.to_client ++ client) c.to_client) → IsBetween c.to_host w'.host.written (cond c.host_up (c.to_host ++ host) c.to_host)
     → IfSome out'.tape (λ held. HasLines ran_out w' out' c (put p e c) held) → Cut ran_out w' out' c (put p e c)
@@ -171,7 +171,7 @@ stop-cut p c e client host w w' out out' f g t told client-turns host-turns door
     }
 
 -- and its line is recorded
-pub stop-written : {ran_out : List LinkEvent → LinkEvent → List ℕ → List ℕ → Type 0} → (p : Prescribed) (c : Course) (e : LinkEvent) (client host : List ℕ) (refusals : List Refusal) (w w' : Outside) (out out' : Written) (waiting : List ℕ) → ran_out c.events e client host → Begins client (gained p.to_client c.events e) → Begins host (gained p.to_host c.events e)
+pub stop-written : {ran_out : List PastLinkEvent → PastLinkEvent → List ℕ → List ℕ → Type 0} → (p : Prescribed) (c : Course) (e : PastLinkEvent) (client host : List ℕ) (refusals : List Refusal) (w w' : Outside) (out out' : Written) (waiting : List ℕ) → ran_out c.events e client host → Begins client (gained p.to_client c.events e) → Begins host (gained p.to_host c.events e)
     → (not (is_empty client) || not (is_empty host)) ≡ true → refusals ≡ [] → waiting ≡ out.waiting → out'.tape ≡ append_known out.tape (waiting ++ lines_of e refusals) → Tells w out c → IsTold out' c.told → w'.client.turns ≡ Some c.client → w'.host.turns ≡ Some c.host → w'.door ≡ w.door
     → IsBetween c.to_client w'.client.written (cond c.client_up (c.to_client ++ client) c.to_client) → IsBetween c.to_host w'.host.written (cond c.host_up (c.to_host ++ host) c.to_host) → Cut ran_out w' out' c (put p e c)
 stop-written {ran_out = ran_out} p c e client host refusals w w' out out' waiting stopped f g some none same is t told client-turns host-turns door to_client to_host =

@@ -18,7 +18,7 @@ use Rattle.gate_parts.specs.declared.write.outputs.Outputs.{Outputs}
 use Rattle.gate_core.specs.declared.step.inner.Inner.{Inner}
 use Rattle.gate_core.specs.declared.state.kept.Kept.{Kept}
 use Rattle.gate_history.specs.declared.item.Item.TheVariants.{ClientLeft, HostLeft}
-use Rattle.gate_history.specs.step.Events.{Event, ClientEnd, HostEnd, client_bytes, host_bytes}
+use Rattle.gate_history.specs.step.Events.{PastEvent, ClientEnd, HostEnd, client_bytes, host_bytes}
 use Rattle.gate_history.specs.state.Sides.{client_over, host_over}
 use Rattle.gate_history.specs.step.Streams.{client_reader, client_start, host_reader}
 use Rattle.gate_history.specs.state.State.{state_of}
@@ -82,7 +82,7 @@ stands-first first g works translator client host = record {
 
 -- ---- a client's end
 
-pub ends-client : (first : ℕ) (old : Inner) (t : Kept) (kept : StreamView (Unit {0})) (events : List Event) (out_old out_new : Outputs) → GateStands first (kept_of old) events →
+pub ends-client : (first : ℕ) (old : Inner) (t : Kept) (kept : StreamView (Unit {0})) (events : List PastEvent) (out_old out_new : Outputs) → GateStands first (kept_of old) events →
     TakesItem old.translator t ClientLeft out_old out_new → kept ≡ record { state = tt; rest = []; place = 0; held = []; at = 0; over = false } →
     TakesOn first (record old { client = kept; translator = t }) events ClientEnd out_old out_new
 ends-client first old t kept events out_old out_new stands takes is =
@@ -102,7 +102,7 @@ ends-client first old t kept events out_old out_new stands takes is =
 -- ---- the host's end
 
 -- it was over before
-pub ends-again : (first : ℕ) (g : Inner) (events : List Event) (out : Outputs) → GateStands first (kept_of g) events → g.host.over ≡ true → TakesOn first g events HostEnd out out
+pub ends-again : (first : ℕ) (g : Inner) (events : List PastEvent) (out : Outputs) → GateStands first (kept_of g) events → g.host.over ≡ true → TakesOn first g events HostEnd out out
 ends-again first g events out stands over =
     let xs = arrivals events in
     let ended : host_over (past first xs) ≡ true = sym stands.host.over_is ∙ over in
@@ -117,7 +117,7 @@ ends-again first g events out stands over =
       sends = sends-past first out out xs xs (HostLeft ∷ xs) same (sends-none first out xs);
     }
 
-pub ends-host : (first : ℕ) (old : Inner) (t : Kept) (kept : StreamView RedirState) (events : List Event) (out_old out_new : Outputs) → GateStands first (kept_of old) events →
+pub ends-host : (first : ℕ) (old : Inner) (t : Kept) (kept : StreamView RedirState) (events : List PastEvent) (out_old out_new : Outputs) → GateStands first (kept_of old) events →
     old.host.over ≡ false → TakesItem old.translator t HostLeft out_old out_new → kept ≡ ended old.host →
     TakesOn first (record old { host = kept; translator = t }) events HostEnd out_old out_new
 ends-host first old t kept events out_old out_new stands runs takes is =
@@ -146,7 +146,7 @@ ends-host first old t kept events out_old out_new stands runs takes is =
 
 -- ---- memory ran out for an end
 
-pub stops-end : (first : ℕ) (old : Inner) (t : Kept) (events : List Event) (e : Event) (out_old out_new : Outputs) → GateStands first (kept_of old) events →
+pub stops-end : (first : ℕ) (old : Inner) (t : Kept) (events : List PastEvent) (e : PastEvent) (out_old out_new : Outputs) → GateStands first (kept_of old) events →
     DoesNothing old.translator t out_old out_new → FirstWants first (arrivals events) (brought events e) → StopsInEvent first (kept_of (record old { translator = t })) events e out_old.to_client out_new.to_client out_old.to_host out_new.to_host
 stops-end first old t events e out_old out_new stands nothing wants =
     stops-still first old t events e out_old out_new nothing (stops-before first old events e out_old.to_client out_old.to_host (stands-for first old events stands) (inr wants))

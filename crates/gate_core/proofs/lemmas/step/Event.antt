@@ -14,7 +14,7 @@ use Rattle.packet_stream.proofs.Pieces.{items}
 use Rattle.gate_parts.specs.declared.write.outputs.Outputs.{Outputs}
 use Rattle.gate_core.specs.declared.step.inner.Inner.{Inner}
 use Rattle.gate_core.specs.declared.state.kept.Kept.{Kept}
-use Rattle.gate_history.specs.step.Events.{Event, ClientPiece, HostPiece, client_bytes, host_bytes}
+use Rattle.gate_history.specs.step.Events.{PastEvent, ClientPiece, HostPiece, client_bytes, host_bytes}
 use Rattle.gate_history.specs.declared.item.Item.{Item}
 use Rattle.gate_history.specs.state.Sides.{client_over, host_over}
 use Rattle.redir_wire.specs.declared.state.RedirState.{RedirState}
@@ -51,13 +51,13 @@ stands-all r steady start kept bytes given over all = record {
   none = λ ends. all.none (sym all.over_is ∙ ends);
 }
 
-pub err-event : (r : Result (Unit {0}) Memory) (old new : Inner) (e : Event) (out_old out_new : Outputs) → IsErr r →
-    ((first : ℕ) (events : List Event) → GateStands first (kept_of old) events → StopsInEvent first (kept_of new) events e out_old.to_client out_new.to_client out_old.to_host out_new.to_host) → TakesOrStops r old new e out_old out_new
+pub err-event : (r : Result (Unit {0}) Memory) (old new : Inner) (e : PastEvent) (out_old out_new : Outputs) → IsErr r →
+    ((first : ℕ) (events : List PastEvent) → GateStands first (kept_of old) events → StopsInEvent first (kept_of new) events e out_old.to_client out_new.to_client out_old.to_host out_new.to_host) → TakesOrStops r old new e out_old out_new
 err-event (Ok v) old new e out_old out_new is stops = absurd (true≢false (sym is))
 err-event (Err memory) old new e out_old out_new is stops = stops
 
 -- before anything of an event has come
-pub stops-before : (first : ℕ) (new : Inner) (events : List Event) (e : Event) (client host : List ℕ) → StandsFor first (kept_of new) events (arrivals events) →
+pub stops-before : (first : ℕ) (new : Inner) (events : List PastEvent) (e : PastEvent) (client host : List ℕ) → StandsFor first (kept_of new) events (arrivals events) →
     IsHeld first events e ⊎ FirstWants first (arrivals events) (brought events e) → StopsInEvent first (kept_of new) events e client client host host
 stops-before first new events e client host for wanted = record {
   taken = [];
@@ -75,7 +75,7 @@ stops-before first new events e client host for wanted = record {
 }
 
 -- all of an event was taken, but not so that it can be told
-pub stands-for : (first : ℕ) (g : Inner) (events : List Event) → GateStands first (kept_of g) events → StandsFor first (kept_of g) events (arrivals events)
+pub stands-for : (first : ℕ) (g : Inner) (events : List PastEvent) → GateStands first (kept_of g) events → StandsFor first (kept_of g) events (arrivals events)
 stands-for first g events stands = record {
   translates = stands.translates;
   client = stands-all client_reader client-steady client_start g.client (client_bytes events) (asked (arrivals events)) (client_over (history first events)) stands.client;
@@ -83,7 +83,7 @@ stands-for first g events stands = record {
 }
 
 -- for want of memory the translator has changed nothing
-pub stops-still : (first : ℕ) (old : Inner) (t : Kept) (events : List Event) (e : Event) (out_old out_new : Outputs) →
+pub stops-still : (first : ℕ) (old : Inner) (t : Kept) (events : List PastEvent) (e : PastEvent) (out_old out_new : Outputs) →
     DoesNothing old.translator t out_old out_new → StopsInEvent first (kept_of old) events e out_old.to_client out_old.to_client out_old.to_host out_old.to_host →
     StopsInEvent first (kept_of (record old { translator = t })) events e out_old.to_client out_new.to_client out_old.to_host out_new.to_host
 stops-still first old t events e out_old out_new nothing stops =
@@ -104,7 +104,7 @@ record Both {S P T Q : Type 0} (own : Half S P) (other : Half T Q) (mine : Strea
   own_stands : StreamStands own.stream.reader own.stream.start mine bytes (own.came xs) (own.over xs)
   other_stands : StreamStands other.stream.reader other.stream.start theirs their_bytes (other.came xs) (other.over xs)
 
-module _ {S P T Q : Type 0} (first : ℕ) (own : Half S P) (other : Half T Q) (sees : Sees own other) (old : StreamView S) (theirs : StreamView T) (events : List Event) (bytes their_bytes : List ℕ)
+module _ {S P T Q : Type 0} (first : ℕ) (own : Half S P) (other : Half T Q) (sees : Sees own other) (old : StreamView S) (theirs : StreamView T) (events : List PastEvent) (bytes their_bytes : List ℕ)
     (all : HasAll own.stream.reader own.stream.start old bytes (own.came (arrivals events)) (own.over (arrivals events)))
     (their_all : HasAll other.stream.reader other.stream.start theirs their_bytes (other.came (arrivals events)) (other.over (arrivals events))) where
   -- of the other side nothing has changed
@@ -127,7 +127,7 @@ module _ {S P T Q : Type 0} (first : ℕ) (own : Half S P) (other : Half T Q) (s
   halted-both new t piece out_old out_new h = record { own_stands = h.stands; other_stands = theirs-stand (onto h.taken (arrivals events)) h.others_are h.other_over }
 
 -- the event was taken up to an item that memory ran out for
-halted-event : {S P : Type 0} (first : ℕ) (own : Half S P) (new : StreamView S) (t : Kept) (g : Inner) (events : List Event) (e : Event) (bytes piece : List ℕ) (out_old out_new : Outputs) → brought events e ≡ added (items own.stream) bytes piece →
+halted-event : {S P : Type 0} (first : ℕ) (own : Half S P) (new : StreamView S) (t : Kept) (g : Inner) (events : List PastEvent) (e : PastEvent) (bytes piece : List ℕ) (out_old out_new : Outputs) → brought events e ≡ added (items own.stream) bytes piece →
     (h : Halted first own new t bytes piece (arrivals events) out_old out_new) → StandsFor first (kept_of g) (e ∷ events) (onto h.taken (arrivals events)) → StopsInEvent first (kept_of g) events e out_old.to_client out_new.to_client out_old.to_host out_new.to_host
 halted-event first own new t g events e bytes piece out_old out_new brings h stands = record {
   taken = h.taken;

@@ -13,7 +13,7 @@ use Rattle.redir_wire.specs.declared.packet.Header.{Header}
 use Rattle.redir_data.specs.declared.packet.RedirPacket.{RedirPacket}
 use Rattle.usbip_urb.specs.declared.client.ClientPacket.{ClientPacket}
 use Rattle.gate_history.specs.declared.note.Note.{Note}
-use Rattle.gate_history.specs.step.Events.{Event, ClientPiece, HostPiece}
+use Rattle.gate_history.specs.step.Events.{PastEvent, ClientPiece, HostPiece}
 use Rattle.gate_history.specs.Headline.{notes}
 use Rattle.gate_parts.specs.declared.write.outputs.Outputs.{Outputs}
 use Rattle.gate_core.specs.declared.state.kept.Kept.{Kept}
@@ -46,7 +46,7 @@ borrows-come s gives limit (Some r) old new from left come none = borrows-by s r
 -- how the gate has a side: its stream, and what the gate is with another and another translator
 pub record Way (S P : Type 0) : Type 0 where
   pub side : TakenSide S P
-  pub event : List ℕ → Event
+  pub event : List ℕ → PastEvent
   pub stream : Inner → StreamView S
   pub changed : Inner → StreamView S → Kept → Inner
   pub same : (old : Inner) → changed old (stream old) old.translator ≡ old
@@ -88,7 +88,7 @@ abbrev pub lists : List ℕ → List ℕ → Outputs
 lists client host = record { to_client = client; to_host = host; notes = [] }
 
 -- an event that was taken, with its notes
-pub event-told : (first : ℕ) (new : Inner) (events : List Event) (e : Event) (client host : List ℕ) (out : Outputs) → TakesOn first new events e (lists client host) out →
+pub event-told : (first : ℕ) (new : Inner) (events : List PastEvent) (e : PastEvent) (client host : List ℕ) (out : Outputs) → TakesOn first new events e (lists client host) out →
     TakesEvent first (kept_of new) events e client out.to_client host out.to_host out.notes
 event-told first new events e client host out t = record {
   stands = t.stands;
@@ -100,7 +100,7 @@ event-told first new events e client host out t = record {
 }
 
 -- that memory ran out is kept
-pub event-stopped : (first : ℕ) (new : Inner) (memory : Memory) (events : List Event) (e : Event) (client_old client_new host_old host_new : List ℕ) → StopsInEvent first (kept_of new) events e client_old client_new host_old host_new →
+pub event-stopped : (first : ℕ) (new : Inner) (memory : Memory) (events : List PastEvent) (e : PastEvent) (client_old client_new host_old host_new : List ℕ) → StopsInEvent first (kept_of new) events e client_old client_new host_old host_new →
     StopsInEvent first (kept_of (record new { want = Some memory })) events e client_old client_new host_old host_new
 event-stopped first new memory events e client_old client_new host_old host_new s = record {
   taken = s.taken;
@@ -115,7 +115,7 @@ event-stopped first new memory events e client_old client_new host_old host_new 
 }
 
 -- what an event tells that was taken so, and the gate behind it
-pub event-tells : (taken : Result (Unit {0}) Memory) (old new : Inner) (e : Event) (client host : List ℕ) (out : Outputs) → TakesOrStops taken old new e (lists client host) out →
+pub event-tells : (taken : Result (Unit {0}) Memory) (old new : Inner) (e : PastEvent) (client host : List ℕ) (out : Outputs) → TakesOrStops taken old new e (lists client host) out →
     TakesOrFails (told taken out.notes) (kept_of old) (kept_of (left_by taken new)) e client out.to_client host out.to_host
 event-tells (Ok v) old new e client host out takes = λ first events stands. event-told first new events e client host out (takes first events stands)
 event-tells (Err memory) old new e client host out stops = (
@@ -124,7 +124,7 @@ event-tells (Err memory) old new e client host out stops = (
 )
 
 -- it stands for one event more, or has failed
-pub event-ready : (taken : Result (Unit {0}) Memory) (old new : Inner) (e : Event) (out_old out_new : Outputs) → HasPast (kept_of old) → TakesOrStops taken old new e out_old out_new → IsReady (kept_of (left_by taken new))
+pub event-ready : (taken : Result (Unit {0}) Memory) (old new : Inner) (e : PastEvent) (out_old out_new : Outputs) → HasPast (kept_of old) → TakesOrStops taken old new e out_old out_new → IsReady (kept_of (left_by taken new))
 event-ready (Ok v) old new e out_old out_new past takes = λ works. ∥∥₁_map past (λ w. (w.0, (e ∷ w.1.0, (takes w.0 w.1.0 w.1.1).stands)))
 event-ready (Err memory) old new e out_old out_new past stops = λ works. absurd (true≢false works)
 
@@ -140,25 +140,25 @@ incoming-tells gives side limit taken old new from left client host out t = reco
       ((λ i. told (n.0 i) (n.2 i).notes), (λ i. kept_of (left_by (n.0 i) (n.1 i))), ap (λ (o : Outputs). o.to_client) n.2, ap (λ (o : Outputs). o.to_host) n.2);
 }
 
-ready-by : (taken : Result (Unit {0}) Memory) (old new : Inner) (e : Event) (out_old out_new : Outputs) (count : ℕ) → HasPast (kept_of old) → (0 < count → TakesOrStops taken old new e out_old out_new) →
+ready-by : (taken : Result (Unit {0}) Memory) (old new : Inner) (e : PastEvent) (out_old out_new : Outputs) (count : ℕ) → HasPast (kept_of old) → (0 < count → TakesOrStops taken old new e out_old out_new) →
     (count ≡ 0 → (taken ≡ Ok tt) × (new ≡ old) × (out_new ≡ out_old)) → IsReady (kept_of (left_by taken new))
 ready-by taken old new e out_old out_new zero past some nothing =
     λ works. subst (λ (g : Inner). HasPast (kept_of g)) (sym (λ i. left_by ((nothing refl).0 i) ((nothing refl).1 i))) past
 ready-by taken old new e out_old out_new (suc n) past some nothing = event-ready taken old new e out_old out_new past (some (omega arith))
 
-pub incoming-ready : {I : Type 0} (gives : I → ℕ → List ℕ → I → Type 0) (event : List ℕ → Event) (limit : ℕ) (taken : Result (Unit {0}) Memory) (old new : Inner) (from left : I) (out_old out_new : Outputs) → HasPast (kept_of old) →
+pub incoming-ready : {I : Type 0} (gives : I → ℕ → List ℕ → I → Type 0) (event : List ℕ → PastEvent) (limit : ℕ) (taken : Result (Unit {0}) Memory) (old new : Inner) (from left : I) (out_old out_new : Outputs) → HasPast (kept_of old) →
     TakesFrom event gives limit taken old from out_old new left out_new → IsReady (kept_of (left_by taken new))
 incoming-ready gives event limit taken old new from left out_old out_new past t =
     ready-by taken old new (event (take t.count t.came.room)) out_old out_new t.count past t.some t.nothing
 
 -- ---- the two answers that tell it
 
-pub ok-tells : (r : Result (List Note) Memory) (old new : GateKept) (e : Event) (client_old client_new host_old host_new : List ℕ) → TakesOrFails r old new e client_old client_new host_old host_new →
-    IfOk r (λ notes. (first : ℕ) (events : List Event) → GateStands first old events → TakesEvent first new events e client_old client_new host_old host_new notes)
+pub ok-tells : (r : Result (List Note) Memory) (old new : GateKept) (e : PastEvent) (client_old client_new host_old host_new : List ℕ) → TakesOrFails r old new e client_old client_new host_old host_new →
+    IfOk r (λ notes. (first : ℕ) (events : List PastEvent) → GateStands first old events → TakesEvent first new events e client_old client_new host_old host_new notes)
 ok-tells (Ok notes) old new e client_old client_new host_old host_new takes = takes
 ok-tells (Err memory) old new e client_old client_new host_old host_new stops = tt
 
-pub err-tells : (r : Result (List Note) Memory) (old new : GateKept) (e : Event) (client_old client_new host_old host_new : List ℕ) → TakesOrFails r old new e client_old client_new host_old host_new →
-    OnErr r ((first : ℕ) (events : List Event) → GateStands first old events → StopsInEvent first new events e client_old client_new host_old host_new)
+pub err-tells : (r : Result (List Note) Memory) (old new : GateKept) (e : PastEvent) (client_old client_new host_old host_new : List ℕ) → TakesOrFails r old new e client_old client_new host_old host_new →
+    OnErr r ((first : ℕ) (events : List PastEvent) → GateStands first old events → StopsInEvent first new events e client_old client_new host_old host_new)
 err-tells (Ok notes) old new e client_old client_new host_old host_new takes = tt
 err-tells (Err memory) old new e client_old client_new host_old host_new stops = stops.1

@@ -9,7 +9,7 @@ use Rattle.gate_history.specs.declared.note.Note.{Note}
 use Rattle.gate_history.specs.declared.item.Item.TheVariants.{Told}
 use Rattle.gate_parts.specs.declared.write.outputs.Outputs.{Outputs}
 use Rattle.gate_core.specs.declared.step.inner.Inner.{Inner}
-use Rattle.gate_history.specs.step.Events.{Event}
+use Rattle.gate_history.specs.step.Events.{PastEvent}
 use Rattle.gate_history.specs.step.Past.{past}
 use Rattle.gate_history.specs.step.History.{arrivals}
 use Rattle.gate_history.specs.write.Notes.{notes_of}
@@ -34,20 +34,20 @@ pub record SendsItems (first : ℕ) (out_old out_new : Outputs) (h k : List Item
   pub host : Gains out_old.to_host out_new.to_host (out_host first (past first h)) (out_host first (past first k))
   pub told : Gains out_old.notes out_new.notes (all_of notes_of first (past first h)) (all_of notes_of first (past first k))
 
-pub record TakesOn (first : ℕ) (new : Inner) (events : List Event) (e : Event) (out_old out_new : Outputs) : Type 0 where
+pub record TakesOn (first : ℕ) (new : Inner) (events : List PastEvent) (e : PastEvent) (out_old out_new : Outputs) : Type 0 where
   pub stands : GateStands first (kept_of new) (e ∷ events)
   pub sends : SendsItems first out_old out_new (arrivals events) (arrivals (e ∷ events))
 
 -- whatever has come: the event was taken, or memory ran out
-abbrev pub TakesOrStops : Result (Unit {0}) Memory → Inner → Inner → Event → Outputs → Outputs → Type 0
+abbrev pub TakesOrStops : Result (Unit {0}) Memory → Inner → Inner → PastEvent → Outputs → Outputs → Type 0
 TakesOrStops (Ok v) old new e out_old out_new =
-    (first : ℕ) (events : List Event) → GateStands first (kept_of old) events → TakesOn first new events e out_old out_new
+    (first : ℕ) (events : List PastEvent) → GateStands first (kept_of old) events → TakesOn first new events e out_old out_new
 TakesOrStops (Err memory) old new e out_old out_new =
-    (first : ℕ) (events : List Event) → GateStands first (kept_of old) events → StopsInEvent first (kept_of new) events e out_old.to_client out_new.to_client out_old.to_host out_new.to_host
+    (first : ℕ) (events : List PastEvent) → GateStands first (kept_of old) events → StopsInEvent first (kept_of new) events e out_old.to_client out_new.to_client out_old.to_host out_new.to_host
 
 -- what came straight into a side's stream was taken as this piece, or memory ran out; where nothing came nothing has
 -- changed
-pub record TakesFrom {I : Type 0} (piece : List ℕ → Event) (gives : I → ℕ → List ℕ → I → Type 0) (limit : ℕ) (result : Result (Unit {0}) Memory)
+pub record TakesFrom {I : Type 0} (piece : List ℕ → PastEvent) (gives : I → ℕ → List ℕ → I → Type 0) (limit : ℕ) (result : Result (Unit {0}) Memory)
     (old : Inner) (from : I) (out_old : Outputs) (new : Inner) (left : I) (out_new : Outputs) : Type 0 where
   pub count : ℕ
   pub came : HasCome gives limit count from left

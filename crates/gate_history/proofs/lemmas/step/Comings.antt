@@ -26,7 +26,7 @@ use Rattle.redir_data.specs.declared.packet.RedirPacket.{RedirPacket}
 use Rattle.redir_data.specs.Streams.{after, stream_format, stream_start}
 use Rattle.redir_data.specs.sound.Joined.{stream_sound}
 use Rattle.redir_data.proofs.Awaits.{four_quiet}
-use Rattle.gate_history.specs.step.Events.{Event, ClientPiece, ClientEnd, HostPiece, HostEnd, client_bytes, host_bytes}
+use Rattle.gate_history.specs.step.Events.{PastEvent, ClientPiece, ClientEnd, HostPiece, HostEnd, client_bytes, host_bytes}
 use Rattle.gate_history.specs.step.History.{client_split, host_split, client_items, host_items, arrivals}
 use Rattle.gate_history.specs.declared.item.Item.{Item}
 use Rattle.gate_history.specs.declared.item.Item.TheVariants.{Asked, ClientWrong, ClientLeft, Told, HostWrong, HostLeft}
@@ -151,7 +151,7 @@ comes-piece bytes piece are all ys c = by x.wrong refl
 no-bytes : AreBytes []
 no-bytes i = omega arith
 
-client-are : (events : List Event) → AreBytes (flat_map piece_bytes events) → AreBytes (client_bytes events)
+client-are : (events : List PastEvent) → AreBytes (flat_map piece_bytes events) → AreBytes (client_bytes events)
 client-are [] are = no-bytes
 client-are (ClientPiece b ∷ events) are =
     AreBytes-append (client_bytes events) b (client-are events (AreBytes-right b (flat_map piece_bytes events) are)) (AreBytes-left b (flat_map piece_bytes events) are)
@@ -159,7 +159,7 @@ client-are (ClientEnd ∷ events) are = no-bytes
 client-are (HostPiece b ∷ events) are = client-are events (AreBytes-right b (flat_map piece_bytes events) are)
 client-are (HostEnd ∷ events) are = client-are events are
 
-host-are : (events : List Event) → AreBytes (flat_map piece_bytes events) → AreBytes (host_bytes events)
+host-are : (events : List PastEvent) → AreBytes (flat_map piece_bytes events) → AreBytes (host_bytes events)
 host-are [] are = no-bytes
 host-are (HostPiece b ∷ events) are =
     AreBytes-append (host_bytes events) b (host-are events (AreBytes-right b (flat_map piece_bytes events) are)) (AreBytes-left b (flat_map piece_bytes events) are)
@@ -170,7 +170,7 @@ host-are (HostEnd ∷ events) are = host-are events are
 nothing-told : (host_split []).packets ≡ []
 nothing-told = ap (λ (x : Splitting RedirState (Header × RedirPacket) Reason). x.packets) (split-empty (stream_format ToGuest) after (stream_sound ToGuest) stream_start (four_quiet start.first start.caps ToGuest [] [] (omega arith)))
 
-pub comes : (events : List Event) → AreBytes (flat_map piece_bytes events) → Comes (host_split (host_bytes events)).packets (arrivals events)
+pub comes : (events : List PastEvent) → AreBytes (flat_map piece_bytes events) → Comes (host_split (host_bytes events)).packets (arrivals events)
 comes [] are = (tt, sym nothing-told)
 comes (ClientPiece b ∷ events) are =
     comes-own (host_split (host_bytes events)).packets (added client_items (client_bytes events) b) (arrivals events) (client-own (client_bytes events) b (client-are (ClientPiece b ∷ events) are))

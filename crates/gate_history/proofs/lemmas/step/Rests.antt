@@ -36,7 +36,7 @@ use Rattle.redir_data.specs.Carrying.{transfers, carrying}
 use Rattle.redir_data.specs.Packets.{begins_plain}
 use Rattle.redir_data.specs.Streams.{after, stream_format, stream_start}
 use Rattle.redir_data.specs.sound.Joined.{stream_sound}
-use Rattle.gate_history.specs.step.Events.{Event, client_bytes, host_bytes}
+use Rattle.gate_history.specs.step.Events.{PastEvent, client_bytes, host_bytes}
 use Rattle.gate_history.specs.state.Sides.{client_over, host_over}
 use Rattle.gate_history.specs.step.History.{client_split, host_split, history, rest_length}
 use Rattle.gate_history.specs.step.Streams.{client_start}
@@ -151,7 +151,7 @@ cond-few : (t : Bool) (n bound : ℕ) → n ≤ bound → cond t 0 n ≤ bound
 cond-few true n bound h = omega arith
 cond-few false n bound h = h
 
-pub rests-few : (first : ℕ) (events : List Event) → AreBytes (client_bytes events) → AreBytes (host_bytes events) → rest_length first events ≤ 16793647 + 16777295
+pub rests-few : (first : ℕ) (events : List PastEvent) → AreBytes (client_bytes events) → AreBytes (host_bytes events) → rest_length first events ≤ 16793647 + 16777295
 rests-few first events client host =
     let a = cond-few (client_over (history first events)) (length (client_split (client_bytes events)).rest) 16793647 (client-rest (client_bytes events) client) in
     let b = cond-few (host_over (history first events)) (length (host_split (host_bytes events)).rest) 16777295 (host-rest (host_bytes events) host) in

@@ -5,7 +5,7 @@ use Rattle.gate_outside.specs.declared.fault.Failed.{Failed}
 use Rattle.gate_outside.specs.Calls.{Call}
 use Rattle.gate_outside.specs.Link.{Link, Door}
 use Rattle.bridge_run.specs.declared.course.serve_end.ServeEnd.TheVariants as end
-use Rattle.bridge_run.specs.events.Events.{LinkEvent}
+use Rattle.bridge_run.specs.events.Events.{PastLinkEvent}
 use Rattle.bridge_run.specs.served.Gate.{gate_sends}
 use Rattle.bridge_run.specs.served.GateStops.{gate_runs_out}
 use Rattle.bridge_run.specs.log.Log.{Terms, Told}
@@ -23,7 +23,7 @@ pub untold : {K : Type 0} → (gives : K → List ℕ → Result ℕ Failed → 
 untold gives now = record { moves = []; called = refl; all = refl }
 
 -- nothing was asked
-pub unlogged : {D K : Type 0} → (gives : D → Call → D → Type 0) (runs_out : List LinkEvent → LinkEvent → List ℕ → List ℕ → Type 0) (writes : K → List ℕ → Result ℕ Failed → K → Type 0) (terms : Terms) (p : Prescribed) (now : D) (out : K) → HasLog gives runs_out (Told writes out out) terms p OutOfMemory now now
+pub unlogged : {D K : Type 0} → (gives : D → Call → D → Type 0) (runs_out : List PastLinkEvent → PastLinkEvent → List ℕ → List ℕ → Type 0) (writes : K → List ℕ → Result ℕ Failed → K → Type 0) (terms : Terms) (p : Prescribed) (now : D) (out : K) → HasLog gives runs_out (Told writes out out) terms p OutOfMemory now now
 unlogged gives runs_out writes terms p now out = record {
   end = end.Memory;
   status-is = refl;

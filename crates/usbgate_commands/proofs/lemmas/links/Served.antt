@@ -12,7 +12,7 @@ use Rattle.bridge_run.specs.course.Calls.{Goes, come, course_of}
 use Rattle.gate_outside.specs.Faults.{Rose}
 use Rattle.session_tape.specs.Tapes.{counts}
 use Rattle.bridge_run.specs.course.Outside.{Outside, Faults, outside, written, faults, Tells, Cut, HasCause, IsBetween}
-use Rattle.bridge_run.specs.events.Events.{LinkEvent}
+use Rattle.bridge_run.specs.events.Events.{PastLinkEvent}
 use Rattle.bridge_run.specs.course.Serves.{MayRunOut, CutShort}
 use Rattle.usbgate_tapes.specs.declared.status.Status.{Status}
 use Rattle.usbgate_tapes.specs.declared.status.Status.TheVariants.{LinkFault, OutOfMemory}
@@ -43,7 +43,7 @@ untold-more : (begun known : Option (List ℕ)) (told : List ℕ) → IfSome beg
 untold-more None known told is = tt
 untold-more (Some first) known told is = as_it_is known told is
 
-unmade : {runs_out : List LinkEvent → LinkEvent → List ℕ → List ℕ → Type 0} → (s : Setting) (c : Course) (w : Outside) (begun out : Option (List ℕ)) → Tells w (written begun out None) c → CutShort end.Memory runs_out s (Goes Making c) w (written begun out None)
+unmade : {runs_out : List PastLinkEvent → PastLinkEvent → List ℕ → List ℕ → Type 0} → (s : Setting) (c : Course) (w : Outside) (begun out : Option (List ℕ)) → Tells w (written begun out None) c → CutShort end.Memory runs_out s (Goes Making c) w (written begun out None)
 unmade s c w begun out tells = record {
   next = Making;
   course = c;
@@ -63,7 +63,7 @@ unmade s c w begun out tells = record {
 abbrev untold-tape : Outside → Faults → Option (List ℕ) → Option (List ℕ) → Known
 untold-tape w f begun out = record { outside = w; faults = f; written = written begun out None }
 
-unserved-so : {runs_out : List LinkEvent → LinkEvent → List ℕ → List ℕ → Type 0} → (s : Setting) (w : Outside) (f : Faults) (begun out : Option (List ℕ)) → EndsOf runs_out s Making OutOfMemory (untold-tape w f begun out) (untold-tape w f begun out)
+unserved-so : {runs_out : List PastLinkEvent → PastLinkEvent → List ℕ → List ℕ → Type 0} → (s : Setting) (w : Outside) (f : Faults) (begun out : Option (List ℕ)) → EndsOf runs_out s Making OutOfMemory (untold-tape w f begun out) (untold-tape w f begun out)
 unserved-so s w f begun out = record {
   end = end.Memory;
   status-is = refl;
@@ -78,7 +78,7 @@ unserved None asked known = record { tape-is = refl; counts-are = refl; ends = u
 unserved (Some name) asked known = inl (record { outside-is = refl; sink = refl; told = refl; cause = refl; tape = inl refl })
 
 -- nobody is asked for at the door yet
-no-guest : {ran_out : List LinkEvent → LinkEvent → List ℕ → List ℕ → Type 0} → (clients : List (List Turn)) (c : Course) (w : Outside) (begun out : Option (List ℕ)) → Tells w (written begun out None) c → Cut ran_out w (written begun out None) c (course_of (come clients c))
+no-guest : {ran_out : List PastLinkEvent → PastLinkEvent → List ℕ → List ℕ → Type 0} → (clients : List (List Turn)) (c : Course) (w : Outside) (begun out : Option (List ℕ)) → Tells w (written begun out None) c → Cut ran_out w (written begun out None) c (course_of (come clients c))
 no-guest {ran_out = ran_out} clients c w begun out tells = go clients
   where
     -- whoever comes, nothing is sent or told
@@ -97,7 +97,7 @@ no-guest {ran_out = ran_out} clients c w begun out tells = go clients
     go [] = quiet c.client_up c.client c.clients c.busy c.left
     go (turns ∷ later) = quiet true turns later true (c.left - 1)
 
-unasked : {runs_out : List LinkEvent → LinkEvent → List ℕ → List ℕ → Type 0} → (s : Setting) (c : Course) (w : Outside) (begun out : Option (List ℕ)) → c.client_up ≡ false → Tells w (written begun out None) c → CutShort end.Memory runs_out s (Goes AtDoor c) w (written begun out None)
+unasked : {runs_out : List PastLinkEvent → PastLinkEvent → List ℕ → List ℕ → Type 0} → (s : Setting) (c : Course) (w : Outside) (begun out : Option (List ℕ)) → c.client_up ≡ false → Tells w (written begun out None) c → CutShort end.Memory runs_out s (Goes AtDoor c) w (written begun out None)
 unasked {runs_out = runs_out} s c w begun out down tells = record {
   next = AtDoor;
   course = c;

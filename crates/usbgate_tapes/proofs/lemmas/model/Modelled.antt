@@ -5,7 +5,7 @@ use Rattle.std.proofs.Math.Bool.{or-false}
 use Rattle.usb_base.specs.Lists.{is_empty}
 use Rattle.gate_history.specs.declared.note.Note.{Note}
 use Rattle.gate_history.specs.declared.note.Note.TheVariants as note
-use Rattle.gate_history.specs.step.Events.{Event, ClientPiece, ClientEnd as ClientEnds, HostPiece}
+use Rattle.gate_history.specs.step.Events.{PastEvent, ClientPiece, ClientEnd as ClientEnds, HostPiece}
 use Rattle.gate_history.specs.step.History.{history}
 use Rattle.gate_history.specs.step.Refusals.{is_refusal}
 use Rattle.gate_history.specs.write.Notes.{notes_of}
@@ -41,7 +41,7 @@ some-told (note.Answered seqnum ∷ notes) = some-told notes
 some-told (note.DeviceGone ∷ notes) = some-told notes
 some-told (note.ClientGone ∷ notes) = some-told notes
 
-event-refuses : (events : List Event) (e : Event) → (has_refusal (history first_id events) || not (is_empty (flat_map refusal_in (given_of notes_of events e)))) ≡ has_refusal (history first_id (e ∷ events))
+event-refuses : (events : List PastEvent) (e : PastEvent) → (has_refusal (history first_id events) || not (is_empty (flat_map refusal_in (given_of notes_of events e)))) ≡ has_refusal (history first_id (e ∷ events))
 event-refuses events e =
     ap (λ (b : Bool). has_refusal (history first_id events) || b) (some-told (given_of notes_of events e))
     ∙ refused-more first_id (history first_id events) (history first_id (e ∷ events)) (given_of notes_of events e) (event-gives notes_of first_id events e)

@@ -12,7 +12,7 @@ use Rattle.packet_stream.specs.declared.read.ReadError.TheVariants.{Refused, Mem
 use Rattle.packet_stream.specs.Split.{Reader, Splitting, split}
 use Rattle.packet_stream.specs.Streams.{StreamView, capped, passed, FollowsBy, Follows, Drained, Wrongs, Answered, Nexts, Changes, after_piece, after_piece_by, Puts}
 use Rattle.packet_stream.proofs.Following.{changed_to}
-use Rattle.gate_history.specs.step.Events.{Event}
+use Rattle.gate_history.specs.step.Events.{PastEvent}
 use Rattle.usbgate_tapes.specs.Show.{Shown, packet_lines, wrong_line, split_text, stream_split, was_wrong, is_wrong, stream_text, show_side}
 use Rattle.usbgate_tapes.specs.tape.Tape.{added}
 use Rattle.usbgate_tapes.specs.inner.show.Shown.{HasNone}
@@ -128,7 +128,7 @@ module _ {S P : Type 0} (shown : Shown S P) where
 
   -- ---- a stream that has had no bytes
 
-  pub shown-new : (refused : Bool) (kept : StreamView S) (events : List Event) → HasNone shown.reader shown.start → shown.bytes events ≡ [] → refused ≡ was_wrong shown events → kept.over ≡ false → Follows shown.reader shown.start kept [] []
+  pub shown-new : (refused : Bool) (kept : StreamView S) (events : List PastEvent) → HasNone shown.reader shown.start → shown.bytes events ≡ [] → refused ≡ was_wrong shown events → kept.over ≡ false → Follows shown.reader shown.start kept [] []
       → HasShown shown refused kept events
   shown-new refused kept events none is refused-is going f = record {
     refused-is = refused-is;
@@ -148,15 +148,15 @@ module _ {S P : Type 0} (shown : Shown S P) where
   none-wrong (Some w) is = absurd (false≢true (sym is))
 
   -- what an event adds to a stream that isn't wrong, and to one that is
-  adds : (events : List Event) (e : Event) (text more : List ℕ) → is_wrong shown events ≡ false → added (stream_text shown) events e ≡ more → text ++ more ≡ text ++ (show_side shown).text events e
+  adds : (events : List PastEvent) (e : PastEvent) (text more : List ℕ) → is_wrong shown events ≡ false → added (stream_text shown) events e ≡ more → text ++ more ≡ text ++ (show_side shown).text events e
   adds events e text more right is =
       ap (λ (l : List ℕ). text ++ l) (sym is ∙ ap (λ (b : Bool). cond b [] (added (stream_text shown) events e)) (sym right))
 
-  adds-none : (events : List Event) (e : Event) (text : List ℕ) → is_wrong shown events ≡ true → text ≡ text ++ (show_side shown).text events e
+  adds-none : (events : List PastEvent) (e : PastEvent) (text : List ℕ) → is_wrong shown events ≡ true → text ≡ text ++ (show_side shown).text events e
   adds-none events e text wrong = sym (append-nil text) ∙ ap (λ (b : Bool). text ++ cond b [] (added (stream_text shown) events e)) (sym wrong)
 
   -- whether a stream was wrong, with an event behind which the present one is or isn't
-  wrong-after : (refused now : Bool) (events : List Event) (e : Event) → refused ≡ was_wrong shown events → is_wrong shown (e ∷ events) ≡ now → (refused || now) ≡ was_wrong shown (e ∷ events)
+  wrong-after : (refused now : Bool) (events : List PastEvent) (e : PastEvent) → refused ≡ was_wrong shown events → is_wrong shown (e ∷ events) ≡ now → (refused || now) ≡ was_wrong shown (e ∷ events)
   wrong-after refused now events e is now-is = ap (λ (b : Bool). b || now) is ∙ ap (λ (b : Bool). was_wrong shown events || b) (sym now-is)
 
   or-same : (a b : Bool) → (b ≡ true → a ≡ true) → a ≡ (a || b)
@@ -169,7 +169,7 @@ module _ {S P : Type 0} (shown : Shown S P) where
   right-text x right = ap (λ (w : Option (ℕ × Reason)). packet_lines shown x.packets ++ wrong_line shown.side w) right
 
   -- more packets, and perhaps a wrong place
-  added-more : (events : List Event) (e : Event) (more : List (ℕ × P)) (w : Option (ℕ × Reason)) → (stream_split shown events).wrong ≡ None → (stream_split shown (e ∷ events)).packets ≡ (stream_split shown events).packets ++ more
+  added-more : (events : List PastEvent) (e : PastEvent) (more : List (ℕ × P)) (w : Option (ℕ × Reason)) → (stream_split shown events).wrong ≡ None → (stream_split shown (e ∷ events)).packets ≡ (stream_split shown events).packets ++ more
       → (stream_split shown (e ∷ events)).wrong ≡ w → added (stream_text shown) events e ≡ packet_lines shown more ++ wrong_line shown.side w
   added-more events e more w right packets wrong =
       let x = stream_split shown events in
@@ -197,7 +197,7 @@ module _ {S P : Type 0} (shown : Shown S P) where
   no-more (x ∷ xs) more is = no-more xs more cc
 
   -- a piece has come to a stream that is over
-  sees-over : (events : List Event) (e : Event) (piece : List ℕ) (refused : Bool) (old put new : StreamView S) (text_old text_new : List ℕ) (v : Unit {0}) → old.over ≡ true → shown.bytes (e ∷ events) ≡ shown.bytes events ++ piece
+  sees-over : (events : List PastEvent) (e : PastEvent) (piece : List ℕ) (refused : Bool) (old put new : StreamView S) (text_old text_new : List ℕ) (v : Unit {0}) → old.over ≡ true → shown.bytes (e ∷ events) ≡ shown.bytes events ++ piece
       → put ≡ after_piece old piece → Puts shown.reader piece old put → ShowsPackets shown (Ok v) put new text_old text_new → HasShown shown refused old events
       → (text_new ≡ text_old ++ (show_side shown).text events e) × HasShown shown refused new (e ∷ events)
   sees-over events e piece refused old put new text_old text_new v over bytes-is put-is puts shows h =
@@ -221,7 +221,7 @@ module _ {S P : Type 0} (shown : Shown S P) where
       )
 
   -- a piece has come to one that isn't
-  sees-going : (events : List Event) (e : Event) (piece : List ℕ) (refused : Bool) (old put new : StreamView S) (text_old text_new : List ℕ) (v : Unit {0}) → old.over ≡ false → shown.bytes (e ∷ events) ≡ shown.bytes events ++ piece
+  sees-going : (events : List PastEvent) (e : PastEvent) (piece : List ℕ) (refused : Bool) (old put new : StreamView S) (text_old text_new : List ℕ) (v : Unit {0}) → old.over ≡ false → shown.bytes (e ∷ events) ≡ shown.bytes events ++ piece
       → put ≡ after_piece old piece → Puts shown.reader piece old put → ShowsPackets shown (Ok v) put new text_old text_new → HasShown shown refused old events
       → (text_new ≡ text_old ++ (show_side shown).text events e) × HasShown shown refused new (e ∷ events)
   sees-going events e piece refused old put new text_old text_new v over bytes-is put-is puts shows h =
@@ -242,20 +242,20 @@ module _ {S P : Type 0} (shown : Shown S P) where
         },
       )
 
-  sees-by : (over : Bool) (events : List Event) (e : Event) (piece : List ℕ) (refused : Bool) (old put new : StreamView S) (text_old text_new : List ℕ) (v : Unit {0}) → old.over ≡ over → shown.bytes (e ∷ events) ≡ shown.bytes events ++ piece
+  sees-by : (over : Bool) (events : List PastEvent) (e : PastEvent) (piece : List ℕ) (refused : Bool) (old put new : StreamView S) (text_old text_new : List ℕ) (v : Unit {0}) → old.over ≡ over → shown.bytes (e ∷ events) ≡ shown.bytes events ++ piece
       → put ≡ after_piece old piece → Puts shown.reader piece old put → ShowsPackets shown (Ok v) put new text_old text_new → HasShown shown refused old events
       → (text_new ≡ text_old ++ (show_side shown).text events e) × HasShown shown refused new (e ∷ events)
   sees-by true = sees-over
   sees-by false = sees-going
 
   -- a piece has come, and its packets are all shown
-  pub sees-all : (events : List Event) (e : Event) (piece : List ℕ) (refused : Bool) (old put new : StreamView S) (text_old text_new : List ℕ) (v : Unit {0}) → shown.bytes (e ∷ events) ≡ shown.bytes events ++ piece
+  pub sees-all : (events : List PastEvent) (e : PastEvent) (piece : List ℕ) (refused : Bool) (old put new : StreamView S) (text_old text_new : List ℕ) (v : Unit {0}) → shown.bytes (e ∷ events) ≡ shown.bytes events ++ piece
       → put ≡ after_piece old piece → Puts shown.reader piece old put → ShowsPackets shown (Ok v) put new text_old text_new → ShowsEvent shown events e refused refused old new text_old text_new
   sees-all events e piece refused old put new text_old text_new v bytes-is put-is puts shows =
       record { sees = λ h. sees-by old.over events e piece refused old put new text_old text_new v refl bytes-is put-is puts shows h }
 
   -- a piece has come, and something in it is wrong
-  pub sees-wrong : (events : List Event) (e : Event) (piece : List ℕ) (refused : Bool) (old put new : StreamView S) (text_old text text_new : List ℕ) (place : ℕ) (reason : Reason) → shown.bytes (e ∷ events) ≡ shown.bytes events ++ piece
+  pub sees-wrong : (events : List PastEvent) (e : PastEvent) (piece : List ℕ) (refused : Bool) (old put new : StreamView S) (text_old text text_new : List ℕ) (place : ℕ) (reason : Reason) → shown.bytes (e ∷ events) ≡ shown.bytes events ++ piece
       → put ≡ after_piece old piece → Puts shown.reader piece old put → ShowsPackets shown (Err (Refused place reason)) put new text_old text
       → text_new ≡ text ++ refusal_line (record { side = shown.side; place = place; reason = reason; kept = None }) → ShowsEvent shown events e refused true old new text_old text_new
   sees-wrong events e piece refused old put new text_old text text_new place reason bytes-is put-is puts shows line = record {
@@ -292,7 +292,7 @@ module _ {S P : Type 0} (shown : Shown S P) where
       was-going true is going = absurd (false≢true (sym going ∙ ap (λ (k : StreamView S). k.over) put-is ∙ over_after old piece true is))
 
   -- an event that isn't the side's
-  pub sees-other : (events : List Event) (e : Event) (refused : Bool) (kept : StreamView S) (text : List ℕ) → shown.bytes (e ∷ events) ≡ shown.bytes events → ShowsEvent shown events e refused refused kept kept text text
+  pub sees-other : (events : List PastEvent) (e : PastEvent) (refused : Bool) (kept : StreamView S) (text : List ℕ) → shown.bytes (e ∷ events) ≡ shown.bytes events → ShowsEvent shown events e refused refused kept kept text text
   sees-other events e refused kept text same = record {
     sees = λ h.
         let now : is_wrong shown (e ∷ events) ≡ kept.over = ap (λ (b : List ℕ). is_some (split shown.reader shown.start b).wrong) same ∙ sym h.over-is in (
@@ -314,7 +314,7 @@ module _ {S P : Type 0} (shown : Shown S P) where
       none-added false is = sym (append-nil text) ∙ adds events e text [] is nothing
 
   -- the end of a stream: the next one begins
-  pub sees-end : (events : List Event) (e : Event) (refused : Bool) (old new : StreamView S) (text : List ℕ) → HasNone shown.reader shown.start → shown.bytes (e ∷ events) ≡ [] → new.over ≡ false → Follows shown.reader shown.start new [] []
+  pub sees-end : (events : List PastEvent) (e : PastEvent) (refused : Bool) (old new : StreamView S) (text : List ℕ) → HasNone shown.reader shown.start → shown.bytes (e ∷ events) ≡ [] → new.over ≡ false → Follows shown.reader shown.start new [] []
       → ShowsEvent shown events e refused refused old new text text
   sees-end events e refused old new text none is going f = record {
     sees = λ h.

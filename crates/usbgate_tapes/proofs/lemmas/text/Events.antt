@@ -7,7 +7,7 @@ use Rattle.std.proofs.lemmas.List.Folds.{list_any-append}
 use Rattle.usb_base.specs.declared.refusal.Refusal.{Refusal}
 use Rattle.gate_history.specs.declared.note.Note.{Note}
 use Rattle.gate_history.specs.declared.note.Note.TheVariants as note
-use Rattle.gate_history.specs.step.Events.{Event}
+use Rattle.gate_history.specs.step.Events.{PastEvent}
 use Rattle.gate_history.specs.step.Marks.{Effect, Imports, Mark}
 use Rattle.gate_history.specs.state.Sides.{refused_at, leaves, is_loss}
 use Rattle.gate_history.specs.client.Submits.{Pending}
@@ -86,12 +86,12 @@ more-is old new before after more none new_is after_is = new_is ∙ ap (λ (l : 
 gains-is : (old new before after : List ℕ) → old ≡ [] → Gains old new before after → new ≡ drop (length before) after
 gains-is old new before after none g = more-is old new before after _ none g.new-is g.after-is
 
-pub sees : (first : ℕ) (old new : Replay) (events : List Event) (e : Event) (client host text_old text_new : List ℕ) (notes : List Note) → HasReplayed first old events
+pub sees : (first : ℕ) (old new : Replay) (events : List PastEvent) (e : PastEvent) (client host text_old text_new : List ℕ) (notes : List Note) → HasReplayed first old events
     → TakesEvent first new.gate events e old.to_client client old.to_host host notes → text_new ≡ text_old ++ sent_text client host notes → new.to_client ≡ [] → new.to_host ≡ []
     → new.refused ≡ (old.refused || list_any is_refusal notes) → PutsEvent first new events e text_old text_new
 sees first old new events e client host text_old text_new notes h t text no_client no_host refused =
-    let clients : List Event → List ℕ = λ es. out_client first (history first es) in
-    let hosts : List Event → List ℕ = λ es. out_host first (history first es) in
+    let clients : List PastEvent → List ℕ = λ es. out_client first (history first es) in
+    let hosts : List PastEvent → List ℕ = λ es. out_host first (history first es) in
     let to_client : client ≡ added clients events e = gains-is old.to_client client _ _ h.to_client t.sends.client in
     let to_host : host ≡ added hosts events e = gains-is old.to_host host _ _ h.to_host t.sends.host in
     let told : notes ≡ added (λ es. all_of notes_of first (history first es)) events e =

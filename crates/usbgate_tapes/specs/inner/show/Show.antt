@@ -7,27 +7,27 @@ use Rattle.packet_stream.specs.declared.read.ReadError.TheVariants.{Refused, Mem
 use Rattle.packet_stream.specs.Format.{Format}
 use Rattle.packet_stream.specs.Split.{reads, split}
 use Rattle.packet_stream.specs.Streams.{StreamView, Follows, Drained, Wrongs}
-use Rattle.gate_history.specs.step.Events.{Event}
+use Rattle.gate_history.specs.step.Events.{PastEvent}
 use Rattle.usbgate_tapes.specs.tape.EventCommand.{EventCommand}
 use Rattle.usbgate_tapes.specs.Show.{Shown, packet_lines, was_wrong, is_wrong, show_side}
 
-abbrev pub shown_by : {S P : Type 0} → Side → (S → Format P Reason) → (S → P → S) → S → (List Event → List ℕ) → (ℕ → P → List ℕ) → Shown S P
+abbrev pub shown_by : {S P : Type 0} → Side → (S → Format P Reason) → (S → P → S) → S → (List PastEvent → List ℕ) → (ℕ → P → List ℕ) → Shown S P
 shown_by side format next start bytes line = record { side = side; reader = reads format next; start = record { state = start; place = 0 }; bytes = bytes; line = line }
 
 -- all packets of the present stream were given, and it is over where something in it is wrong
-pub record HasShown {S P : Type 0} (shown : Shown S P) (refused : Bool) (kept : StreamView S) (events : List Event) : Type 0 where
+pub record HasShown {S P : Type 0} (shown : Shown S P) (refused : Bool) (kept : StreamView S) (events : List PastEvent) : Type 0 where
   pub refused-is : refused ≡ was_wrong shown events
   pub over-is : kept.over ≡ is_wrong shown events
   pub over-refused : kept.over ≡ true → refused ≡ true
   pub follows : Follows shown.reader shown.start kept (shown.bytes events) (split shown.reader shown.start (shown.bytes events)).packets
 
 -- it is the command that shows this side, and these events have been shown
-pub record IsShow {S P : Type 0} (shown : Shown S P) (command : EventCommand) (refused : Bool) (kept : StreamView S) (events : List Event) : Type 0 where
+pub record IsShow {S P : Type 0} (shown : Shown S P) (command : EventCommand) (refused : Bool) (kept : StreamView S) (events : List PastEvent) : Type 0 where
   pub command-is : command ≡ show_side shown
   pub has_shown : HasShown shown refused kept events
 
 -- the lines of an event are put behind the text, and it has been shown
-pub record ShowsEvent {S P : Type 0} (shown : Shown S P) (events : List Event) (e : Event) (refused_old refused_new : Bool) (old new : StreamView S) (text_old text_new : List ℕ) : Type 0 where
+pub record ShowsEvent {S P : Type 0} (shown : Shown S P) (events : List PastEvent) (e : PastEvent) (refused_old refused_new : Bool) (old new : StreamView S) (text_old text_new : List ℕ) : Type 0 where
   pub sees : HasShown shown refused_old old events → (text_new ≡ text_old ++ (show_side shown).text events e) × HasShown shown refused_new new (e ∷ events)
 
 -- ---- the packets that a piece makes whole

@@ -1,7 +1,7 @@
 use Rattle.std.proofs.Common.{ℕ, List, [], None, Err, refl, sym, ◌∙◌, ap, subst}
 use Rattle.gate_outside.specs.Link.{Link}
 use Rattle.session_tape.specs.Tapes.{counts}
-use Rattle.bridge_run.specs.events.Events.{LinkEvent}
+use Rattle.bridge_run.specs.events.Events.{PastLinkEvent}
 use Rattle.bridge_run.specs.served.LentStops.{LentStops}
 use Rattle.bridge_run.specs.served.Lent.{lent_sends}
 use Rattle.bridge_run.specs.course.Outside.{outside, HasReason, gathering, written, faults}
@@ -42,7 +42,7 @@ returns-clause-leaves g c = λ k b t.
     let ends = outside (g.D.Doors.link c.run.new.doors) (g.D.Doors.door c.run.new.doors) in
     let out = written (g.K.Sink.contents c.args.out.now) (g.K.Sink.contents c.args.out.now) None in
     let core = c.new-session.result.core in
-    let stands : List LinkEvent → Type 0 = λ events. IsLent m first core events in
+    let stands : List PastLinkEvent → Type 0 = λ events. IsLent m first core events in
     subst (λ (q : Rounds). IsServing stands p q w (gathering (g.K.Sink.contents c.args.out.now) (g.K.Sink.contents c.args.out.now) None c.new-session.result.waiting) k → Leaves c.run.result (LentStops m first) (setting p q) (Goes AtDoor k) ends (written (g.K.Sink.contents c.args.out.now) (g.K.Sink.contents c.run.new.out) None)) (c.new-session.ensures.rounds ∙ c.new.ensures) (c.run.ensures.course first (g.K.Sink.contents c.args.out.now) k)
     (subst (λ (l : List ℕ). IsServing stands p (begun c.args.idle c.args.budget) w (gathering (g.K.Sink.contents c.args.out.now) (g.K.Sink.contents c.args.out.now) None l) k) (sym c.new-session.ensures.waiting)
     (door-follows stands p c.args.idle c.args.budget

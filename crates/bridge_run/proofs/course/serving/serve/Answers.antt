@@ -4,7 +4,7 @@ use Rattle.gate_core.specs.step.Stands.{GateStands}
 use Rattle.bridge_run.specs.course.Course.{Setting, Making, AtDoor}
 use Rattle.bridge_run.specs.course.Calls.{Goes, make}
 use Rattle.bridge_run.specs.course.Outside.{outside, HasReason, gathering, written, faults}
-use Rattle.bridge_run.specs.events.Events.{LinkEvent}
+use Rattle.bridge_run.specs.events.Events.{PastLinkEvent}
 use Rattle.bridge_run.specs.course.Serves.{Leaves}
 use Rattle.bridge_run.specs.declared.course.rounds.Rounds.{Rounds}
 use Rattle.bridge_run.specs.declared.served.gate.Gateway.{Gateway}
@@ -45,7 +45,7 @@ returns-clause-leaves g c = λ k b t.
     let ends = outside (g.D.Doors.link c.run.new.doors) (g.D.Doors.door c.run.new.doors) in
     let out = written (g.K.Sink.contents c.args.out.now) (g.K.Sink.contents c.args.out.now) (g.T.Tape.contents c.args.tape.now) in
     let core = c.new-session.result.core in
-    let stands : List LinkEvent → Type 0 = λ events. (core.after_loss ≡ c.args.terms.after_loss) × GateStands first core.gate (gate_events events) in
+    let stands : List PastLinkEvent → Type 0 = λ events. (core.after_loss ≡ c.args.terms.after_loss) × GateStands first core.gate (gate_events events) in
     let tells = c.in_default.ensures.course p k out (c.as_slice.ensures ∙ c.in-Ok.ensures.sent ∙ ap (λ (l : List ℕ). l ++ out_host first []) c.new-hello.ensures) b.client_down t in
     leaves-then c.run.result (gate_runs_out first) s (Goes Making k) AtDoor (make p k) ends (written (g.K.Sink.contents c.args.out.now) (g.K.Sink.contents c.run.new.out) (g.T.Tape.contents c.run.new.tape))
     (reaches-call s (Goes Making k) Making k (Goes AtDoor (make p k)) (reaches-none s (Goes Making k)) refl)
@@ -87,7 +87,7 @@ returns-clause-log g c =
     let first = c.args.terms.first_id in
     let p = gate_sends c.args.terms.after_loss first in
     let core = c.new-session.result.core in
-    let stands : List LinkEvent → Type 0 = λ events. (core.after_loss ≡ c.args.terms.after_loss) × GateStands first core.gate (gate_events events) in
+    let stands : List PastLinkEvent → Type 0 = λ events. (core.after_loss ≡ c.args.terms.after_loss) × GateStands first core.gate (gate_events events) in
     let tells = Told g.K.Sink.write_gives c.args.out.now c.args.out.now in
     c.run.ensures.log (c.args.terms.after_loss, first) (with_host c.args.terms.host.now c.args.terms.listen.now (g.T.Tape.made c.args.tape.now) c.args.terms.idle c.args.terms.budget) c.args.doors.now c.args.out.now refl
     (opened-at g.D.Doors.call_gives stands tells c.args.terms.host.now c.args.terms.listen.now (g.T.Tape.made c.args.tape.now) c.args.terms.idle c.args.terms.budget p c.new-session.result.rounds c.args.doors.now c.open.new.doors
