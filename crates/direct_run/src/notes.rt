@@ -82,12 +82,10 @@ pub fn push_performed(
 fn queue_address(ep: EpAddr) -> EpAddr
     ensures { result ≡ queue_byte ep }
 {
-    if ep.byte() != 0x80 {
-        return ep;
-    }
-    match EpAddr::new(0) {
-        Some(zero) => zero,
-        None => unreachable!(),
+    if ep.is_control() {
+        EpAddr::control(false)
+    } else {
+        ep
     }
 }
 

@@ -53,7 +53,7 @@ impl Request {
         let is_in = head.direction != USBIP_DIR_OUT;
         let (ep, setup) = if head.ep == 0 {
             let setup = Setup::read(setup);
-            (address(setup.is_in(), 0), Some(setup))
+            (EpAddr::control(setup.is_in()), Some(setup))
         } else {
             (address(is_in, head.ep), None)
         };

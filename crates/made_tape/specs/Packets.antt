@@ -2,6 +2,7 @@
 -- submits have no flags and no isochronous packets.
 use Rattle.std.specs.Prelude.{ℕ, ◌+◌, ◌*◌, ◌%◌, List, [], ◌∷◌, replicate}
 use Rattle.usb_base.specs.Text.{padded}
+use Rattle.usbip_op.specs.declared.code.TheConstants.{BUS_ID_SIZE}
 use Rattle.usbip_op.specs.declared.exported.TheConstants.{BUS_ID}
 use Rattle.usbip_op.specs.declared.packet.OpPacket.TheVariants.{ReqImport}
 use Rattle.usbip_op.specs.Spelling.{spelling as op_spelling}
@@ -14,7 +15,7 @@ use Rattle.made_tape.specs.declared.packet.TheConstants.{UNLINKS}
 
 -- of the one device that a gateway exports
 abbrev pub import_bytes : List ℕ
-import_bytes = op_spelling (ReqImport 0 (padded 32 BUS_ID))
+import_bytes = op_spelling (ReqImport 0 (padded BUS_ID_SIZE BUS_ID))
 
 abbrev pub head_of : (seqnum direction ep : ℕ) → Head
 head_of seqnum direction ep = record { seqnum = seqnum; devid = EXPORTED_DEVID; direction = direction; ep = ep }

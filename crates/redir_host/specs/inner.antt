@@ -2,4 +2,5 @@
 pub mod Views
 pub mod Takers
 pub mod Requests
+pub mod Addresses
 pub mod Waiting

@@ -52,9 +52,6 @@ has_id id live = goes_by_id live && (live.id == id)
 abbrev pub waits_for : ℕ → Live → Bool
 waits_for ep live = waits_at ep live.kind
 
-abbrev pub touched_by : Route → Live → Bool
-touched_by route live = is_touched_by route live.kind
-
 abbrev pub ended_by : StreamEnd → Live → Bool
 ended_by end live = ends_with end live.kind
 

@@ -16,7 +16,7 @@ use gate_history::Note;
 use gate_parts::{Outputs, client_refusal, failed_import, import_reply, is_exported, list_reply};
 use redir_wire::Connect;
 use usb_base::{Memory, Reason};
-use usbip_op::{OpPacket, OpRequest, write_op};
+use usbip_op::{BUS_ID_SIZE, OpPacket, OpRequest, write_op};
 
 impl Kept {
     /// Answers a list or an import request.
@@ -57,7 +57,7 @@ impl Kept {
     fn answer_import(
         &mut self,
         place: u64,
-        busid: &[u8; 32],
+        busid: &[u8; BUS_ID_SIZE],
         out: &mut Outputs,
     ) -> Result<(), Memory>
         requires kept { IsKept self.old }
@@ -77,7 +77,7 @@ impl Kept {
 
     /// The device that an import of this bus id gets: it is there, and the host has answered all that an earlier client
     /// left, and the last stop of its streams.
-    fn importable(&self, busid: &[u8; 32]) -> Option<Connect>
+    fn importable(&self, busid: &[u8; BUS_ID_SIZE]) -> Option<Connect>
         ensures value { (st : State) → Holds self.now st → result ≡ importable_in st busid.now }
         ensures free { IfSome result (λ connect. self.now.lives.abandoned ≡ []) }
     {

@@ -10,8 +10,8 @@ use redir_wire::{Connect, InterfaceInfo, MAX_INTERFACES};
 use std::alloc::Global;
 use usb_base::{Memory, Speed, padded};
 use usbip_op::{
-    BUS_ID, BUS_NUMBER, DEVICE_NUMBER, DeviceRow, IfaceRow, IfaceRows, Listed, ListedRows,
-    OpPacket, ST_NA, ST_OK,
+    BUS_ID, BUS_ID_SIZE, BUS_NUMBER, DEVICE_NUMBER, DeviceRow, IfaceRow, IfaceRows, Listed,
+    ListedRows, OpPacket, ST_NA, ST_OK,
 };
 
 /// The list of the one device, or of none before its device_connect.
@@ -56,7 +56,7 @@ pub fn failed_import() -> OpPacket
 }
 
 /// Whether the one device has this bus id, a text that ends at its first zero.
-pub fn is_exported(busid: &[u8; 32]) -> bool
+pub fn is_exported(busid: &[u8; BUS_ID_SIZE]) -> bool
     ensures { result ≡ is_exported busid.now }
 {
     busid.starts_with(&BUS_ID) && busid[BUS_ID.len()] == 0

@@ -1,9 +1,10 @@
 //! What the packets ask that move data.
 
-ghost use Rattle.std.specs.Prelude.{◌≡◌, ◌==◌, ◌&&◌, None, Some, IfSome, is_some, nat_le, nat_lt, if◌then◌else◌};
+ghost use Rattle.std.specs.Prelude.{◌≡◌, ◌==◌, ◌&&◌, None, is_ok, nat_le, nat_lt, if◌then◌else◌};
 ghost use Rattle.usb_base.specs.Endpoint.{is_in_endpoint};
 ghost use Rattle.usb_base.specs.declared.limits.TheConstants.{MAX_TRANSFER};
 ghost use Rattle.redir_host.specs.guest.Asking.{asking_of, asked_if, is_other};
+ghost use Rattle.redir_host.specs.inner.Addresses.{byte_of};
 
 use crate::state::request::{Asking, Form};
 use redir_data::RedirData;
@@ -34,7 +35,7 @@ pub fn asking_of(packet: RedirData) -> Asking
             };
             let ep = control_address(&setup, endpoint);
             let form = Form::Control(setup);
-            ask(ep, endpoint, form, Some(setup), u32::from(length), body)
+            ask(ep, form, Some(setup), u32::from(length), body)
         }
         RedirData::Bulk {
             endpoint,
@@ -44,7 +45,7 @@ pub fn asking_of(packet: RedirData) -> Asking
             ..
         } => {
             let ep = bulk_address(endpoint, length);
-            ask(ep, endpoint, Form::Bulk { stream }, None, length, body)
+            ask(ep, Form::Bulk { stream }, None, length, body)
         }
         RedirData::Iso { .. } => Asking::Nothing,
         RedirData::Interrupt {
@@ -62,59 +63,46 @@ fn ask_interrupt(endpoint: u8, length: u16, body: Bytes) -> Asking
     if is_in_endpoint(endpoint) {
         return Asking::Nothing;
     }
-    ask(
-        other_address(endpoint),
-        endpoint,
-        Form::Interrupt,
-        None,
-        u32::from(length),
-        body,
-    )
+    let ep = other_address(endpoint);
+    ask(ep, Form::Interrupt, None, u32::from(length), body)
 }
 
-/// Endpoint 0 in the direction of this setup, if that is its byte.
-fn control_address(setup: &Setup, endpoint: u8) -> Option<EpAddr>
-    ensures { result ≡ (if endpoint == (if nat_lt setup.now.kind 128 then 0 else 128) then Some endpoint else None) }
+/// Endpoint 0 in the direction of this setup, if that is its byte; else the byte.
+fn control_address(setup: &Setup, endpoint: u8) -> Result<EpAddr, u8>
+    ensures can { is_ok result ≡ (endpoint == (if nat_lt setup.now.kind 128 then 0 else 128)) }
+    ensures byte { byte_of result ≡ endpoint }
 {
     let ep = EpAddr::control(setup.is_in());
-    if ep.byte() == endpoint {
-        Some(ep)
-    } else {
-        None
-    }
+    Some(ep).filter(|ep| ep.byte() == endpoint).ok_or(endpoint)
 }
 
-/// The address of an endpoint other than 0 for a transfer of this length, if it can be asked for.
-fn bulk_address(endpoint: u8, length: u32) -> Option<EpAddr>
-    ensures { result ≡ (if is_other endpoint && nat_le length MAX_TRANSFER then Some endpoint else None) }
+/// The address of an endpoint other than 0 for a transfer of this length, if it can be asked for; else its byte.
+fn bulk_address(endpoint: u8, length: u32) -> Result<EpAddr, u8>
+    ensures can { is_ok result ≡ (is_other endpoint && nat_le length MAX_TRANSFER) }
+    ensures byte { byte_of result ≡ endpoint }
 {
     if length > MAX_TRANSFER {
-        return None;
+        return Err(endpoint);
     }
     other_address(endpoint)
 }
 
-/// The address of an endpoint other than 0, if this is its byte.
-fn other_address(endpoint: u8) -> Option<EpAddr>
-    ensures { result ≡ (if is_other endpoint then Some endpoint else None) }
+/// The address of an endpoint other than 0, if this is its byte; else the byte.
+fn other_address(endpoint: u8) -> Result<EpAddr, u8>
+    ensures can { is_ok result ≡ is_other endpoint }
+    ensures byte { byte_of result ≡ endpoint }
 {
-    EpAddr::new(endpoint).filter(|ep| !ep.is_control())
+    EpAddr::new(endpoint)
+        .filter(|ep| !ep.is_control())
+        .ok_or(endpoint)
 }
 
-/// A transfer of the endpoint with this byte, if it can be asked for: then its address is given.
-fn ask(
-    ep: Option<EpAddr>,
-    endpoint: u8,
-    form: Form,
-    setup: Option<Setup>,
-    wanted: u32,
-    body: Bytes,
-) -> Asking
-    requires { IfSome ep (λ address. address ≡ endpoint) }
-    ensures { result ≡ asked_if (is_some ep) form (record { ep = endpoint; setup = setup; wanted = wanted; body = body }) }
+/// A transfer of this endpoint, or the refusal of a byte that can't be asked for.
+fn ask(ep: Result<EpAddr, u8>, form: Form, setup: Option<Setup>, wanted: u32, body: Bytes) -> Asking
+    ensures { result ≡ asked_if (is_ok ep) form (record { ep = byte_of ep; setup = setup; wanted = wanted; body = body }) }
 {
     match ep {
-        Some(ep) => Asking::Asks {
+        Ok(ep) => Asking::Asks {
             form,
             transfer: Transfer {
                 ep,
@@ -123,6 +111,6 @@ fn ask(
                 body,
             },
         },
-        None => Asking::Refuses { form, endpoint },
+        Err(endpoint) => Asking::Refuses { form, endpoint },
     }
 }

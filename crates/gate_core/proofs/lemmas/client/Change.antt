@@ -11,7 +11,7 @@ use Rattle.usbip_urb.specs.ClientPackets.{client_spelling}
 use Rattle.control_route.specs.declared.route.Route.{Route}
 use Rattle.unlink_race.specs.declared.live.Live.{Live}
 use Rattle.unlink_race.specs.declared.live.StreamEnd.TheVariants.{Change}
-use Rattle.unlink_race.specs.Searches.{touched_by}
+use Rattle.unlink_race.specs.Searches.{ended_by}
 use Rattle.gate_history.specs.declared.note.Note.{Note}
 use Rattle.gate_history.specs.declared.note.Note.TheVariants as note
 use Rattle.gate_parts.specs.declared.write.outputs.Outputs.{Outputs}
@@ -65,16 +65,16 @@ module _ (st : State) (sound : IsSound st) (q : Request) (r : Route) where
   packet l = without_packets (row_request l) ESHUTDOWN
 
   abbrev So : Pending → Type 0
-  So p = EndsSo e (touched_by r) packet p
+  So p = EndsSo e (ended_by (Change r)) packet p
 
   other-end : (p : Pending) → p.submit.place < st.items → ends e p.submit ≡ cond (is_touched (Routed r) p.submit.verdict) (Some (ByStatus ESHUTDOWN)) None
   other-end p placed =
       ap (λ (b : Bool). cond b (at_once p.submit.verdict) (cond (is_touched (Routed r) p.submit.verdict) (Some (ByStatus ESHUTDOWN)) None)) (other-place st.items p.submit.place placed)
 
   other-so : (p : Pending) → p.submit.place < st.items → IsGoing p → So p
-  other-so p placed going = ends-so e (touched_by r) packet p (is_touched (Routed r) p.submit.verdict) (ByStatus ESHUTDOWN) (other-end p placed) (touched-row r p going) refl refl refl
+  other-so p placed going = ends-so e (ended_by (Change r)) packet p (is_touched (Routed r) p.submit.verdict) (ByStatus ESHUTDOWN) (other-end p placed) (touched-row r p going) refl refl refl
 
-  all-so : Each (EndsSo e (touched_by r) packet) st.live
+  all-so : Each (EndsSo e (ended_by (Change r)) packet) st.live
   all-so =
       each-two (λ p. p.submit.place < st.items) IsGoing So other-so st.live
       (each-mapped (λ (s : Submission). s.place < st.items) (λ (p : Pending). p.submit) st.live sound.places) (all-going st sound)
@@ -90,47 +90,47 @@ module _ (st : State) (sound : IsSound st) (q : Request) (r : Route) where
       Each-weaker (λ p. p.submit.place < st.items) (λ p. ends e p.submit ≡ cond (touched p) (Some (ByStatus ESHUTDOWN)) None) other-end st.live
       (each-mapped (λ (s : Submission). s.place < st.items) (λ (p : Pending). p.submit) st.live sound.places)
 
-  live-rows : map row (live_after st e) ≡ filter (λ l. not (touched_by r l)) (map row st.live) ++ row (fresh change) ∷ []
+  live-rows : map row (live_after st e) ≡ filter (λ l. not (ended_by (Change r) l)) (map row st.live) ++ row (fresh change) ∷ []
   live-rows =
       ap (map row) (change-left st change touched (ByStatus ESHUTDOWN) others own)
       ∙ map-append row (filter (λ p. not (touched p)) st.live) (fresh change ∷ [])
       ∙ ap (λ (ls : List Live). ls ++ row (fresh change) ∷ [])
-      (ap (map row) (filter-same (λ p. not (touched p)) (λ p. not (touched_by r (row p))) st.live
-      (Each-weaker IsGoing (λ p. not (touched p) ≡ not (touched_by r (row p))) (λ p going. ap not (sym (touched-row r p going))) st.live (all-going st sound)))
-      ∙ sym (filter-map (λ l. not (touched_by r l)) row st.live))
+      (ap (map row) (filter-same (λ p. not (touched p)) (λ p. not (ended_by (Change r) (row p))) st.live
+      (Each-weaker IsGoing (λ p. not (touched p) ≡ not (ended_by (Change r) (row p))) (λ p going. ap not (sym (touched-row r p going))) st.live (all-going st sound)))
+      ∙ sym (filter-map (λ l. not (ended_by (Change r) l)) row st.live))
 
-  change-sent : ended_packets e (touched_by r) packet (st.live ++ fresh change ∷ []) ≡ ended_packets e (touched_by r) packet st.live
+  change-sent : ended_packets e (ended_by (Change r)) packet (st.live ++ fresh change ∷ []) ≡ ended_packets e (ended_by (Change r)) packet st.live
   change-sent =
       flat_map-append (λ p. answers_at p.submit p.unlinker (ends e p.submit)) st.live (fresh change ∷ [])
-      ∙ (λ i. ended_packets e (touched_by r) packet st.live ++ (answers_at change None (own i) ++ []))
-      ∙ append-nil (ended_packets e (touched_by r) packet st.live)
+      ∙ (λ i. ended_packets e (ended_by (Change r)) packet st.live ++ (answers_at change None (own i) ++ []))
+      ∙ append-nil (ended_packets e (ended_by (Change r)) packet st.live)
 
   pub does-change : (old new : Kept) (out_old out_new : Outputs) → Holds old st →
       old.unlinked ≤ 2 ^ 64 - 1 → old.dropped ≤ 2 ^ 64 - 1 →
       new ≡ record old {
-        lives = record { live = filter (λ l. not (touched_by r l)) old.lives.live ++ row (fresh change) ∷ []; abandoned = old.lives.abandoned };
+        lives = record { live = filter (λ l. not (ended_by (Change r) l)) old.lives.live ++ row (fresh change) ∷ []; abandoned = old.lives.abandoned };
         streams = lower (is_ended (Some r)) old.streams;
         stream_ids = stream_ids_after (zip (drawn_for st q (Routed r)) (packets_of st.streams (Routed r) q)) old.stream_ids;
         last = last_of old.last (drawn_for st q (Routed r));
-        answered = capped (old.answered + length (filter (touched_by r) old.lives.live));
+        answered = capped (old.answered + length (filter (ended_by (Change r)) old.lives.live));
       } →
       out_new.to_client ≡ out_old.to_client ++ flat_map (ended_bytes (Change r) ESHUTDOWN) old.lives.live →
       out_new.to_host ≡ out_old.to_host ++ flat_map (sent_packet_bytes old.caps) (zip (drawn_for st q (Routed r)) (packets_of st.streams (Routed r) q)) →
       out_new.notes ≡ out_old.notes ++ note.Submitted q.seqnum change.id ∷ [] →
       Does st (mark_as st (Opens change) None) old new out_old out_new
   does-change old new out_old out_new h unlinked_fits dropped_fits is client host notes =
-      let rows : List Live = filter (λ l. not (touched_by r l)) old.lives.live ++ row (fresh change) ∷ [] in
-      let done = counted-all e (touched_by r) packet is_ret_submit (λ l. refl) st.live all-so in
-      let won = counted-none e (touched_by r) packet is_won_unlink (λ l. refl) st.live all-so in
-      does-quiet st e refl old new rows old.lives.abandoned (length (filter (touched_by r) old.lives.live)) 0 out_old out_new h dropped_fits
-      (is ∙ (λ i. record (moved st e rows old.lives.abandoned (length (filter (touched_by r) old.lives.live)) 0 old) { unlinked = capped-same old.unlinked unlinked_fits i }))
-      (ap (λ (ls : List Live). filter (λ l. not (touched_by r l)) ls ++ row (fresh change) ∷ []) h.live ∙ sym live-rows)
+      let rows : List Live = filter (λ l. not (ended_by (Change r) l)) old.lives.live ++ row (fresh change) ∷ [] in
+      let done = counted-all e (ended_by (Change r)) packet is_ret_submit (λ l. refl) st.live all-so in
+      let won = counted-none e (ended_by (Change r)) packet is_won_unlink (λ l. refl) st.live all-so in
+      does-quiet st e refl old new rows old.lives.abandoned (length (filter (ended_by (Change r)) old.lives.live)) 0 out_old out_new h dropped_fits
+      (is ∙ (λ i. record (moved st e rows old.lives.abandoned (length (filter (ended_by (Change r)) old.lives.live)) 0 old) { unlinked = capped-same old.unlinked unlinked_fits i }))
+      (ap (λ (ls : List Live). filter (λ l. not (ended_by (Change r) l)) ls ++ row (fresh change) ∷ []) h.live ∙ sym live-rows)
       (h.abandoned ∙ none-answered e st.abandoned (λ s. refl))
-      (ap (λ (ls : List Live). length (filter (touched_by r) ls)) h.live ∙ sym done ∙ ap (λ (ps : List UrbPacket). length (filter is_ret_submit (map Urb ps))) (sym change-sent))
+      (ap (λ (ls : List Live). length (filter (ended_by (Change r)) ls)) h.live ∙ sym done ∙ ap (λ (ps : List UrbPacket). length (filter is_ret_submit (map Urb ps))) (sym change-sent))
       (sym won ∙ ap (λ (ps : List UrbPacket). length (filter is_won_unlink (map Urb ps))) (sym change-sent))
       (change-dropped st change touched (ByStatus ESHUTDOWN) others own refl)
       (client ∙ ap (λ (bs : List ℕ). out_old.to_client ++ bs)
-      (ap (flat_map (ended_bytes (Change r) ESHUTDOWN)) h.live ∙ sym (ended-bytes e (touched_by r) packet st.live all-so)
+      (ap (flat_map (ended_bytes (Change r) ESHUTDOWN)) h.live ∙ sym (ended-bytes e (ended_by (Change r)) packet st.live all-so)
       ∙ ap (λ (ps : List UrbPacket). flat_map client_spelling (map Urb ps)) (sym change-sent)))
       (host ∙ (λ i. out_old.to_host ++ flat_map (sent_packet_bytes (h.caps i)) (sym (none-cancelled e stays-uncancelled st.live) i ++ zip (drawn_for st q (Routed r)) (packets_of st.streams (Routed r) q))))
       (notes ∙ ap (λ (ns : List Note). out_old.notes ++ note.Submitted q.seqnum change.id ∷ ns) (sym (change-noted st change touched (ByStatus ESHUTDOWN) others own refl)))

@@ -2,7 +2,7 @@
 use Rattle.std.proofs.Common.{◌≡◌, ℕ, ◌==◌, ◌&&◌, List, [], ◌∷◌, map, None, refl, ap, ◌∙◌}
 use Rattle.std.specs.Prelude.{filter}
 use Rattle.control_route.specs.declared.route.Route.{Route}
-use Rattle.unlink_race.specs.Searches.{is_stream, waits_at as kind_waits_at, is_touched_by, waits_for, touched_by}
+use Rattle.unlink_race.specs.Searches.{is_stream, waits_at as kind_waits_at, is_touched_by, waits_for}
 use Rattle.gate_history.specs.declared.verdict.Verdict.{Verdict}
 use Rattle.gate_history.specs.declared.verdict.Verdict.TheVariants.{Now, Wire, Routed, IsoOut, Stream}
 use Rattle.gate_history.specs.step.Marks.{Submission}
@@ -55,7 +55,7 @@ stream-row p h = stream-kind p.submit.verdict p.submit.request.transfer.ep h
 pub waits-row : (ep : ℕ) (p : Pending) → IsGoing p → waits_for ep (row p) ≡ waits_at ep p.submit
 waits-row ep p h = waits-kind p.submit.verdict p.submit.request.transfer.ep ep h
 
-pub touched-row : (r : Route) (p : Pending) → IsGoing p → touched_by r (row p) ≡ is_touched (Routed r) p.submit.verdict
+pub touched-row : (r : Route) (p : Pending) → IsGoing p → is_touched_by r (row p).kind ≡ is_touched (Routed r) p.submit.verdict
 touched-row r p h = touched-kind p.submit.verdict p.submit.request.transfer.ep r h
 
 -- ---- of all rows

@@ -7,7 +7,7 @@ use Rattle.redir_data.specs.declared.packet.RedirPacket.{RedirPacket}
 use Rattle.unlink_race.specs.declared.live.Live.{Live}
 use Rattle.unlink_race.specs.declared.live.LiveKind.TheVariants as live_kind
 use Rattle.unlink_race.specs.declared.live.StreamEnd.TheVariants.{Change}
-use Rattle.unlink_race.specs.Searches.{touched_by}
+use Rattle.unlink_race.specs.Searches.{ended_by}
 use Rattle.gate_core.specs.declared.state.kept.Kept.{Kept}
 use Rattle.gate_history.specs.declared.note.Note.TheVariants as note
 use Rattle.gate_parts.specs.declared.state.stream_ids.SentIds.{SentIds}
@@ -51,36 +51,36 @@ returns-clause-ok c st h sound =
     let id : c.in_ok-id.id ≡ s.id = last ∙ last-any old.last 0 (ids_after old old.last (length (before ++ asks))) some ∙ ap (last_of 0) drawn in
     let asked : with_ids old old.last (before ++ asks) ≡ zip (drawn_for st r v) all = asked-are old st h (before ++ asks) all same in
     let opened : Live → Kept = λ (l : Live). record old {
-      lives = record { live = filter (λ x. not (touched_by by x)) (old.lives.live ++ l ∷ []); abandoned = old.lives.abandoned };
+      lives = record { live = filter (λ x. not (ended_by (Change by) x)) (old.lives.live ++ l ∷ []); abandoned = old.lives.abandoned };
       streams = lower (is_ended (Some by)) old.streams;
       stream_ids = c.in_ok-sent_ids.sent_ids.stream_ids;
       last = c.in_ok-id.id;
-      answered = capped (old.answered + length (filter (touched_by by) (old.lives.live ++ l ∷ [])));
+      answered = capped (old.answered + length (filter (ended_by (Change by)) (old.lives.live ++ l ∷ [])));
     } in
     let row : Live = row_for r (live_kind.Routed by) c.in_ok-id.id in
     does-change st sound r by old _ _ _ h c.requires.kept.unlinked_fits c.requires.kept.dropped_fits
     (c.end_streams.ensures.ended
     ∙ ap (λ (k : Kept). record k { streams = lower (is_ended (Some by)) k.streams; stream_ids = c.in_ok-sent_ids.sent_ids.stream_ids }) c.drop_ended.ensures.dropped.is
     ∙ ap (λ (k : Kept). record k {
-      lives = record { live = filter (λ x. not (touched_by by x)) k.lives.live; abandoned = k.lives.abandoned };
+      lives = record { live = filter (λ x. not (ended_by (Change by) x)) k.lives.live; abandoned = k.lives.abandoned };
       streams = lower (is_ended (Some by)) k.streams;
       stream_ids = c.in_ok-sent_ids.sent_ids.stream_ids;
-      answered = capped (k.answered + length (filter (touched_by by) k.lives.live));
+      answered = capped (k.answered + length (filter (ended_by (Change by)) k.lives.live));
     }) c.open.ensures.opened.is
     ∙ ap opened c.row_for-live.ensures
     ∙ (λ i. record old {
-      lives = record { live = filter-append (λ x. not (touched_by by x)) old.lives.live (row ∷ []) i; abandoned = old.lives.abandoned };
+      lives = record { live = filter-append (λ x. not (ended_by (Change by) x)) old.lives.live (row ∷ []) i; abandoned = old.lives.abandoned };
       streams = lower (is_ended (Some by)) old.streams;
       stream_ids = c.in_ok-sent_ids.sent_ids.stream_ids;
       last = c.in_ok-id.id;
-      answered = capped (old.answered + length ((filter-append (touched_by by) old.lives.live (row ∷ []) ∙ append-nil (filter (touched_by by) old.lives.live)) i));
+      answered = capped (old.answered + length ((filter-append (ended_by (Change by)) old.lives.live (row ∷ []) ∙ append-nil (filter (ended_by (Change by)) old.lives.live)) i));
     })
     ∙ (λ i. record old {
-      lives = record { live = filter (λ x. not (touched_by by x)) old.lives.live ++ row_for r (live_kind.Routed by) (id i) ∷ []; abandoned = old.lives.abandoned };
+      lives = record { live = filter (λ x. not (ended_by (Change by) x)) old.lives.live ++ row_for r (live_kind.Routed by) (id i) ∷ []; abandoned = old.lives.abandoned };
       streams = lower (is_ended (Some by)) old.streams;
       stream_ids = (ap (λ (k : SentIds). k.stream_ids) stopped ∙ sym (stream_ids-silent old before asks (route-silent by)) ∙ ap (λ l. stream_ids_after l old.stream_ids) asked) i;
       last = (last ∙ ap (last_of old.last) drawn) i;
-      answered = capped (old.answered + length (filter (touched_by by) old.lives.live));
+      answered = capped (old.answered + length (filter (ended_by (Change by)) old.lives.live));
     }))
     c.in_ok-write_ends.ensures.ok
     (c.in_ok-id.ensures.sent ∙ (λ i. c.in_ok-sent_ids.ensures.sent i ++ bytes_of old (stopped i).last asks)
