@@ -68,11 +68,7 @@ known_of link door sink_faults sink_bytes tape_counts tape_bytes begun doors sin
 
 -- of a run that has no recording
 abbrev pub known_untaped : {D K : Type 0} → (D → Side → Link) → (D → Door) → (K → ℕ) → (K → Option (List ℕ)) → K → D → K → Known
-known_untaped link door sink_faults sink_bytes begun doors sink = record {
-  outside = outside (link doors) (door doors);
-  faults = faults (sink_faults sink) (counts 0 0);
-  written = written (sink_bytes begun) (sink_bytes sink) None;
-}
+known_untaped link door sink_faults sink_bytes begun doors sink = known_of link door sink_faults sink_bytes (λ (none : Unit {0}). counts 0 0) (λ none. None) begun doors sink tt
 
 -- where nothing is recorded
 abbrev pub untaped : Known → Known

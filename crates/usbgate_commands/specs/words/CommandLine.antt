@@ -1,7 +1,8 @@
 -- How the words are read, by the library of command lines: `COMMAND`, which must be there, `NUMBER`, and options with
 -- one value each, in any order.
-use Rattle.std.specs.Prelude.{true, List, [], ◌∷◌, map, fold, codes, Option, Some, None}
-use Rattle.clap.specs.Words.{App, Row, Rule, Text, new_app, new_rule, with_rule, fault_of, matches_of, Kinds}
+use Rattle.std.specs.Prelude.{true, if◌then◌else◌, List, [], ◌∷◌, map, fold, codes, Option, Some, None}
+use Rattle.clap.specs.Words.{App, Row, Rule, Text, new_app, new_rule, with_rule, fault_of, matches_of}
+use Rattle.usb_base.specs.Lists.{is_empty}
 
 abbrev pub option_named : Text → Rule
 option_named name = record (new_rule name) { long = Some name }
@@ -16,10 +17,6 @@ options = codes "device" ∷ codes "side" ∷ codes "host" ∷ codes "listen" �
 abbrev pub command_line : App
 command_line = fold with_rule program (record (new_rule (codes "command")) { required = true } ∷ new_rule (codes "number") ∷ map option_named options)
 
-abbrev pub found_by : Kinds → List Row → Option (List Row)
-found_by [] rows = Some rows
-found_by (kind ∷ kinds) rows = None
-
 -- what is found in the words, or none where they are refused
 abbrev pub found : List Text → Option (List Row)
-found words = found_by (fault_of command_line words) (matches_of command_line words)
+found words = if is_empty (fault_of command_line words) then Some (matches_of command_line words) else None

@@ -69,7 +69,7 @@ pub client-first : (kept : StreamView (Unit {0})) → kept ≡ record { state = 
 client-first kept is = all-first (λ s. client_packets) (λ s p. s) (λ s. client_packets_sound) tt kept (two_quiet [] [] (omega arith)) is
 
 host-first : (kept : StreamView RedirState) → kept ≡ record { state = start; rest = []; place = 0; held = []; at = 0; over = false } → HasAll host_reader stream_start kept [] [] false
-host-first kept is = all-first (stream_format ToGuest) after (stream_sound ToGuest) start kept (four_quiet start.first start.caps ToGuest [] [] (omega arith)) is
+host-first kept is = all-first (stream_format ToGuest) after (stream_sound ToGuest) start kept (four_quiet start ToGuest [] [] (omega arith)) is
 
 pub stands-first : (first : ℕ) (g : Inner) → g.want ≡ None → IsFirst g.translator first → g.client ≡ record { state = tt; rest = []; place = 0; held = []; at = 0; over = false } →
     g.host ≡ record { state = start; rest = []; place = 0; held = []; at = 0; over = false } → GateStands first (kept_of g) []

@@ -168,7 +168,7 @@ host-are (ClientEnd ∷ events) are = host-are events are
 host-are (HostEnd ∷ events) are = host-are events are
 
 nothing-told : (host_split []).packets ≡ []
-nothing-told = ap (λ (x : Splitting RedirState (Header × RedirPacket) Reason). x.packets) (split-empty (stream_format ToGuest) after (stream_sound ToGuest) stream_start (four_quiet start.first start.caps ToGuest [] [] (omega arith)))
+nothing-told = ap (λ (x : Splitting RedirState (Header × RedirPacket) Reason). x.packets) (split-empty (stream_format ToGuest) after (stream_sound ToGuest) stream_start (four_quiet start ToGuest [] [] (omega arith)))
 
 pub comes : (events : List PastEvent) → AreBytes (flat_map piece_bytes events) → Comes (host_split (host_bytes events)).packets (arrivals events)
 comes [] are = (tt, sym nothing-told)

@@ -38,7 +38,7 @@ use Rattle.redir_host.proofs.lemmas.write.Replies.{read-more}
 -- ---- nothing has come
 
 pub split-none : guest_split [] ≡ record { packets = []; wrong = None; position = stream_start; rest = [] }
-split-none = split-is guest_reader (reads_steady (stream_format ToHost) after (stream_sound ToHost)) stream_start [] Short (four_quiet start.first start.caps ToHost [] [] (omega arith))
+split-none = split-is guest_reader (reads_steady (stream_format ToHost) after (stream_sound ToHost)) stream_start [] Short (four_quiet start ToHost [] [] (omega arith))
 
 abbrev first-stream : Stream RedirState
 first-stream = record { state = start; rest = []; place = 0; held = []; at = 0; over = false }
