@@ -6,6 +6,7 @@ mod again;
 mod line;
 mod made;
 mod packet;
+mod progress;
 mod task;
 
 pub use again::read_again;

@@ -7,7 +7,8 @@ ghost use Rattle.made_tape.specs.Lines.{tape_text};
 ghost use Rattle.made_tape.specs.Rounds.{made_lines};
 
 use crate::line::push_line;
-use crate::task::{Task, next_number, opening, said, tasks};
+use crate::progress::Progress;
+use crate::task::said;
 use packet_show::ModelLine;
 use std::alloc::Global;
 use std::marker::Model;
@@ -19,14 +20,7 @@ pub const MOST_ROUNDS: u16 = 1000;
 /// A made tape, seen as the lines that are still to come.
 #[derive(Drop)]
 pub struct MadeTape {
-    /// What is still to be done in this round.
-    tasks: &'static [Task],
-    /// The round, counted from 1; 0 is what comes before the first.
-    round: u16,
-    /// The round's number.
-    number: u32,
-    /// How many rounds there are.
-    count: u16,
+    progress: Progress,
 }
 
 impl Model for MadeTape {
@@ -36,7 +30,7 @@ impl Model for MadeTape {
 
     ghost Value = { List Line };
 
-    ghost view = { λ tape. lines_left tape.count tape.round tape.number tape.tasks.now };
+    ghost view = { λ tape. lines_left tape.progress };
 }
 
 impl MadeTape {
@@ -45,10 +39,7 @@ impl MadeTape {
         ensures { result ≡ made_lines count }
     {
         MadeTape {
-            tasks: opening(),
-            round: 0,
-            number: u32::from(count),
-            count,
+            progress: Progress::start(count),
         }
     }
 
@@ -58,16 +49,18 @@ impl MadeTape {
         ensures same { OnErr result (self.new ≡ self.old) }
         ensures wants { OnErr result (IsSomeAnd (slice_get self.old 0) (λ said. model_has_bytes said ≡ true)) }
     {
-        if self.tasks.is_empty() && self.round < self.count {
-            self.round += 1;
-            self.number = next_number(self.number);
-            self.tasks = tasks(self.number);
-        }
-        let [task, rest @ ..] = self.tasks else {
+        self.progress.go_on();
+        let Progress {
+            tasks: [task, rest @ ..],
+            round,
+            number,
+            ..
+        } = self.progress
+        else {
             return Ok(None);
         };
-        let line = said(alloc, self.round, self.number, *task)?;
-        self.tasks = rest;
+        let line = said(alloc, round, number, *task)?;
+        self.progress.tasks = rest;
         Ok(Some(line))
     }
 }
