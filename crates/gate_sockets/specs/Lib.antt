@@ -1,3 +1,4 @@
+pub mod inner
 pub mod Ahead
 pub mod Calls
 pub mod Door

@@ -7,6 +7,7 @@
 #![tactic(auto)]
 
 mod ahead;
+mod both;
 mod connection;
 mod limits;
 mod network;

@@ -6,6 +6,7 @@ ghost use Rattle.gate_sockets.specs.State.{fresh, faulted, state_of, link_of, do
 ghost use Rattle.gate_sockets.specs.Writing.{ReadOn, WroteOnce};
 ghost use Rattle.gate_outside.specs.Link.{other};
 
+use crate::both::Both;
 use crate::connection::Connection;
 use crate::limits::TRIES;
 use crate::network::Network;
@@ -39,8 +40,7 @@ pub struct TcpDoors<'rt, N: Network + Eprint> {
     rt: &'rt N,
     ready: Ready,
     door: Option<N::Door>,
-    client: Socket<N::Stream>,
-    host: Socket<N::Stream>,
+    sockets: Both<Socket<N::Stream>>,
     /// A call has tried to open a link or the door.
     used: bool,
     /// A host was dialled.
@@ -54,7 +54,7 @@ impl<'rt, N: Network + Eprint> Model for TcpDoors<'rt, N> {
 
     ghost Value = { States N.Stream N.Door };
 
-    ghost view = { λ doors. record { client = doors.client; host = doors.host; door = doors.door } };
+    ghost view = { λ doors. record { client = doors.sockets.client; host = doors.sockets.host; door = doors.door } };
 }
 
 impl<'rt, N: Network + Eprint> TcpDoors<'rt, N> {
@@ -68,8 +68,10 @@ impl<'rt, N: Network + Eprint> TcpDoors<'rt, N> {
             rt,
             ready: rt.ready(alloc)?,
             door: None,
-            client: Socket::new(Side::Client, alloc),
-            host: Socket::new(Side::Host, alloc),
+            sockets: Both {
+                client: Socket::new(Side::Client, alloc),
+                host: Socket::new(Side::Host, alloc),
+            },
             used: false,
             dialled: false,
             wants: false,
@@ -94,7 +96,7 @@ impl<'rt, N: Network + Eprint> TcpDoors<'rt, N> {
     {
         let mut stream = self.rt.dial_at(addr)?;
         stream.set_up(Side::Host, &mut self.ready)?;
-        self.host.open(stream);
+        self.sockets.host.open(stream);
         self.dialled = true;
         Ok(())
     }
@@ -118,7 +120,7 @@ impl<'rt, N: Network + Eprint> TcpDoors<'rt, N> {
         };
         let mut stream = self.rt.accept_at(door)?;
         stream.set_up(Side::Client, &mut self.ready)?;
-        self.client.open(stream);
+        self.sockets.client.open(stream);
         Ok(())
     }
 
@@ -129,7 +131,7 @@ impl<'rt, N: Network + Eprint> TcpDoors<'rt, N> {
     {
         match self.try_accept() {
             Ok(()) => {
-                telling::came(self.rt, self.client.other_end());
+                telling::came(self.rt, self.sockets.client.other_end());
                 self.wants = false;
                 true
             }
@@ -145,23 +147,18 @@ impl<'rt, N: Network + Eprint> TcpDoors<'rt, N> {
 
     /// Says that the side's link has come to its end.
     fn tell_end(&self, side: Side) {
-        match side {
-            Side::Client => telling::left(self.rt, self.client.other_end(), self.client.why()),
-            Side::Host => telling::left(self.rt, self.host.other_end(), self.host.why()),
-        }
+        let socket = self.sockets.of(side);
+        telling::left(self.rt, socket.other_end(), socket.why());
     }
 
     /// Says that the side's link is closed from here. Where a host was dialled, a client may also be let go whose
     /// device is lost.
     fn tell_close(&self, side: Side) {
-        match side {
-            Side::Client if self.dialled => {
-                let why = "it was refused, or its device is lost";
-                telling::let_go(self.rt, self.client.other_end(), why);
-            }
-            Side::Client => telling::let_go(self.rt, self.client.other_end(), "it was refused"),
-            Side::Host => telling::let_go(self.rt, self.host.other_end(), "it was refused"),
-        }
+        let why = match side {
+            Side::Client if self.dialled => "it was refused, or its device is lost",
+            Side::Client | Side::Host => "it was refused",
+        };
+        telling::let_go(self.rt, self.sockets.of(side).other_end(), why);
     }
 
     /// Looks at the door, and once more where nobody stood there at first and it was worth a wait.
@@ -179,10 +176,7 @@ impl<'rt, N: Network + Eprint> TcpDoors<'rt, N> {
         ensures other { state_of self.new (other side) ≡ state_of self.old (other side) }
         ensures door { self.new.door ≡ self.old.door }
     {
-        match side {
-            Side::Client => self.client.write_once(piece),
-            Side::Host => self.host.write_once(piece),
-        }
+        self.sockets.of_mut(side).write_once(piece)
     }
 
     /// Waits for a moment where a write is blocked, which was tried so often before. Where it may not go on then, and
@@ -194,8 +188,8 @@ impl<'rt, N: Network + Eprint> TcpDoors<'rt, N> {
         ensures door { self.new.door ≡ self.old.door }
     {
         if !self.ready.blocked() && tried >= PATIENCE {
-            self.client.read_on(CLIENT_AHEAD);
-            self.host.read_on(HOST_AHEAD);
+            self.sockets.client.read_on(CLIENT_AHEAD);
+            self.sockets.host.read_on(HOST_AHEAD);
         }
     }
 
@@ -204,16 +198,9 @@ impl<'rt, N: Network + Eprint> TcpDoors<'rt, N> {
         ensures other { state_of self.new (other side) ≡ state_of self.old (other side) }
         ensures door { self.new.door ≡ self.old.door }
     {
-        match side {
-            Side::Client => {
-                telling::stuck(self.rt, self.client.other_end());
-                self.client.fail()
-            }
-            Side::Host => {
-                telling::stuck(self.rt, self.host.other_end());
-                self.host.fail()
-            }
-        }
+        let socket = self.sockets.of_mut(side);
+        telling::stuck(self.rt, socket.other_end());
+        socket.fail()
     }
 }
 
@@ -241,12 +228,12 @@ impl<'rt, N: Network + Eprint> Doors for TcpDoors<'rt, N> {
         self.used = true;
         match self.try_dial(addr) {
             Ok(()) => {
-                telling::came(self.rt, self.host.other_end());
+                telling::came(self.rt, self.sockets.host.other_end());
                 Ok(())
             }
             Err(error) => {
                 telling::fails(self.rt, addr, &error);
-                Err(self.host.fail())
+                Err(self.sockets.host.fail())
             }
         }
     }
@@ -261,7 +248,7 @@ impl<'rt, N: Network + Eprint> Doors for TcpDoors<'rt, N> {
             Ok(()) => Ok(()),
             Err(error) => {
                 telling::fails(self.rt, addr, &error);
-                Err(self.client.fail())
+                Err(self.sockets.client.fail())
             }
         }
     }
@@ -274,7 +261,7 @@ impl<'rt, N: Network + Eprint> Doors for TcpDoors<'rt, N> {
     {
         let came = self.look();
         if !came {
-            self.client.count_idle();
+            self.sockets.client.count_idle();
         }
         Ok(came)
     }
@@ -290,10 +277,8 @@ impl<'rt, N: Network + Eprint> Doors for TcpDoors<'rt, N> {
         ensures other { link_of self.new (other side) ≡ link_of self.old (other side) }
         ensures door { self.new.door ≡ self.old.door }
     {
-        let polled = match side {
-            Side::Client => self.client.poll(buf, &mut self.ready, self.rt),
-            Side::Host => self.host.poll(buf, &mut self.ready, self.rt),
-        };
+        let socket = self.sockets.of_mut(side);
+        let polled = socket.poll(buf, &mut self.ready, self.rt);
         if let Polled::Ended = polled {
             self.tell_end(side);
         }
@@ -325,9 +310,6 @@ impl<'rt, N: Network + Eprint> Doors for TcpDoors<'rt, N> {
 
     fn close(&mut self, side: Side) {
         self.tell_close(side);
-        match side {
-            Side::Client => self.client.close(),
-            Side::Host => self.host.close(),
-        }
+        self.sockets.of_mut(side).close();
     }
 }

@@ -1,0 +1,3 @@
+-- What the doors keep once a side.
+pub mod Both
+pub mod Lent
