@@ -19,7 +19,7 @@ use Rattle.direct_run.specs.declared.item.Item.{Item}
 use Rattle.direct_run.specs.declared.item.Item.TheVariants as item
 use Rattle.direct_run.specs.Clients.{present}
 use Rattle.gate_history.specs.write.Refusals.{refusal_in}
-use Rattle.direct_run.specs.Steps.{Step, Unplug}
+use Rattle.direct_run.specs.Steps.{PastStep, Unplug}
 use Rattle.direct_run.specs.Trace.{told_by}
 use Rattle.direct_run.specs.World.{Course, course, first_id}
 use Rattle.direct_device.specs.Acting.{Deed, Import, act, answers}
@@ -60,7 +60,7 @@ HostRefusesNone m s c = list_any is_refusal (all_given host_notes_of m s (host_h
 
 -- ---- behind the unplugging
 
-abbrev pub is_unplug : Step → Bool
+abbrev pub is_unplug : PastStep → Bool
 is_unplug Unplug = true
 is_unplug _ = false
 
@@ -71,13 +71,13 @@ is_of_device (item.Offer ep) = true
 is_of_device _ = false
 
 -- no step behind an unplugging tells so; lists of steps have the latest first
-abbrev pub QuietBehindUnplug : {S : Type 0} → Meaning S → S → List Step → Type 0
+abbrev pub QuietBehindUnplug : {S : Type 0} → Meaning S → S → List PastStep → Type 0
 QuietBehindUnplug m s [] = Unit {0}
 QuietBehindUnplug m s (x ∷ steps) = (list_any is_unplug steps ≡ true → list_any is_of_device (told_by m s (course m s steps) x).items ≡ false) × QuietBehindUnplug m s steps
 
 -- ---- all together
 
-pub record Simulates {S : Type 0} (m : Meaning S) (s : S) (steps : List Step) : Type 0 where
+pub record Simulates {S : Type 0} (m : Meaning S) (s : S) (steps : List PastStep) : Type 0 where
   -- what was told is a legal trace of the device attached directly, and clients were sent its answers
   pub direct : AreDirectSteps m s steps
   -- the present client was sent its replies, and then its answers

@@ -9,7 +9,7 @@ use Rattle.gate_history.specs.step.Marks.{Submission}
 use Rattle.gate_history.specs.write.Output.{to_client}
 use Rattle.gate_history.specs.declared.request.Request.{Request}
 use Rattle.gate_history.specs.client.Submits.{accepted}
-use Rattle.direct_run.specs.Steps.{Step}
+use Rattle.direct_run.specs.Steps.{PastStep}
 use Rattle.direct_run.specs.Trace.{trace}
 use Rattle.direct_run.specs.World.{Course, course, first_id}
 use Rattle.direct_device.specs.Legal.{IsDirect}
@@ -25,5 +25,5 @@ answers_of c = flat_map urb_in (all_of to_client first_id (history first_id c.ev
 
 -- the items that these steps told are a legal trace of the device attached directly, with these requests, and the
 -- answers that clients were sent are its answers
-abbrev pub AreDirectSteps : {S : Type 0} → Meaning S → S → List Step → Type 0
+abbrev pub AreDirectSteps : {S : Type 0} → Meaning S → S → List PastStep → Type 0
 AreDirectSteps m s steps = IsDirect m s (requests_of (course m s steps)) (trace m s steps) (answers_of (course m s steps))

@@ -10,7 +10,7 @@ ghost use Rattle.direct_run.specs.Kept.{SystemKept};
 ghost use Rattle.direct_run.specs.Known.{IsKnown};
 ghost use Rattle.direct_run.specs.Moves.{World, Move, run};
 ghost use Rattle.direct_run.specs.Stands.{SystemStands};
-ghost use Rattle.direct_run.specs.Steps.{Step as PastStep};
+ghost use Rattle.direct_run.specs.Steps.{PastStep};
 ghost use Rattle.direct_run.specs.World.{course};
 ghost use Rattle.direct_proof.specs.Deeds.{as_deeds};
 ghost use Rattle.direct_proof.specs.Related.{Related};

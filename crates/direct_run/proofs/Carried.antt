@@ -7,7 +7,7 @@ use Rattle.model_device.specs.Meaning.{Meaning}
 use Rattle.redir_host.proofs.lemmas.step.Acts.{act-out}
 use Rattle.redir_host.specs.step.Acts.{Piece, Perform as Performs, Offer as Offers, Unplug as Unplugs, guest_bytes}
 use Rattle.redir_host.specs.write.Output.{act_bytes}
-use Rattle.direct_run.specs.Steps.{Step, Client, ClientEnd, ToHost, ToGate, Perform, Offer, Unplug}
+use Rattle.direct_run.specs.Steps.{PastStep, Client, ClientEnd, ToHost, ToGate, Perform, Offer, Unplug}
 use Rattle.direct_run.specs.Trace.{given_of}
 use Rattle.direct_run.specs.World.{Course, course, after_step, sent_to_host, sent_to_gate, wire_to_host, wire_to_gate}
 use Rattle.direct_run.proofs.Wires.{host-gives, front-left}
@@ -40,7 +40,7 @@ HostGets c = guest_bytes c.acts ++ wire_to_host c ≡ sent_to_host c
 abbrev GateGets : {S : Type 0} → Meaning S → S → Course → Type 0
 GateGets m s c = host_bytes c.events ++ wire_to_gate m s c ≡ sent_to_gate m s c
 
-host-step : {S : Type 0} (m : Meaning S) (s : S) (c : Course) (x : Step) → HostGets c → HostGets (after_step m s c x)
+host-step : {S : Type 0} (m : Meaning S) (s : S) (c : Course) (x : PastStep) → HostGets c → HostGets (after_step m s c x)
 host-step m s c (Client b) h = sent-as (guest_bytes c.acts) (sent_to_host c) (given_of host_bytes_of c.events (ClientPiece b)) _ (host-gives c.events (ClientPiece b)) h
 host-step m s c ClientEnd h = sent-as (guest_bytes c.acts) (sent_to_host c) (given_of host_bytes_of c.events ClientEnds) _ (host-gives c.events ClientEnds) h
 host-step m s c (ToHost n) h = got-more n (guest_bytes c.acts) (sent_to_host c) h
@@ -50,7 +50,7 @@ host-step m s c (Perform ep) h = h
 host-step m s c (Offer ep) h = h
 host-step m s c Unplug h = h
 
-gate-step : {S : Type 0} (m : Meaning S) (s : S) (c : Course) (x : Step) → GateGets m s c → GateGets m s (after_step m s c x)
+gate-step : {S : Type 0} (m : Meaning S) (s : S) (c : Course) (x : PastStep) → GateGets m s c → GateGets m s (after_step m s c x)
 gate-step m s c (Client b) h = h
 gate-step m s c ClientEnd h = h
 gate-step m s c (ToHost n) h =
@@ -60,10 +60,10 @@ gate-step m s c (Perform ep) h = sent-as (host_bytes c.events) (sent_to_gate m s
 gate-step m s c (Offer ep) h = sent-as (host_bytes c.events) (sent_to_gate m s c) (act_bytes m s c.acts (Offers ep)) _ (act-out m s c.acts (Offers ep)) h
 gate-step m s c Unplug h = sent-as (host_bytes c.events) (sent_to_gate m s c) (act_bytes m s c.acts Unplugs) _ (act-out m s c.acts Unplugs) h
 
-pub host-gets : {S : Type 0} (m : Meaning S) (s : S) (steps : List Step) → HostGets (course m s steps)
+pub host-gets : {S : Type 0} (m : Meaning S) (s : S) (steps : List PastStep) → HostGets (course m s steps)
 host-gets m s [] = refl
 host-gets m s (x ∷ steps) = host-step m s (course m s steps) x (host-gets m s steps)
 
-pub gate-gets : {S : Type 0} (m : Meaning S) (s : S) (steps : List Step) → GateGets m s (course m s steps)
+pub gate-gets : {S : Type 0} (m : Meaning S) (s : S) (steps : List PastStep) → GateGets m s (course m s steps)
 gate-gets m s [] = refl
 gate-gets m s (x ∷ steps) = gate-step m s (course m s steps) x (gate-gets m s steps)

@@ -14,7 +14,7 @@ use Rattle.direct_run.specs.Follows.{AreMoves}
 use Rattle.direct_run.specs.Known.{IsKnown}
 use Rattle.direct_run.specs.Moves.{World, Performs, Offers, Unplugs, as_items, as_submits, run}
 use Rattle.direct_run.specs.Noted.{performed_item, offered_item}
-use Rattle.direct_run.specs.Steps.{Step, Client, ClientEnd, ToHost as StepToHost, ToGate as StepToGate, Perform, Offer, Unplug}
+use Rattle.direct_run.specs.Steps.{PastStep, Client, ClientEnd, ToHost as StepToHost, ToGate as StepToGate, Perform, Offer, Unplug}
 use Rattle.direct_run.specs.Trace.{submits_of, told_by, trace}
 use Rattle.direct_run.specs.World.{Course, acted, after_step, course}
 use Rattle.direct_run.proofs.Brought.{piece-fits, piece-moves}
@@ -75,7 +75,7 @@ moved-unplug {S = S} m s c items h =
 
 -- ---- all steps
 
-moved-more : {S : Type 0} (m : Meaning S) (s : S) (c : Course) (items : List Item) (x : Step) → IsKnown m s c → IsKnown m s (after_step m s c x) → Flows m s c → AreMoves m s c items →
+moved-more : {S : Type 0} (m : Meaning S) (s : S) (c : Course) (items : List Item) (x : PastStep) → IsKnown m s c → IsKnown m s (after_step m s c x) → Flows m s c → AreMoves m s c items →
     AreMoves m s (after_step m s c x) (items ++ (told_by m s c x).items)
 moved-more m s c items (Client b) was k f h =
     let fits = piece-fits c.events b k.bytes in
@@ -87,7 +87,7 @@ moved-more m s c items (Perform ep) was k f h = moved-perform m s c items ep h
 moved-more m s c items (Offer ep) was k f h = moved-offer m s c items ep h
 moved-more m s c items Unplug was k f h = moved-unplug m s c items h
 
-pub steps-move : {S : Type 0} (m : Meaning S) (s : S) (steps : List Step) → IsKnown m s (course m s steps) → AreMoves m s (course m s steps) (trace m s steps)
+pub steps-move : {S : Type 0} (m : Meaning S) (s : S) (steps : List PastStep) → IsKnown m s (course m s steps) → AreMoves m s (course m s steps) (trace m s steps)
 steps-move m s [] k = record { moves = []; legal = tt; follows = follows-first m s; present-is = refl; unrefused = refl }
 steps-move m s (x ∷ steps) k =
     let was = known-before m s (course m s steps) x k in

@@ -19,7 +19,7 @@ use Rattle.gate_history.proofs.lemmas.step.Runs.{state-run, all-run}
 use Rattle.gate_history.proofs.lemmas.write.EventsRead.{goes}
 use Rattle.direct_run.specs.Known.{IsKnown}
 use Rattle.direct_run.specs.Packets.{read_by_gate}
-use Rattle.direct_run.specs.Steps.{Step, Client, ClientEnd, ToHost, ToGate, Perform, Offer, Unplug}
+use Rattle.direct_run.specs.Steps.{PastStep, Client, ClientEnd, ToHost, ToGate, Perform, Offer, Unplug}
 use Rattle.direct_run.specs.World.{Course, first_id, after_step, course, wire_to_host, wire_to_gate}
 use Rattle.direct_run.proofs.Flows.{Flows, later-sent, known-event, known-act, told-bytes}
 use Rattle.direct_run.proofs.Flowing.{flows-first, flows-piece, flows-end, GetsToGate, gets-to-gate, flows-told, GetsToHost, gets-to-host, flows-asked, flows-own}
@@ -41,7 +41,7 @@ next-to-gate m s c n f k bytes = gets-to-gate m s c n f k.read (told-bytes c.eve
 
 -- ---- steps
 
-pub flows-step : {S : Type 0} (m : Meaning S) (s : S) (c : Course) (x : Step) → Flows m s c → IsKnown m s c → AreBytes (flat_map piece_bytes (after_step m s c x).events) → AreBytes (guest_bytes (after_step m s c x).acts) →
+pub flows-step : {S : Type 0} (m : Meaning S) (s : S) (c : Course) (x : PastStep) → Flows m s c → IsKnown m s c → AreBytes (flat_map piece_bytes (after_step m s c x).events) → AreBytes (guest_bytes (after_step m s c x).acts) →
     Flows m s (after_step m s c x)
 flows-step m s c (Client b) f k bytes heard = flows-piece m s c b f
 flows-step m s c ClientEnd f k bytes heard = flows-end m s c f
@@ -51,7 +51,7 @@ flows-step m s c (Perform ep) f k bytes heard = flows-own m s c (PerformAct ep) 
 flows-step m s c (Offer ep) f k bytes heard = flows-own m s c (OfferAct ep) (OffersItem ep) refl refl tt f
 flows-step m s c Unplug f k bytes heard = flows-own m s c UnplugAct UnplugsItem refl refl tt f
 
-pub known-before : {S : Type 0} (m : Meaning S) (s : S) (c : Course) (x : Step) → IsKnown m s (after_step m s c x) → IsKnown m s c
+pub known-before : {S : Type 0} (m : Meaning S) (s : S) (c : Course) (x : PastStep) → IsKnown m s (after_step m s c x) → IsKnown m s c
 known-before m s c (Client b) k = known-event m s c (ClientPiece b) k
 known-before m s c ClientEnd k = known-event m s c ClientEnds k
 known-before m s c (ToHost n) k = known-act m s c (Piece (take n (wire_to_host c))) k
@@ -60,7 +60,7 @@ known-before m s c (Perform ep) k = known-act m s c (PerformAct ep) k
 known-before m s c (Offer ep) k = known-act m s c (OfferAct ep) k
 known-before m s c Unplug k = known-act m s c UnplugAct k
 
-pub flows-steps : {S : Type 0} (m : Meaning S) (s : S) (steps : List Step) → IsKnown m s (course m s steps) → Flows m s (course m s steps)
+pub flows-steps : {S : Type 0} (m : Meaning S) (s : S) (steps : List PastStep) → IsKnown m s (course m s steps) → Flows m s (course m s steps)
 flows-steps m s [] k = flows-first m s
 flows-steps m s (x ∷ steps) k =
     let was = known-before m s (course m s steps) x k in

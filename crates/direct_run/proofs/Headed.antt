@@ -11,7 +11,7 @@ use Rattle.redir_wire.specs.declared.packet.Way.{Way}
 use Rattle.redir_wire.specs.declared.packet.Way.TheVariants.{ToGuest, ToHost}
 use Rattle.redir_wire.specs.declared.packet.RedirControl.TheVariants as plain
 use Rattle.redir_wire.specs.Table.{plain_row, goes}
-use Rattle.redir_wire.specs.State.{is_wide, start, later}
+use Rattle.redir_wire.specs.State.{is_wide, start, later, wide_ids}
 use Rattle.redir_wire.specs.Header.{head_bytes}
 use Rattle.redir_data.specs.Packets.{redir_packets}
 use Rattle.redir_host.proofs.lemmas.write.Facts.{no_id}
@@ -40,8 +40,8 @@ sound way s = redir_sound s way
 -- some packet can always come next
 some-fits : (way : Way) (first : Bool) (caps : Caps) → (x : Header × RedirPacket) × ((redir_packets (record { first = first; caps = caps }) way).Fits x)
 some-fits way true caps = ((_, Plain host_hello), packet_written way caps 0 host_hello (refl, (lit< tt, tt)) (record { agreed = refl; id_fits = lit< tt; writable = omega arith }) (elim way as (λ (w : Way). goes w (plain_row (wire.kind_of host_hello)) ≡ true) [ ToGuest ↦ refl | ToHost ↦ refl ]))
-some-fits ToGuest false caps = ((_, Plain plain.Disconnect), packet_written ToGuest caps 0 plain.Disconnect tt (record { agreed = refl; id_fits = no_id (is_wide (later caps)); writable = tt }) refl)
-some-fits ToHost false caps = ((_, Plain plain.Cancel), packet_written ToHost caps 0 plain.Cancel tt (record { agreed = refl; id_fits = no_id (is_wide (later caps)); writable = tt }) refl)
+some-fits ToGuest false caps = ((_, Plain plain.Disconnect), packet_written ToGuest caps 0 plain.Disconnect tt (record { agreed = refl; id_fits = no_id (wide_ids caps); writable = tt }) refl)
+some-fits ToHost false caps = ((_, Plain plain.Cancel), packet_written ToHost caps 0 plain.Cancel tt (record { agreed = refl; id_fits = no_id (wide_ids caps); writable = tt }) refl)
 
 -- so no bytes aren't wrong
 pub empty : (way : Way) (s : RedirState) → wrong_at (stream_format way s).checks [] ≡ None

@@ -20,7 +20,7 @@ use Rattle.direct_run.specs.declared.submitted.Submitted.{Submitted}
 use Rattle.direct_run.specs.declared.told.Told.{Told}
 use Rattle.gate_history.specs.write.Refusals.{refusal_in}
 use Rattle.direct_run.specs.Noted.{item_of, item_of_host, named, performed_item, offered_item}
-use Rattle.direct_run.specs.Steps.{Step, Client, ClientEnd, ToHost, ToGate, Perform, Offer, Unplug}
+use Rattle.direct_run.specs.Steps.{PastStep, Client, ClientEnd, ToHost, ToGate, Perform, Offer, Unplug}
 use Rattle.direct_run.specs.World.{Course, first_id, nothing_yet, sent_to_host, sent_to_gate, wire_to_host, wire_to_gate, course}
 
 -- all submits that were accepted
@@ -55,7 +55,7 @@ act_items m s acts submits Unplugs = []
 abbrev pub told_of : {S : Type 0} → Meaning S → S → Course → Act → Told
 told_of m s c a = record untold { from_host = act_bytes m s c.acts a; items = act_items m s c.acts (submits_of c.events) a }
 
-abbrev pub told_by : {S : Type 0} → Meaning S → S → Course → Step → Told
+abbrev pub told_by : {S : Type 0} → Meaning S → S → Course → PastStep → Told
 told_by m s c (Client b) = told_of_event c.events (ClientPiece b)
 told_by m s c ClientEnd = told_of_event c.events ClientEnds
 told_by m s c (ToHost n) = told_of m s c (Piece (take n (wire_to_host c)))
@@ -71,11 +71,11 @@ abbrev pub told_first : {S : Type 0} → Meaning S → S → Told
 told_first m s = record untold { to_host = sent_to_host nothing_yet; from_host = sent_to_gate m s nothing_yet }
 
 -- all items of these steps, in the order in which they were told
-abbrev pub trace : {S : Type 0} → Meaning S → S → List Step → List Item
+abbrev pub trace : {S : Type 0} → Meaning S → S → List PastStep → List Item
 trace m s [] = []
 trace m s (x ∷ steps) = trace m s steps ++ (told_by m s (course m s steps) x).items
 
 -- what these steps put on a wire, the earliest first
-abbrev pub all_told : {S : Type 0} → (Told → List ℕ) → Meaning S → S → List Step → List ℕ
+abbrev pub all_told : {S : Type 0} → (Told → List ℕ) → Meaning S → S → List PastStep → List ℕ
 all_told wire m s [] = []
 all_told wire m s (x ∷ steps) = all_told wire m s steps ++ wire (told_by m s (course m s steps) x)

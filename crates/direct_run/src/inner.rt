@@ -6,7 +6,7 @@ ghost use Rattle.gate_history.specs.step.Events.{PastEvent, HostPiece, event_of}
 ghost use Rattle.gate_core.specs.step.Stands.{GateStands};
 ghost use Rattle.redir_host.specs.step.Acts.{Act, Piece, Perform, Offer, Unplug};
 ghost use Rattle.redir_host.specs.step.Stands.{HostStands};
-ghost use Rattle.direct_run.specs.Steps.{Step as PastStep, step_of};
+ghost use Rattle.direct_run.specs.Steps.{PastStep, step_of};
 ghost use Rattle.direct_run.specs.World.{first_id, sent_to_host, sent_to_gate, nothing_yet};
 ghost use Rattle.direct_run.specs.Stands.{SystemStands, TakesStep};
 ghost use Rattle.direct_run.specs.inner.Views.{kept_of};

@@ -5,7 +5,7 @@ ghost use Rattle.gate_history.specs.write.Bytes.{out_client};
 ghost use Rattle.gate_history.specs.step.Events.{host_bytes};
 ghost use Rattle.gate_history.specs.step.History.{history};
 ghost use Rattle.redir_host.specs.step.Acts.{guest_bytes};
-ghost use Rattle.direct_run.specs.Steps.{Step as PastStep};
+ghost use Rattle.direct_run.specs.Steps.{PastStep};
 ghost use Rattle.direct_run.specs.Trace.{all_told, trace as trace_of};
 ghost use Rattle.direct_run.specs.World.{first_id, nothing_yet, course, sent_to_host, sent_to_gate, wire_to_host, wire_to_gate};
 ghost use Rattle.direct_run.specs.Known.{IsKnown};

@@ -3,7 +3,7 @@
 ghost use Rattle.std.specs.Prelude.{◌≡◌, [], List, IfOk, OnErr, IsErr};
 ghost use Rattle.gate_history.specs.step.History.{history};
 ghost use Rattle.gate_history.specs.write.All.{counts_of};
-ghost use Rattle.direct_run.specs.Steps.{Step as PastStep, step_of};
+ghost use Rattle.direct_run.specs.Steps.{PastStep, step_of};
 ghost use Rattle.direct_run.specs.World.{first_id, course};
 ghost use Rattle.direct_run.specs.Trace.{told_first, trace as trace_of};
 ghost use Rattle.direct_run.specs.Stands.{SystemStands, TakesStep, SystemHasFailed};

@@ -1,5 +1,6 @@
 -- The blocks hold what was written to them last.
 use Rattle.std.proofs.Common.{◌≡◌, ℕ, ◌+◌, ◌-◌, ◌*◌, ◌/◌, ◌%◌, ◌≤◌, ◌<◌, Bool, true, false, List, [], ◌∷◌, ◌++◌, length, take, drop, replicate, get_or, min, Option, Some, None, refl, sym, ap, ◌∙◌, subst, arith, inl, inr}
+use Rattle.std.specs.List.{cons_option}
 use Rattle.std.specs.Prelude.{◌==◌, ◌&&◌, ◌||◌, nat_lt, not, IfSome}
 use Rattle.std.proofs.lemmas.Bool.{cond_both, and_parts, eqb-true, ltb-true, ltb-false, lt-ltb, le-ltb, cases_lt, false≢true}
 use Rattle.std.proofs.lemmas.List.{length-take, length-drop, length-append, length-replicate, get_or_append_left, get_or-append_right, get_or-take, get_or-drop, get_or-replicate, get_or_past}
@@ -29,7 +30,7 @@ use Rattle.disk_gadget.specs.DiskStep.{DiskState, Step, bulk_turn, class_request
 use Rattle.disk_gadget.specs.Turns.{Reply, Plain, OfBlocks, Turn, acted, answering, begun, gathered, gathering, gave, given_by, given_of, left_of, less, refused, reported, rest_of, taken_by}
 use Rattle.disk_gadget.specs.Within.{PlaceWithin}
 use Rattle.disk_gadget.specs.Wrappers.{wrapper_of}
-use Rattle.disk_gadget.specs.Written.{GivesWritten, ReadsWhatWasWritten, ReplyIsWritten, course_after, covers, disk_after, last_written, passed, stepped, with_access, with_passed}
+use Rattle.disk_gadget.specs.Written.{GivesWritten, ReadsWhatWasWritten, ReplyIsWritten, course_after, covers, disk_after, last_written, passed, stepped, with_passed}
 use Rattle.disk_gadget.proofs.Ranges.{AccessWithin, IsWhole, access_length, act_placed, act_whole, act_within}
 
 -- ---- every step stays within a disk of so many bytes
@@ -186,7 +187,7 @@ uncovered blocks first bytes block place h lt c = elim (cases_lt block first) [
       put_behind (512 * first) bytes blocks (512 * block + place) h (omega arith)
 ]
 
-image_access : (blocks : List ℕ) (accesses : List Access) (a : Option Access) → AccessWithin (length blocks) a → IsWhole a → Image blocks accesses → Image (blocks_after blocks a) (with_access a accesses)
+image_access : (blocks : List ℕ) (accesses : List Access) (a : Option Access) → AccessWithin (length blocks) a → IsWhole a → Image blocks accesses → Image (blocks_after blocks a) (cons_option a accesses)
 image_access blocks accesses None h whole i = i
 image_access blocks accesses (Some (ReadOf first count)) h whole i = i
 image_access blocks accesses (Some (WriteOf first bytes)) h whole i = λ block place lt.

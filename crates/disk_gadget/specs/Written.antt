@@ -1,5 +1,6 @@
 -- What stands in the blocks, by the writes that passed. Lists of transfers and of accesses have the latest first.
 use Rattle.std.specs.Prelude.{◌≡◌, ℕ, ◌+◌, ◌-◌, ◌*◌, ◌<◌, nat_lt, not, ◌&&◌, Bool, List, [], ◌∷◌, length, replicate, get_or, Option, Some, None, IfSome, if◌then◌else◌}
+use Rattle.std.specs.List.{cons_option}
 use Rattle.usb_base.specs.Number.{part}
 use Rattle.usb_base.specs.declared.status.UsbStatus.TheVariants.{Success}
 use Rattle.usb_base.specs.declared.transfer.Transfer.{Transfer}
@@ -28,13 +29,9 @@ abbrev pub course_after : ℕ → List Transfer → State Course
 course_after blocks [] = record { device = unconfigured; kept = fresh }
 course_after blocks (t ∷ past) = stepped (course_after blocks past) (step blocks (course_after blocks past) t)
 
-abbrev pub with_access : Option Access → List Access → List Access
-with_access None accesses = accesses
-with_access (Some a) accesses = a ∷ accesses
-
 abbrev pub with_passed : Option Step → List Access → List Access
 with_passed None accesses = accesses
-with_passed (Some done) accesses = with_access done.access accesses
+with_passed (Some done) accesses = cons_option done.access accesses
 
 -- the reads and writes that passed
 abbrev pub passed : ℕ → List Transfer → List Access

@@ -1,5 +1,5 @@
 -- What each call does to a side's link. An equation says too that the rest stands.
-use Rattle.std.specs.Prelude.{◌≡◌, ◌⊎◌, ◌<◌, ◌≤◌, ℕ, Bool, true, false, List, [], ◌∷◌, length, take, drop, Option, Some, IfSome, option_map, Result, Ok, Err}
+use Rattle.std.specs.Prelude.{◌≡◌, ◌⊎◌, ◌<◌, ◌≤◌, ℕ, Bool, true, false, List, [], ◌∷◌, length, take, drop, get_or, Option, Some, IfSome, option_map, Result, Ok, Err}
 use Rattle.std.specs.Io.KnownBytes.{append_known}
 use Rattle.usb_base.specs.declared.side.Side.{Side}
 use Rattle.usb_base.specs.declared.side.Side.TheVariants.{Client, Host}
@@ -36,8 +36,7 @@ Listens (Err _) door door_new old new = (door_new ≡ door) × (new ≡ faulted 
 
 -- the turns of the client that comes next
 abbrev pub first : List (List Turn) → List Turn
-first [] = []
-first (turns ∷ clients) = turns
+first clients = get_or clients 0 []
 
 -- the next client comes, exactly where one is still to come if that is told, or none has come yet
 abbrev pub Accepts : {E : Type 0} → Result Bool E → Door → Door → Link → Link → Type 0
@@ -55,9 +54,7 @@ Writes (Err _) piece old new = new ≡ faulted old
 -- `Took n` has n from 1 to the buffer's length
 abbrev pub TookWithin : Polled → List ℕ → Type 0
 TookWithin (Took n) buf = (0 < n) × (n ≤ length buf)
-TookWithin NotYet buf = Unit {0}
-TookWithin Ended buf = Unit {0}
-TookWithin Failed buf = Unit {0}
+TookWithin _ buf = Unit {0}
 
 -- a poll gives what these turns have
 pub record GivesTurns (polled : Polled) (buf : List ℕ) (turns : List Turn) : Type 0 where

@@ -14,10 +14,8 @@ cut n (Fail ∷ turns) = Fail ∷ turns
 
 -- the front turn has so many bytes
 abbrev pub HasBytes : ℕ → List Turn → Type 0
-HasBytes n [] = n ≡ 0
 HasBytes n (Piece piece ∷ turns) = n ≤ length piece
-HasBytes n (Wait ∷ turns) = n ≡ 0
-HasBytes n (Fail ∷ turns) = n ≡ 0
+HasBytes n _ = n ≡ 0
 
 -- the turns left at a place
 abbrev pub left : Place → List Turn → List Turn

@@ -77,7 +77,7 @@ pub fn push_endpoint(words: &str, bytes: &[u8], out: &mut Output) {
 }
 
 fn push_endpoint_of(ep: EpAddr, caps: Caps, bytes: &[u8], out: &mut Output) {
-    let state = RedirState { first: false, caps };
+    let state = RedirState::later(caps);
     match read_redir(out.alloc, state, Way::ToGuest, bytes) {
         Ok(Read::Whole(found, _)) => push_told_row(ep, &found.1, out),
         _ => out.refuse(),

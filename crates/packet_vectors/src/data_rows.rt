@@ -128,10 +128,7 @@ fn other_front(alloc: Global, form: Form, case: Case) -> Result<Option<usize>, M
 }
 
 fn read(alloc: Global, case: Case, front: &[u8]) -> Told {
-    let state = RedirState {
-        first: false,
-        caps: case.caps,
-    };
+    let state = RedirState::later(case.caps);
     told_by(read_redir(alloc, state, case.way, front))
 }
 

@@ -9,7 +9,7 @@ use Rattle.redir_wire.specs.declared.packet.Header.{Header}
 use Rattle.redir_wire.specs.declared.packet.RedirControl.{RedirControl}
 use Rattle.redir_wire.specs.declared.header.TheConstants.{MAX_LENGTH}
 use Rattle.redir_wire.specs.Table.{plain_row, goes}
-use Rattle.redir_wire.specs.State.{is_wide, later}
+use Rattle.redir_wire.specs.State.{later, wide_ids}
 use Rattle.redir_wire.specs.Header.{head_bytes, IdFits}
 use Rattle.redir_wire.specs.Spelling as wire
 use Rattle.redir_wire.specs.Ranges as wire_ranges
@@ -22,13 +22,13 @@ use Rattle.redir_data.specs.Packets.{redir_packets}
 
 -- the packet's form exists with these capabilities, and its data agree with its length this way
 pub record CanWrite (id : ℕ) (way : Way) (caps : Caps) (d : RedirData) : Type 0 where
-  pub id_fits : IdFits (is_wide (later caps)) id
+  pub id_fits : IdFits (wide_ids caps) id
   pub length_fits : LengthFits caps d
   pub data_there : HasItsData way d
   pub in_limit : size_of caps d ≤ MAX_LENGTH
 
 abbrev pub packet_bytes : ℕ → Caps → RedirData → List ℕ
-packet_bytes id caps d = head_bytes (is_wide (later caps)) (header_of id caps d) ++ fields caps d
+packet_bytes id caps d = head_bytes (wide_ids caps) (header_of id caps d) ++ fields caps d
 
 -- ---- laws
 

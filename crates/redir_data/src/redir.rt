@@ -16,8 +16,8 @@ use packet_stream::{PacketBytes, Read, ReadError};
 use redir_wire::{Caps, FIRST_DATA, Header, RedirState, Way, WireError, read_control, read_header};
 use std::alloc::Global;
 
-/// Reads the packet at the front of what goes this way, where the stream has told this so far. A packet is refused as
-/// soon as the bytes of what is wrong are there, at its place from the packet's start, by the reasons of `read_header`,
+/// Reads the packet at the front of what goes this way, of a stream in this state. A packet is refused as soon as the
+/// bytes of what is wrong are there, at its place from the packet's start, by the reasons of `read_header`,
 /// `read_control` and `read_data`. Only a whole packet with data, or a hello with words, takes memory; its data are
 /// copied once.
 pub fn read_redir(

@@ -2,7 +2,7 @@
 
 ghost use Rattle.std.specs.Prelude.{◌≡◌, ◌++◌, ◌≤◌, length, OnOk, OnErr};
 ghost use Rattle.usb_base.specs.Writes.{AppendsSome};
-ghost use Rattle.redir_wire.specs.State.{is_wide, later};
+ghost use Rattle.redir_wire.specs.State.{wide_ids};
 ghost use Rattle.redir_wire.specs.Header.{head_bytes, IdFits};
 ghost use Rattle.redir_wire.specs.declared.header.TheConstants.{MAX_LENGTH};
 ghost use Rattle.redir_data.specs.Spelling.{size_of, header_of, fixed_fields};
@@ -62,7 +62,7 @@ pub fn write_iso_out(
     out: &mut Bytes,
 ) -> Result<(), Memory>
     requires few { length body.now ≤ u16.MAX }
-    requires id_fits { IdFits (is_wide (later caps)) id }
+    requires id_fits { IdFits (wide_ids caps) id }
     ensures ok { OnOk result (out.new ≡ out.old ++ packet_bytes id caps (Iso endpoint 0 (length body.now) body.now)) }
     ensures err { OnErr result (out.new ≡ out.old) }
 {
@@ -79,7 +79,7 @@ fn push_iso_out(
     out: &mut Bytes,
 ) -> Result<(), Memory>
     requires few { length body.now ≤ u16.MAX }
-    requires id_fits { IdFits (is_wide (later caps)) id }
+    requires id_fits { IdFits (wide_ids caps) id }
     ensures { AppendsSome result out.old out.new (packet_bytes id caps (Iso endpoint 0 (length body.now) body.now)) }
 {
     let row = DataKind::Iso.row();
@@ -95,7 +95,7 @@ fn push_iso_out(
 }
 
 fn push_data(packet: &RedirData, id: u64, caps: Caps, out: &mut Bytes) -> Result<(), Memory>
-    requires id_fits { IdFits (is_wide (later caps)) id }
+    requires id_fits { IdFits (wide_ids caps) id }
     requires in_limit { size_of caps packet.now ≤ MAX_LENGTH }
     ensures { AppendsSome result out.old out.new (packet_bytes id caps packet.now) }
 {
@@ -105,7 +105,7 @@ fn push_data(packet: &RedirData, id: u64, caps: Caps, out: &mut Bytes) -> Result
 }
 
 fn push_moved(packet: RedirData, id: u64, caps: Caps, out: &mut Bytes) -> Result<(), Memory>
-    requires id_fits { IdFits (is_wide (later caps)) id }
+    requires id_fits { IdFits (wide_ids caps) id }
     requires in_limit { size_of caps packet ≤ MAX_LENGTH }
     ensures { AppendsSome result out.old out.new (packet_bytes id caps packet) }
 {
@@ -119,9 +119,9 @@ fn push_moved(packet: RedirData, id: u64, caps: Caps, out: &mut Bytes) -> Result
 
 /// Appends what stands before the data: the header and the fixed fields.
 fn push_head(packet: &RedirData, id: u64, caps: Caps, out: &mut Bytes) -> Result<(), Memory>
-    requires id_fits { IdFits (is_wide (later caps)) id }
+    requires id_fits { IdFits (wide_ids caps) id }
     requires in_limit { size_of caps packet.now ≤ MAX_LENGTH }
-    ensures { AppendsSome result out.old out.new (head_bytes (is_wide (later caps)) (header_of id caps packet.now) ++ fixed_fields caps packet.now) }
+    ensures { AppendsSome result out.old out.new (head_bytes (wide_ids caps) (header_of id caps packet.now) ++ fixed_fields caps packet.now) }
 {
     let row = packet.kind().row();
     let header = Header {

@@ -18,6 +18,10 @@ later caps = record { first = false; caps = caps }
 abbrev pub after_hello : Hello → RedirState
 after_hello h = later (agreed (caps_of h) announced)
 
--- ids have 64 bits where that is agreed; a hello's never has, which comes first
+-- `usb_redir_cap_64bits_ids`: ids have 64 bits where that is agreed
+abbrev pub wide_ids : Caps → Bool
+wide_ids caps = has caps WIDE_IDS
+
+-- but never a hello's, which comes first
 abbrev pub is_wide : RedirState → Bool
-is_wide s = not s.first && has s.caps WIDE_IDS
+is_wide s = not s.first && wide_ids s.caps

@@ -17,9 +17,9 @@ use usb_base::{MAX_TRANSFER, Reason, le_u32_at, le_u64_at};
 /// fields of any data packet.
 pub const MAX_LENGTH: u32 = MAX_TRANSFER + 64;
 
-/// Reads the header at the front of what goes this way, where the stream has told this so far. A wrong header is
-/// refused as soon as the bytes of what is wrong are there: `HelloFirst`, `UnknownType`, `NotAgreed` and `WrongWay` at
-/// place 0, `TooLong26` and `BadLength` at place 4.
+/// Reads the header at the front of what goes this way, of a stream in this state. A wrong header is refused as soon
+/// as the bytes of what is wrong are there: `HelloFirst`, `UnknownType`, `NotAgreed` and `WrongWay` at place 0,
+/// `TooLong26` and `BadLength` at place 4.
 pub fn read_header(state: RedirState, way: Way, bytes: &[u8]) -> HeaderRead
     ensures exact { Answers never result (reading (headers state way) bytes.now) }
     ensures stands { IfTold result (StandsAtFront (headers state way) bytes.now) }
@@ -67,7 +67,7 @@ fn refused(place: u64, reason: Reason) -> HeaderRead
     Err(ReadError::Refused { place, reason })
 }
 
-/// How many bytes the next header of a stream has that has told this so far.
+/// How many bytes the next header has, of a stream in this state.
 pub fn header_size(state: RedirState) -> usize
     ensures value { result ≡ head_size (is_wide state) }
     ensures small { result ≤ 16 }

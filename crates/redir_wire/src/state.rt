@@ -1,7 +1,7 @@
 //! What decides how the next packet of a stream is read.
 
 ghost use Rattle.std.specs.Prelude.{◌≡◌};
-ghost use Rattle.redir_wire.specs.State.{start, after_hello};
+ghost use Rattle.redir_wire.specs.State.{start, later, after_hello};
 
 use crate::packet::{Caps, Hello};
 
@@ -25,13 +25,17 @@ impl RedirState {
         }
     }
 
+    /// Behind the hello, where these capabilities are agreed.
+    pub fn later(caps: Caps) -> RedirState
+        ensures { result ≡ later caps }
+    {
+        RedirState { first: false, caps }
+    }
+
     /// Behind this hello, whose capabilities are agreed where the gateway announces them, too.
     pub fn after_hello(hello: &Hello) -> RedirState
         ensures { result ≡ after_hello hello.now }
     {
-        RedirState {
-            first: false,
-            caps: hello.caps().agreed(Caps::ANNOUNCED),
-        }
+        RedirState::later(hello.caps().agreed(Caps::ANNOUNCED))
     }
 }

@@ -1,5 +1,6 @@
 -- What is read of a recording, and of a front of one.
 use Rattle.std.proofs.Common.{◌≡◌, ◌⊎◌, ◌≤◌, ℕ, zero, suc, ◌+◌, ◌-◌, Bool, false, cond, ◌&&◌, ◌==◌, inl, inr, List, [], ◌∷◌, ◌++◌, length, take, slice_index, nat_eq, nat_lt, option_and_then, Option, Some, None, refl, sym, ap, subst, ◌∙◌, append_assoc, append-nil, arith}
+use Rattle.std.specs.List.{onto_first}
 use Rattle.std.proofs.lemmas.Bool.{cond_both, eqb-true, false_from_ne_true, le-ltb}
 use Rattle.std.proofs.lemmas.List.{length-append}
 use Rattle.usb_base.specs.Writes.{Begins}
@@ -10,7 +11,7 @@ use Rattle.bridge_run.specs.served.Gate.{gate_events}
 use Rattle.packet_show.specs.declared.tape.ReplayLine.{ReplayLine}
 use Rattle.packet_show.specs.declared.tape.ReplayLine.TheVariants.{Skip}
 use Rattle.packet_show.specs.Tape.{replay_line}
-use Rattle.usbgate_tapes.specs.tape.Tape.{before_first, event_said, lines_of, content}
+use Rattle.usbgate_tapes.specs.tape.Tape.{event_said, lines_of, content}
 use Rattle.usbgate_tapes.specs.Text.{opening_text}
 use Rattle.packet_show.specs.declared.tape.TheConstants.{TAPE_LIMIT as tape_limit}
 use Rattle.usbgate_tapes.specs.tape.TapeCommand.{Progress, begin, one_further, next_line, Reading, on_line, read_lines, last_text}
@@ -105,11 +106,11 @@ one-line (p ∷ ps) (h ∷ hs) lost whole is =
     let same : p ≡ h = cc in
     let others : ps ++ 10 ∷ [] ≡ hs ++ lost = cc in
     let no_lf : nat_eq h 10 ≡ false = false_from_ne_true (nat_eq h 10) (λ e. whole.0 (same ∙ eqb-true h 10 e)) in
-    inr (ap (λ (t : Bool). cond t ((10 ∷ []) ∷ lines_of hs) (before_first h (lines_of hs))) no_lf ∙ go (one-line ps hs lost whole.1 others))
+    inr (ap (λ (t : Bool). cond t ((10 ∷ []) ∷ lines_of hs) (onto_first h (lines_of hs))) no_lf ∙ go (one-line ps hs lost whole.1 others))
   where
-    go : (hs ≡ []) ⊎ (lines_of hs ≡ hs ∷ []) → before_first h (lines_of hs) ≡ (h ∷ hs) ∷ []
-    go (inl none) = ap (λ (l : List ℕ). before_first h (lines_of l)) none ∙ ap (λ (l : List ℕ). (h ∷ l) ∷ []) (sym none)
-    go (inr one) = ap (before_first h) one
+    go : (hs ≡ []) ⊎ (lines_of hs ≡ hs ∷ []) → onto_first h (lines_of hs) ≡ (h ∷ hs) ∷ []
+    go (inl none) = ap (λ (l : List ℕ). onto_first h (lines_of l)) none ∙ ap (λ (l : List ℕ). (h ∷ l) ∷ []) (sym none)
+    go (inr one) = ap (onto_first h) one
 
 -- what begins with `#` says nothing, with an LF and without
 front-skips : (n : ℕ) (bs : List ℕ) → replay_line (take n (35 ∷ bs)) ≡ Some Skip

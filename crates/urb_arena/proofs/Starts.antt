@@ -1,38 +1,39 @@
 -- A new table: its lanes are empty, and all cells are free.
 use Rattle.std.proofs.Common.{◌≡◌, ◌≢◌, ◌==◌, ℕ, zero, suc, ◌+◌, ◌-◌, ◌<◌, ◌≤◌, if◌then◌else◌, inl, inr, List, [], ◌∷◌, ◌++◌, length, replicate, get_or, Option, None, refl, ap, sym, subst, ◌∙◌, arith}
+use Rattle.std.specs.List.{range_with_len}
 use lib.ListN.{length-replicate}
 use Rattle.std.proofs.lemmas.Bool.{ne_eqb, eq-eqb, cases_eq}
 use Rattle.urb_arena.specs.declared.cells.Links.{Links}
 use Rattle.urb_arena.specs.declared.table.Table.{Table}
 use Rattle.urb_arena.specs.Distinct.{Distinct, itself}
-use Rattle.urb_arena.specs.Inner.Turns.{Cells, links_or, link_at, ring_of, next_of, prev_of, row, listed, total, Tied, Path, In, start, Started, range}
+use Rattle.urb_arena.specs.Inner.Turns.{Cells, links_or, link_at, ring_of, next_of, prev_of, row, listed, total, Tied, Path, In, start, Started}
 use Rattle.urb_arena.specs.Inner.Tables.{pairs, IsTable, lanes_of}
 use Rattle.urb_arena.proofs.Joins.{not_in-absent}
 use Rattle.urb_arena.proofs.Lanes.{listed_same}
 use Rattle.urb_arena.proofs.Moves.{row_is, Tied-row}
 use Rattle.urb_arena.specs.declared.arena.TheConstants.{MOST}
 
-range-length : (a n : ℕ) → length (range a n) ≡ n
+range-length : (a n : ℕ) → length (range_with_len a n) ≡ n
 range-length a zero = refl
 range-length a (suc n) = ap suc (range-length (a + 1) n)
 
-range-in : (a n k : ℕ) → In k (range a n) → (a ≤ k) × (k < a + n)
+range-in : (a n k : ℕ) → In k (range_with_len a n) → (a ≤ k) × (k < a + n)
 range-in a zero k i = elim i [ ]
 range-in a (suc n) k i = elim i [
   | inl e ↦ (omega (arith, e), omega (arith, e))
   | inr j ↦ (let rest = range-in (a + 1) n k j in let lo = rest.0 in let hi = rest.1 in (omega (arith, lo), omega (arith, hi)))
 ]
 
-range-has : (a n k : ℕ) → a ≤ k → k < a + n → In k (range a n)
+range-has : (a n k : ℕ) → a ≤ k → k < a + n → In k (range_with_len a n)
 range-has a zero k lo hi = absurd (omega (arith, lo, hi))
 range-has a (suc n) k lo hi = elim (cases_eq a k) [
   | inl e ↦ inl e
   | inr ne ↦ inr (range-has (a + 1) n k (omega (arith, lo, ne)) (omega (arith, hi)))
 ]
 
-range-Distinct : (a n : ℕ) → Distinct itself (range a n)
+range-Distinct : (a n : ℕ) → Distinct itself (range_with_len a n)
 range-Distinct a zero = tt
-range-Distinct a (suc n) = (not_in-absent a (range (a + 1) n) (λ i. (let lo = (range-in (a + 1) n a i).0 in omega (arith, lo))), range-Distinct (a + 1) n)
+range-Distinct a (suc n) = (not_in-absent a (range_with_len (a + 1) n) (λ i. (let lo = (range-in (a + 1) n a i).0 in omega (arith, lo))), range-Distinct (a + 1) n)
 
 module _ (m n i : ℕ) where
   pub start-end : i < m → start m n i ≡ record { prev = i; next = i; ring = i }
@@ -64,9 +65,9 @@ module _ (ls : Cells) (m cap : ℕ) (long : length ls ≡ m + 1 + cap) (s : Star
   is i lt = ap links_or (s i lt)
 
   abbrev rows : ℕ → List ℕ
-  rows r = if r == m then range (m + 1) cap else []
+  rows r = if r == m then range_with_len (m + 1) cap else []
 
-  rows_m : (r : ℕ) → r ≡ m → rows r ≡ range (m + 1) cap
+  rows_m : (r : ℕ) → r ≡ m → rows r ≡ range_with_len (m + 1) cap
   rows_m r e = rw (eq-eqb r m e) refl
 
   rows_lane : (r : ℕ) → r ≢ m → rows r ≡ []
@@ -84,7 +85,7 @@ module _ (ls : Cells) (m cap : ℕ) (long : length ls ≡ m + 1 + cap) (s : Star
   ring_free : (i : ℕ) → m ≤ i → i < n → ring_of ls i ≡ m
   ring_free i lo lt = ring_is i lt ∙ start-ring m n i lo
 
-  chain : (a c : ℕ) → a + 1 + c ≡ n → m ≤ a → Path (next_of ls) (prev_of ls) a (range (a + 1) c) m
+  chain : (a c : ℕ) → a + 1 + c ≡ n → m ≤ a → Path (next_of ls) (prev_of ls) a (range_with_len (a + 1) c) m
   chain a zero e lo =
       (next_is a (omega (arith, e)) ∙ start-last m n a lo (omega (arith, e)), prev_is m (omega arith) ∙ start-first m n m refl ∙ omega (arith, e))
   chain a (suc c) e lo =

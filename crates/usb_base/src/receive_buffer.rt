@@ -153,14 +153,14 @@ impl ReceiveBuffer {
     }
 
     /// Moves the bytes to the memory that is kept for later, where they have no room for so many more and that has, and
-    /// more than `NEAR` are awaited. So one block goes round with such long bodies, and not two in turns, each out of
+    /// with these are more than `NEAR`. So one block goes round with such long bodies, and not two in turns, each out of
     /// the processor's cache by then; with shorter ones two do, and what stands behind a body is moved once.
     fn move_to_spare(&mut self, more: usize) -> Result<(), Memory>
         ensures { self.new ≡ self.old }
     {
         let needed = ROOM.saturating_add(self.len()).saturating_add(more);
-        let is_far = needed > NEAR && self.block.capacity() < needed;
-        if is_far && needed <= self.spare.capacity() {
+        let is_short = self.block.capacity() < needed;
+        if needed > NEAR && is_short && needed <= self.spare.capacity() {
             lengthen(&mut self.spare, ROOM)?;
             put_at(&mut self.spare, ROOM, &self.block[self.front..self.end])?;
             mem::swap(&mut self.spare, &mut self.block);

@@ -21,7 +21,7 @@ use Rattle.gate_history.specs.step.Events.{PastEvent, client_bytes, host_bytes}
 use Rattle.redir_data.specs.Streams.{stream_start}
 use Rattle.gate_history.specs.step.Streams.{client_reader, client_start, host_reader}
 use Rattle.usbgate_tapes.specs.tape.EventCommand.{EventCommand}
-use Rattle.usbgate_tapes.specs.tape.Tape.{added}
+use Rattle.usb_base.specs.Lists.{gained}
 
 -- how a side is shown
 pub record Shown (S P : Type 0) : Type 0 where
@@ -65,7 +65,7 @@ was_wrong shown (e ∷ events) = was_wrong shown events || is_wrong shown (e ∷
 abbrev pub show_side : {S P : Type 0} → Shown S P → EventCommand
 show_side shown = record {
   opening = [];
-  text = λ events e. if is_wrong shown events then [] else added (stream_text shown) events e;
+  text = λ events e. if is_wrong shown events then [] else gained (stream_text shown) events e;
   closing = λ events. [];
   refused = λ events. was_wrong shown events;
 }

@@ -16,7 +16,7 @@ use Rattle.direct_run.specs.declared.told.Told.{Told}
 use Rattle.direct_run.specs.Lines.{item_line}
 use Rattle.packet_show.specs.Line.{LF, letter}
 use Rattle.session_tape.specs.Lines.{lettered}
-use Rattle.usbgate_tapes.specs.tape.Tape.{added}
+use Rattle.usb_base.specs.Lists.{gained}
 
 -- a letter with the bytes, and LF; nothing where there are no bytes
 abbrev pub bytes_line : ℕ → List ℕ → List ℕ
@@ -34,7 +34,7 @@ sent_text client host notes = bytes_line (letter (codes "C")) client ++ bytes_li
 
 abbrev pub event_text : ℕ → List PastEvent → PastEvent → List ℕ
 event_text first events e =
-    sent_text (added (λ es. out_client first (history first es)) events e) (added (λ es. out_host first (history first es)) events e) (added (λ es. all_of notes_of first (history first es)) events e)
+    sent_text (gained (λ es. out_client first (history first es)) events e) (gained (λ es. out_host first (history first es)) events e) (gained (λ es. all_of notes_of first (history first es)) events e)
 
 -- the bytes of the making come first
 abbrev pub opening_text : ℕ → List ℕ

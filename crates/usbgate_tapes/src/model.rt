@@ -3,7 +3,7 @@
 ghost use Rattle.std.specs.Prelude.{◌≡◌, ◌++◌, ◌||◌, not, [], List, IfOk, OnOk, OnErr, IsSome};
 ghost use Rattle.usb_base.specs.Lists.{is_empty};
 ghost use Rattle.direct_run.specs.Stands.{SystemStands};
-ghost use Rattle.direct_run.specs.Steps.{Step as PastStep};
+ghost use Rattle.direct_run.specs.Steps.{PastStep};
 ghost use Rattle.direct_run.specs.Trace.{told_first};
 ghost use Rattle.usbgate_tapes.specs.model.Model.{model, step_said};
 ghost use Rattle.usbgate_tapes.specs.Text.{told_text};

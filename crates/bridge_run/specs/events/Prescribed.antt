@@ -1,6 +1,7 @@
 -- What is served: what its events send and which sides they refuse. Lists of events have the latest first.
-use Rattle.std.specs.Prelude.{ℕ, ◌||◌, Bool, true, false, List, [], ◌∷◌, length, drop, Option, Some, None}
-use Rattle.std.specs.List.{list_any}
+use Rattle.std.specs.Prelude.{ℕ, ◌||◌, Bool, true, false, List, ◌∷◌, Option}
+use Rattle.std.specs.List.{list_any, slice_get}
+pub use Rattle.usb_base.specs.Lists.{gained}
 use Rattle.usb_base.specs.declared.side.Side.{Side}
 use Rattle.usb_base.specs.declared.side.Side.TheVariants.{Client, Host}
 use Rattle.usb_base.specs.declared.refusal.Refusal.{Refusal}
@@ -13,10 +14,6 @@ pub record Prescribed : Type 0 where
   pub to_host : List PastLinkEvent → List ℕ
   pub refusals : List PastLinkEvent → List Refusal
   pub lets_go : List PastLinkEvent → Bool
-
--- what there is with an event, and without it isn't
-abbrev pub gained : {X : Type 0} → (List PastLinkEvent → List X) → List PastLinkEvent → PastLinkEvent → List X
-gained all events e = drop (length (all events)) (all (e ∷ events))
 
 abbrev pub is_of : Side → Side → Bool
 is_of Client Client = true
@@ -32,5 +29,4 @@ abbrev pub drops : Prescribed → List PastLinkEvent → PastLinkEvent → Bool
 drops p events e = refuses Client (gained p.refusals events e) || p.lets_go (e ∷ events)
 
 abbrev pub first_of : List Refusal → Option Refusal
-first_of [] = None
-first_of (r ∷ refusals) = Some r
+first_of refusals = slice_get refusals 0

@@ -16,7 +16,7 @@ use crate::events::sent::Sent;
 use crate::served::after_loss::AfterLoss;
 use crate::served::any::Served;
 use gate_core::Gate;
-use gate_history::{Event as GateEvent, Note, Notes, push_refusals};
+use gate_history::{Event, Note, Notes, push_refusals};
 use usb_base::{Incoming, Memory, Side};
 
 /// A gate, and what becomes of a client whose device is lost.
@@ -46,10 +46,10 @@ impl Served for Gateway {
         // That a client has come, or is quiet, is nothing to a gate.
         let told = match event {
             LinkEvent::ClientComes | LinkEvent::ClientQuiet => return Ok(()),
-            LinkEvent::SidePiece(Side::Client, bytes) => GateEvent::ClientPiece(bytes),
-            LinkEvent::SidePiece(Side::Host, bytes) => GateEvent::HostPiece(bytes),
-            LinkEvent::SideEnd(Side::Client) => GateEvent::ClientEnd,
-            LinkEvent::SideEnd(Side::Host) => GateEvent::HostEnd,
+            LinkEvent::SidePiece(Side::Client, bytes) => Event::ClientPiece(bytes),
+            LinkEvent::SidePiece(Side::Host, bytes) => Event::HostPiece(bytes),
+            LinkEvent::SideEnd(Side::Client) => Event::ClientEnd,
+            LinkEvent::SideEnd(Side::Host) => Event::HostEnd,
         };
         let taken = self.gate.take(told, &mut sent.to_client, &mut sent.to_host);
         self.tell(taken, sent)

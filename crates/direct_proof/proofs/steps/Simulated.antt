@@ -9,7 +9,7 @@ use Rattle.direct_run.specs.Follows.{AreMoves}
 use Rattle.direct_run.specs.Known.{IsKnown}
 use Rattle.direct_run.specs.Moves.{World, first_world, run, runs_from, as_items, as_submits}
 use Rattle.direct_run.proofs.Tellings.{Alike, runs-alike}
-use Rattle.direct_run.specs.Steps.{Step}
+use Rattle.direct_run.specs.Steps.{PastStep}
 use Rattle.direct_run.specs.Trace.{trace}
 use Rattle.direct_run.specs.World.{course, first_id}
 use Rattle.direct_run.proofs.Courses.{steps-move}
@@ -27,7 +27,7 @@ use Rattle.std.specs.List.{flat_map}
 use Rattle.direct_device.specs.Direct.{first_direct}
 use Rattle.direct_device.specs.Legal.{AreAllowed, all_answers, item_of, request_in}
 
-pub simulated : {S : Type 0} (m : Meaning S) → IsGadget m → (s : S) (steps : List Step) → IsKnown m s (course m s steps) → Simulates m s steps
+pub simulated : {S : Type 0} (m : Meaning S) → IsGadget m → (s : S) (steps : List PastStep) → IsKnown m s (course m s steps) → Simulates m s steps
 simulated {S = S} m laws s steps known = record {
   direct = record {
     deeds = (runs_from as_deeds m (first_world s) h.moves).told;

@@ -24,7 +24,7 @@ use Rattle.gate_history.specs.step.Events.{ClientPiece, ClientEnd as ClientEnds,
 use Rattle.gate_history.specs.write.Notes.{notes_of}
 use Rattle.direct_run.specs.declared.submitted.Submitted.{Submitted}
 use Rattle.direct_run.specs.Noted.{item_of, item_of_host, performed_item, offered_item}
-use Rattle.direct_run.specs.Steps.{Step, Client, ClientEnd, ToHost, ToGate, Perform, Offer, Unplug}
+use Rattle.direct_run.specs.Steps.{PastStep, Client, ClientEnd, ToHost, ToGate, Perform, Offer, Unplug}
 use Rattle.direct_run.specs.Trace.{given_of, submits_of, told_by}
 use Rattle.direct_run.specs.World.{course, wire_to_gate, wire_to_host}
 use Rattle.direct_proof.specs.Simulates.{is_unplug, is_of_device, QuietBehindUnplug}
@@ -52,7 +52,7 @@ stays-all : {S : Type 0} (m : Meaning S) (h : Host S) (xs : List HostItem) → h
 stays-all m h [] off = off
 stays-all m h (x ∷ xs) off = stays-all m (move m h x).host xs (stays m h x off)
 
-off-course : {S : Type 0} (m : Meaning S) (s : S) (steps : List Step) → list_any is_unplug steps ≡ true → (host_of m s (course m s steps).acts).unplugged ≡ true
+off-course : {S : Type 0} (m : Meaning S) (s : S) (steps : List PastStep) → list_any is_unplug steps ≡ true → (host_of m s (course m s steps).acts).unplugged ≡ true
 off-course {S = S} m s [] h = absurd (cc)
 off-course {S = S} m s (Client b ∷ steps) h = off-course m s steps h
 off-course {S = S} m s (ClientEnd ∷ steps) h = off-course m s steps h
@@ -80,7 +80,7 @@ host-tells submits [] = refl
 host-tells submits (host_note.Cancelled id ∷ ns) = host-tells submits ns
 host-tells submits (host_note.Refused place reason ∷ ns) = host-tells submits ns
 
-tells-none : {S : Type 0} (m : Meaning S) (s : S) (steps : List Step) (x : Step) → list_any is_unplug steps ≡ true → list_any is_of_device (told_by m s (course m s steps) x).items ≡ false
+tells-none : {S : Type 0} (m : Meaning S) (s : S) (steps : List PastStep) (x : PastStep) → list_any is_unplug steps ≡ true → list_any is_of_device (told_by m s (course m s steps) x).items ≡ false
 tells-none m s steps (Client b) h = gate-tells (given_of notes_of (course m s steps).events (ClientPiece b))
 tells-none m s steps ClientEnd h = gate-tells (given_of notes_of (course m s steps).events ClientEnds)
 tells-none m s steps (ToGate n) h = gate-tells (given_of notes_of (course m s steps).events (HostPiece (take n (wire_to_gate m s (course m s steps)))))
@@ -93,6 +93,6 @@ tells-none {S = S} m s steps (Offer ep) h =
     ap (λ (b : Bool). list_any is_of_device (offered_item ep (cond b offered.Unplugged (told_offered_by m k ep (find (runs_at ep) k.running))))) (off-course m s steps h)
 tells-none m s steps Unplug h = refl
 
-pub quiet-behind : {S : Type 0} (m : Meaning S) (s : S) (steps : List Step) → QuietBehindUnplug m s steps
+pub quiet-behind : {S : Type 0} (m : Meaning S) (s : S) (steps : List PastStep) → QuietBehindUnplug m s steps
 quiet-behind m s [] = tt
 quiet-behind m s (x ∷ steps) = (tells-none m s steps x, quiet-behind m s steps)

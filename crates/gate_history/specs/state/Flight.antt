@@ -1,18 +1,15 @@
 -- The ids in flight, and those that an item draws.
 use Rattle.std.specs.Prelude.{ℕ, ◌-◌, Bool, List, ◌++◌, map, filter}
 use Rattle.redir_wire.specs.declared.packet.Caps.{Caps}
-use Rattle.redir_wire.specs.declared.packet.TheConstants.Caps.{WIDE_IDS, WIDE_BULK_LENGTH}
+use Rattle.redir_wire.specs.declared.packet.TheConstants.Caps.{WIDE_BULK_LENGTH}
 use Rattle.redir_wire.specs.Capability.{has}
+pub use Rattle.redir_wire.specs.State.{wide_ids}
 use Rattle.packet_stream.specs.Folds.{rfold}
 use Rattle.gate_history.specs.state.Ids.{last_of}
 use Rattle.gate_history.specs.client.Verdict.{goes_by_id}
 use Rattle.gate_history.specs.step.Marks.{Submission, Mark}
 use Rattle.gate_history.specs.client.Submits.{live, abandoned}
 use Rattle.gate_history.specs.state.StreamIds.{stream_ids, ids_of_streams}
-
--- `usb_redir_cap_64bits_ids`: ids have 64 bits
-abbrev pub wide_ids : Caps → Bool
-wide_ids caps = has caps WIDE_IDS
 
 -- `usb_redir_cap_32bits_bulk_length`: bulk packets have 32 bits for their lengths
 abbrev pub wide_bulk : Caps → Bool

@@ -42,6 +42,5 @@ FirstWants first before (x ∷ xs) = Wants first before x
 -- behind these events a piece has bytes, and its side isn't over
 abbrev pub IsHeld : ℕ → List PastEvent → PastEvent → Type 0
 IsHeld first events (ClientPiece b) = (0 < length b) × (client_over (history first events) ≡ false)
-IsHeld first events ClientEnd = ⊥
 IsHeld first events (HostPiece b) = (0 < length b) × (host_over (history first events) ≡ false)
-IsHeld first events HostEnd = ⊥
+IsHeld first events _ = ⊥

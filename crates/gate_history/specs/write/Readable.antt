@@ -13,9 +13,8 @@ use Rattle.gate_history.specs.write.All.{all_of}
 -- the bytes that an event brings
 abbrev pub piece_bytes : PastEvent → List ℕ
 piece_bytes (ClientPiece b) = b
-piece_bytes ClientEnd = []
 piece_bytes (HostPiece b) = b
-piece_bytes HostEnd = []
+piece_bytes _ = []
 
 -- of events whose bytes are bytes, each packet to the host can be read with the capabilities that are agreed
 abbrev pub SentCanBeRead : Type 0

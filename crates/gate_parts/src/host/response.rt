@@ -293,5 +293,5 @@ pub fn stream_packet(packet: RedirData) -> StreamPacket
 pub fn head_size(caps: Caps) -> u64
     ensures { result ≡ head_size (wide_ids caps) }
 {
-    header_size(RedirState { first: false, caps }) as u64
+    header_size(RedirState::later(caps)) as u64
 }

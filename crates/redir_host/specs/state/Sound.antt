@@ -7,7 +7,7 @@ use Rattle.redir_wire.specs.declared.packet.Way.TheVariants.{ToGuest}
 use Rattle.redir_wire.specs.declared.packet.TheConstants.Caps.{WIDE_BULK_LENGTH}
 use Rattle.redir_wire.specs.declared.state.RedirState.{RedirState}
 use Rattle.redir_wire.specs.Capability.{has}
-use Rattle.redir_wire.specs.State.{is_wide, later}
+use Rattle.redir_wire.specs.State.{wide_ids}
 use Rattle.redir_wire.specs.Header.{IdFits}
 use Rattle.redir_wire.specs.Written.{CanWrite}
 use Rattle.redir_data.specs.declared.packet.RedirPacket.{RedirPacket}
@@ -47,7 +47,7 @@ FormFits _ = Unit {0}
 pub record IsGuestRequest (guest : RedirState) (q : Request) : Type 0 where
   -- a request comes behind the hello
   pub greeted : guest.first ≡ false
-  pub id_fits : IdFits (is_wide (later guest.caps)) q.id
+  pub id_fits : IdFits (wide_ids guest.caps) q.id
   pub transfer : IsTransfer q.transfer
   pub wanted_fits : WantedFits guest.caps q.form q.transfer.wanted
   pub form_fits : FormFits q.form

@@ -10,7 +10,7 @@ use Rattle.redir_wire.specs.declared.packet.Way.TheVariants.{ToGuest, ToHost}
 use Rattle.redir_wire.specs.declared.packet.RedirControl.{RedirControl}
 use Rattle.redir_wire.specs.declared.packet.TheConstants.Caps.{WIDE_BULK_LENGTH}
 use Rattle.redir_wire.specs.Capability.{has}
-use Rattle.redir_wire.specs.State.{is_wide, later}
+use Rattle.redir_wire.specs.State.{wide_ids}
 use Rattle.redir_wire.specs.Header.{IdFits}
 use Rattle.redir_wire.specs.Spelling.{is_hello}
 use Rattle.redir_data.specs.declared.packet.RedirPacket.{RedirPacket}
@@ -60,7 +60,7 @@ IsTaken guest h p = (stream_format ToHost guest).Fits (h, p)
 
 -- only a hello may have an id of another width
 abbrev pub IdFitsOf : Caps → ℕ → RedirControl → Type 0
-IdFitsOf caps id p = is_hello p ≡ false → IdFits (is_wide (later caps)) id
+IdFitsOf caps id p = is_hello p ≡ false → IdFits (wide_ids caps) id
 
 -- the bytes of the answers of those that a change flushes
 abbrev pub flushed_bytes : Caps → Route → EpTable → List Request → List ℕ

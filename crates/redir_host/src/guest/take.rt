@@ -5,7 +5,7 @@ ghost use Rattle.std.specs.List.{find, AllByRecursion};
 ghost use Rattle.redir_data.specs.declared.packet.RedirPacket.TheVariants.{Plain};
 ghost use Rattle.usb_base.specs.Endpoint.{is_control};
 ghost use Rattle.usb_base.specs.Writes.{Begins};
-ghost use Rattle.redir_wire.specs.State.{is_wide, later};
+ghost use Rattle.redir_wire.specs.State.{wide_ids};
 ghost use Rattle.redir_wire.specs.Header.{IdFits};
 ghost use Rattle.redir_host.specs.guest.Asking.{asking_of};
 ghost use Rattle.redir_host.specs.step.Machine.{bytes_of};
@@ -130,7 +130,7 @@ impl<G: Gadget> Host<G> {
 
     /// Starts a stream, where the endpoint can have it.
     fn start(&mut self, id: u64, kind: StreamKind, ep: u8, out: &mut Bytes) -> Result<(), Memory>
-        requires { IdFits (is_wide (later self.old.guest.caps)) id }
+        requires { IdFits (wide_ids self.old.guest.caps) id }
         ensures ok { OnOk result (Makes (start_move (can_start (G.meaning.table self.old.gadget) kind ep) self.old id kind ep) self.new out.old out.new) }
         ensures wants { OnErr result (GivesSome self.old (start_move (can_start (G.meaning.table self.old.gadget) kind ep) self.old id kind ep)) }
         ensures err { OnErr result (Begins out.old out.new) }
@@ -156,7 +156,7 @@ impl<G> Host<G> {
         packet: RedirData,
         out: &mut Bytes,
     ) -> Result<(), Memory>
-        requires { IdFits (is_wide (later self.old.guest.caps)) id }
+        requires { IdFits (wide_ids self.old.guest.caps) id }
         ensures ok { OnOk result (Makes (data_move self.old id (asking_of packet)) self.new out.old out.new) }
         ensures wants { OnErr result (GivesSome self.old (data_move self.old id (asking_of packet))) }
         ensures err { OnErr result (Begins out.old out.new) }
@@ -188,7 +188,7 @@ impl<G> Host<G> {
 
     /// Stops a stream, of whatever type.
     fn stop(&mut self, id: u64, kind: StreamKind, ep: u8, out: &mut Bytes) -> Result<(), Memory>
-        requires { IdFits (is_wide (later self.old.guest.caps)) id }
+        requires { IdFits (wide_ids self.old.guest.caps) id }
         ensures ok { OnOk result (Makes (stop_move self.old id kind ep) self.new out.old out.new) }
         ensures err { OnErr result (Begins out.old out.new) }
     {
@@ -205,7 +205,7 @@ impl<G> Host<G> {
         out: &mut Bytes,
         notes: &mut HostNotes,
     ) -> Result<(), Memory>
-        requires { IdFits (is_wide (later self.old.guest.caps)) id }
+        requires { IdFits (wide_ids self.old.guest.caps) id }
         ensures ok { OnOk result (TakesMove (cancel_move self.old id (find (is_cancelled_by id) self.old.queue)) self.new out.old out.new notes.old notes.new) }
         ensures wants { OnErr result (GivesSome self.old (cancel_move self.old id (find (is_cancelled_by id) self.old.queue))) }
         ensures err { OnErr result (Begins out.old out.new) }

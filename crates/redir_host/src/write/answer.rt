@@ -4,7 +4,7 @@ ghost use Rattle.std.specs.Prelude.{◌≡◌, ◌++◌, OnOk, OnErr};
 ghost use Rattle.std.specs.List.{AllByRecursion};
 ghost use Rattle.usb_base.specs.Writes.{Begins};
 ghost use Rattle.usb_base.specs.declared.status.UsbStatus.TheVariants.{Inval};
-ghost use Rattle.redir_wire.specs.State.{is_wide, later};
+ghost use Rattle.redir_wire.specs.State.{wide_ids};
 ghost use Rattle.redir_wire.specs.Header.{IdFits};
 ghost use Rattle.chapter9.specs.Standard.{ended};
 ghost use Rattle.redir_host.specs.write.Answers.{alt_in, answer, answer_by, cancelled};
@@ -84,7 +84,7 @@ pub fn write_answer(
     caps: Caps,
     out: &mut Bytes,
 ) -> Result<(), Memory>
-    requires id_fits { IdFits (is_wide (later caps)) request.now.id }
+    requires id_fits { IdFits (wide_ids caps) request.now.id }
     requires answer_fits { AnswerFits caps request.now.form request.now.transfer.ep outcome }
     ensures ok { OnOk result (out.new ≡ out.old ++ sent_packet_bytes caps (answer configuration request.now outcome)) }
     ensures err { OnErr result (out.new ≡ out.old) }
@@ -103,7 +103,7 @@ pub fn write_refused(
     caps: Caps,
     out: &mut Bytes,
 ) -> Result<(), Memory>
-    requires { IdFits (is_wide (later caps)) id }
+    requires { IdFits (wide_ids caps) id }
     ensures ok { OnOk result (out.new ≡ out.old ++ sent_packet_bytes caps (id, answer_by 0 form endpoint (ended Inval))) }
     ensures err { OnErr result (out.new ≡ out.old) }
 {
@@ -119,7 +119,7 @@ pub fn write_cancelled(
     caps: Caps,
     out: &mut Bytes,
 ) -> Result<(), Memory>
-    requires { IdFits (is_wide (later caps)) request.now.id }
+    requires { IdFits (wide_ids caps) request.now.id }
     ensures ok { OnOk result (out.new ≡ out.old ++ sent_packet_bytes caps (cancelled request.now)) }
     ensures err { OnErr result (out.new ≡ out.old) }
 {
@@ -137,7 +137,7 @@ pub fn write_flushed(
     caps: Caps,
     out: &mut Bytes,
 ) -> Result<(), Memory>
-    requires { AllByRecursion (λ q. IdFits (is_wide (later caps)) q.id) queue.now }
+    requires { AllByRecursion (λ q. IdFits (wide_ids caps) q.id) queue.now }
     ensures ok { OnOk result (out.new ≡ out.old ++ flushed_bytes caps route.now table.now queue.now) }
     ensures err { OnErr result (Begins out.old out.new) }
 {

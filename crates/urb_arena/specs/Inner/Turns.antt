@@ -107,8 +107,3 @@ start m n i = if nat_lt i m then record { prev = i; next = i; ring = i } else re
 -- the first i cells have these
 abbrev pub Started : Cells → ℕ → ℕ → ℕ → Type 0
 Started ls m n i = (j : ℕ) → j < i → get_or ls j None ≡ Some (start m n j)
-
--- n numbers from a on
-abbrev pub range : ℕ → ℕ → List ℕ
-range a zero = []
-range a (suc n) = a ∷ range (a + 1) n

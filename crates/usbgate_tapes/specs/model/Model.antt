@@ -7,7 +7,7 @@ use Rattle.packet_show.specs.Tape.{model_line}
 use Rattle.gate_history.specs.write.All.{counts_of}
 use Rattle.gate_history.specs.step.History.{history}
 use Rattle.model_device.specs.Meaning.{Meaning}
-use Rattle.direct_run.specs.Steps.{Step, Client, ClientEnd, ToHost, ToGate, Perform, Offer, Unplug}
+use Rattle.direct_run.specs.Steps.{PastStep, Client, ClientEnd, ToHost, ToGate, Perform, Offer, Unplug}
 use Rattle.direct_run.specs.Trace.{told_first, told_by}
 use Rattle.direct_run.specs.World.{first_id, course}
 use Rattle.usbgate_tapes.specs.declared.model.device.Device.{Device}
@@ -17,7 +17,7 @@ use Rattle.usbgate_tapes.specs.tape.TapeCommand.{TapeCommand}
 use Rattle.usbgate_tapes.specs.Text.{told_text, counts_line}
 
 -- the step that a line says, or none
-abbrev pub step_said : ModelLine → Option Step
+abbrev pub step_said : ModelLine → Option PastStep
 step_said line.Skip = None
 step_said (line.Client piece) = Some (Client piece)
 step_said line.ClientEnd = Some ClientEnd
@@ -28,12 +28,12 @@ step_said (line.Offer ep) = Some (Offer ep)
 step_said line.Unplug = Some Unplug
 
 -- a line that says nothing adds nothing
-abbrev pub on_step : {S : Type 0} → Meaning S → S → List Step → Option Step → List ℕ × List Step
+abbrev pub on_step : {S : Type 0} → Meaning S → S → List PastStep → Option PastStep → List ℕ × List PastStep
 on_step m s steps None = ([], steps)
 on_step m s steps (Some x) = (told_text (told_by m s (course m s steps) x), x ∷ steps)
 
 -- it keeps the steps, the latest first
-abbrev pub model : {S : Type 0} → Meaning S → S → TapeCommand (List Step)
+abbrev pub model : {S : Type 0} → Meaning S → S → TapeCommand (List PastStep)
 model m s = record {
   opening = told_text (told_first m s);
   start = [];
@@ -43,5 +43,5 @@ model m s = record {
   refused = λ steps. has_refusal (history first_id (course m s steps).events);
 }
 
-abbrev pub model_of : Device → TapeCommand (List Step)
+abbrev pub model_of : Device → TapeCommand (List PastStep)
 model_of device = as_plugged (λ S m s. model m s) device

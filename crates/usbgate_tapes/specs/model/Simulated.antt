@@ -4,7 +4,7 @@ use Rattle.gate_outside.specs.declared.fault.Failed.{Failed}
 use Rattle.model_device.specs.Device.{first_state, meaning_of}
 use Rattle.model_device.specs.Loopback.{loopback}
 use Rattle.model_device.specs.Meaning.{Meaning}
-use Rattle.direct_run.specs.Steps.{Step}
+use Rattle.direct_run.specs.Steps.{PastStep}
 use Rattle.direct_proof.specs.Simulates.{Simulates}
 use Rattle.usbgate_tapes.specs.declared.model.device.Device.{Device}
 use Rattle.usbgate_tapes.specs.declared.status.Status.{Status}
@@ -16,7 +16,7 @@ use Rattle.usbgate_tapes.specs.Run.{ComesToEnd}
 use Rattle.usbgate_tapes.specs.tape.TapeCommand.{read_tape}
 
 -- the steps that the lines of a tape say, up to its end or its first bad line, the latest first
-abbrev pub steps_of : {S : Type 0} → Meaning S → S → List ℕ → List Step
+abbrev pub steps_of : {S : Type 0} → Meaning S → S → List ℕ → List PastStep
 steps_of m s tape = (read_tape (model m s) tape).after.kept
 
 -- Where the run comes to the end of its tape, or to a bad line, what its steps told and sent is what the device does

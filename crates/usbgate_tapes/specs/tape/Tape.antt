@@ -1,5 +1,6 @@
 -- A replay tape: the lines of a text, and the event that each says.
-use Rattle.std.specs.Prelude.{ℕ, ◌==◌, Bool, true, false, not, if◌then◌else◌, List, [], ◌∷◌, length, drop, Option, Some, None}
+use Rattle.std.specs.Prelude.{ℕ, ◌==◌, Bool, true, false, not, if◌then◌else◌, List, [], ◌∷◌, Option, Some, None}
+use Rattle.std.specs.List.{onto_first}
 use Rattle.std.specs.Io.BufRead.{strip_last}
 use Rattle.packet_show.specs.Line.{LF}
 use Rattle.packet_show.specs.declared.tape.ReplayLine.{ReplayLine}
@@ -8,15 +9,10 @@ use Rattle.gate_history.specs.step.Events.{PastEvent, ClientPiece, ClientEnd, Ho
 
 -- ---- lines
 
--- one byte more in front of the first line
-abbrev pub before_first : ℕ → List (List ℕ) → List (List ℕ)
-before_first b [] = (b ∷ []) ∷ []
-before_first b (line ∷ lines) = (b ∷ line) ∷ lines
-
 -- a text cut behind each LF: each line has its LF, but for a last one that has none
 abbrev pub lines_of : List ℕ → List (List ℕ)
 lines_of [] = []
-lines_of (b ∷ bs) = if b == LF then (LF ∷ []) ∷ lines_of bs else before_first b (lines_of bs)
+lines_of (b ∷ bs) = if b == LF then (LF ∷ []) ∷ lines_of bs else onto_first b (lines_of bs)
 
 -- a line without its LF
 abbrev pub content : List ℕ → List ℕ
@@ -42,7 +38,3 @@ abbrev pub may_happen : List PastEvent → PastEvent → Bool
 may_happen events (HostPiece b) = not (host_ended events)
 may_happen events HostEnd = not (host_ended events)
 may_happen events e = true
-
--- what there is with an event, and without it isn't
-abbrev pub added : {X : Type 0} → (List PastEvent → List X) → List PastEvent → PastEvent → List X
-added all events e = drop (length (all events)) (all (e ∷ events))

@@ -13,7 +13,7 @@ use Rattle.redir_wire.specs.declared.packet.Header.{Header}
 use Rattle.redir_wire.specs.declared.packet.RedirControl.{RedirControl}
 use Rattle.redir_wire.specs.declared.packet.RedirControl.TheVariants as plain
 use Rattle.redir_wire.specs.declared.packet.Way.TheVariants.{ToHost}
-use Rattle.redir_wire.specs.State.{is_wide, later}
+use Rattle.redir_wire.specs.State.{is_wide, wide_ids}
 use Rattle.redir_wire.specs.Header.{IdFits}
 use Rattle.redir_wire.proofs.Says.{is_in_turn, header_says}
 use Rattle.redir_data.specs.declared.packet.RedirData.{RedirData}
@@ -111,7 +111,7 @@ record CanJoin (caps : Caps) (id : ℕ) (f : Form) (t : Transfer) : Type 0 where
   pub wanted_fits : WantedFits caps f t.wanted
   pub form_fits : FormFits f
 
-joins-keeps : {S : Type 0} (h : Host S) (id : ℕ) (f : Form) (t : Transfer) → IsSound h → h.guest.first ≡ false → IdFits (is_wide (later h.guest.caps)) id → CanJoin h.guest.caps id f t → Keeps h (queued h (is_control t.ep) id f t)
+joins-keeps : {S : Type 0} (h : Host S) (id : ℕ) (f : Form) (t : Transfer) → IsSound h → h.guest.first ≡ false → IdFits (wide_ids h.guest.caps) id → CanJoin h.guest.caps id f t → Keeps h (queued h (is_control t.ep) id f t)
 joins-keeps h id f t sound greeted fits can = record {
   guest = refl;
   sound = record {
@@ -127,18 +127,18 @@ joins-keeps h id f t sound greeted fits can = record {
   };
 }
 
-asked-keeps : {S : Type 0} (h : Host S) (id : ℕ) (b : Bool) (f : Form) (t : Transfer) → IsSound h → h.guest.first ≡ false → IdFits (is_wide (later h.guest.caps)) id → (b ≡ true → CanJoin h.guest.caps id f t) → Keeps h (data_move h id (asked_if b f t)).host
+asked-keeps : {S : Type 0} (h : Host S) (id : ℕ) (b : Bool) (f : Form) (t : Transfer) → IsSound h → h.guest.first ≡ false → IdFits (wide_ids h.guest.caps) id → (b ≡ true → CanJoin h.guest.caps id f t) → Keeps h (data_move h id (asked_if b f t)).host
 asked-keeps h id true f t sound greeted fits can = joins-keeps h id f t sound greeted fits (can refl)
 asked-keeps h id false f t sound greeted fits can = record { guest = refl; sound = sound }
 
-interrupt-keeps : {S : Type 0} (h : Host S) (id ep told : ℕ) (body : List ℕ) (b : Bool) → IsSound h → h.guest.first ≡ false → IdFits (is_wide (later h.guest.caps)) id → told < 2 ^ 16 → length body ≡ data_count ToHost ep told →
+interrupt-keeps : {S : Type 0} (h : Host S) (id ep told : ℕ) (body : List ℕ) (b : Bool) → IsSound h → h.guest.first ≡ false → IdFits (wide_ids h.guest.caps) id → told < 2 ^ 16 → length body ≡ data_count ToHost ep told →
     Keeps h (data_move h id (cond b Nothing (asked_if (is_other ep) form.Interrupt (record { ep = ep; setup = None; wanted = told; body = body })))).host
 interrupt-keeps h id ep told body true sound greeted fits few there = record { guest = refl; sound = sound }
 interrupt-keeps h id ep told body false sound greeted fits few there =
     asked-keeps h id (is_other ep) form.Interrupt (record { ep = ep; setup = None; wanted = told; body = body }) sound greeted fits
     (λ other. record { transfer = other-transfer ep told body other there; wanted_fits = few; form_fits = tt })
 
-data-keeps : {S : Type 0} (h : Host S) (id : ℕ) (d : RedirData) → IsSound h → h.guest.first ≡ false → IdFits (is_wide (later h.guest.caps)) id → IsData h.guest.caps ToHost d → Keeps h (data_move h id (asking_of d)).host
+data-keeps : {S : Type 0} (h : Host S) (id : ℕ) (d : RedirData) → IsSound h → h.guest.first ≡ false → IdFits (wide_ids h.guest.caps) id → IsData h.guest.caps ToHost d → Keeps h (data_move h id (asking_of d)).host
 data-keeps h id (moving.Control ep asked kind status value index told body) sound greeted fits is =
     let setup : Setup = record { kind = kind; request = asked; value = value; index = index; length = told } in
     asked-keeps h id (ep == cond (nat_lt kind 128) 0 128) (form.Control setup) (record { ep = ep; setup = Some setup; wanted = told; body = body }) sound greeted fits
@@ -201,10 +201,10 @@ started-in table k ep can = (and_parts (is_in_endpoint ep) (is_kind_of k (row_of
 
 -- ---- packets that move no data
 
-routed-keeps : {S : Type 0} (h : Host S) (id : ℕ) (f : Form) (t : Transfer) → IsSound h → h.guest.first ≡ false → IdFits (is_wide (later h.guest.caps)) id → IsRouted t → (t.wanted < 2 ^ 16 → WantedFits h.guest.caps f t.wanted) → FormFits f → Keeps h (queued h (is_control t.ep) id f t)
+routed-keeps : {S : Type 0} (h : Host S) (id : ℕ) (f : Form) (t : Transfer) → IsSound h → h.guest.first ≡ false → IdFits (wide_ids h.guest.caps) id → IsRouted t → (t.wanted < 2 ^ 16 → WantedFits h.guest.caps f t.wanted) → FormFits f → Keeps h (queued h (is_control t.ep) id f t)
 routed-keeps h id f t sound greeted fits is few form = joins-keeps h id f t sound greeted fits (record { transfer = is.transfer; wanted_fits = few is.few; form_fits = form })
 
-plain-keeps : {S : Type 0} (m : Meaning S) (h : Host S) (id : ℕ) (c : RedirControl) → IsSound h → h.guest.first ≡ false → IdFits (is_wide (later h.guest.caps)) id → Keeps h (packet_move_by m h id (Plain c)).host
+plain-keeps : {S : Type 0} (m : Meaning S) (h : Host S) (id : ℕ) (c : RedirControl) → IsSound h → h.guest.first ≡ false → IdFits (wide_ids h.guest.caps) id → Keeps h (packet_move_by m h id (Plain c)).host
 plain-keeps m h id plain.Reset sound greeted fits = record { guest = refl; sound = record { requests = sound.requests; streams = sound.streams } }
 plain-keeps m h id (plain.SetConfiguration configuration) sound greeted fits =
     routed-keeps h id (form.SetConfiguration configuration) (routed (route.SetConfig configuration)) sound greeted fits (routed-set configuration) (λ few. few) tt

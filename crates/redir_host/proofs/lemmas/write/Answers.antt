@@ -9,7 +9,7 @@ use Rattle.redir_wire.specs.declared.packet.Way.TheVariants.{ToGuest}
 use Rattle.redir_wire.specs.declared.packet.TheConstants.Caps.{WIDE_BULK_LENGTH}
 use Rattle.redir_wire.specs.declared.state.RedirState.{RedirState}
 use Rattle.redir_wire.specs.Capability.{has}
-use Rattle.redir_wire.specs.State.{is_wide, later}
+use Rattle.redir_wire.specs.State.{wide_ids}
 use Rattle.redir_wire.specs.Header.{IdFits}
 use Rattle.redir_data.specs.Ranges.{BulkLengthFits}
 use Rattle.redir_data.specs.Spelling.{data_count}
@@ -26,7 +26,7 @@ more_bytes : (wide : Bool) → cond wide 2 0 ≤ 2
 more_bytes true = omega arith
 more_bytes false = omega arith
 
-pub can_answer : (caps : Caps) (configuration id : ℕ) (f : Form) (ep : ℕ) (o : Outcome) → IdFits (is_wide (later caps)) id → AnswerFits caps f ep o → CanTell caps id (answer_by configuration f ep o)
+pub can_answer : (caps : Caps) (configuration id : ℕ) (f : Form) (ep : ℕ) (o : Outcome) → IdFits (wide_ids caps) id → AnswerFits caps f ep o → CanTell caps id (answer_by configuration f ep o)
 can_answer caps configuration id (form.Control s) ep o fits a = record { id_fits = fits; length_fits = tt; data_there = a.data_there; in_limit = (let few = a.few_bytes in omega arith) }
 can_answer caps configuration id (form.Bulk stream) ep o fits a = record { id_fits = fits; length_fits = a.length_fits; data_there = a.data_there; in_limit = (let few = a.few_bytes in let more = more_bytes (has caps WIDE_BULK_LENGTH) in omega arith) }
 can_answer caps configuration id form.Interrupt ep o fits a = record { id_fits = fits; length_fits = tt; data_there = a.data_there; in_limit = (let few = a.few_bytes in omega arith) }

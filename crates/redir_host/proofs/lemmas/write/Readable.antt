@@ -15,7 +15,7 @@ use Rattle.redir_wire.specs.declared.packet.Way.TheVariants.{ToGuest}
 use Rattle.redir_wire.specs.declared.packet.TheConstants.Caps.{WIDE_IDS}
 use Rattle.redir_wire.specs.declared.state.RedirState.{RedirState}
 use Rattle.redir_wire.specs.Capability.{has}
-use Rattle.redir_wire.specs.State.{is_wide, later}
+use Rattle.redir_wire.specs.State.{wide_ids}
 use Rattle.redir_wire.specs.Header.{IdFits}
 use Rattle.redir_data.specs.declared.packet.RedirData.TheVariants as moving
 use Rattle.redir_data.specs.declared.packet.RedirPacket.{RedirPacket}
@@ -57,7 +57,7 @@ use Rattle.redir_host.proofs.lemmas.write.Facts.{ep_info, interface_info, no_id,
 
 -- ---- answers
 
-pub answer-read : (caps : Caps) (configuration id : ℕ) (f : Form) (ep : ℕ) (o : Outcome) → IdFits (is_wide (later caps)) id → AnswerFits caps f ep o → FormFits f → o.done < 2 ^ 32 → CanBeRead ToGuest caps (id, answer_by configuration f ep o)
+pub answer-read : (caps : Caps) (configuration id : ℕ) (f : Form) (ep : ℕ) (o : Outcome) → IdFits (wide_ids caps) id → AnswerFits caps f ep o → FormFits f → o.done < 2 ^ 32 → CanBeRead ToGuest caps (id, answer_by configuration f ep o)
 answer-read caps configuration id (form.Control s) ep o fits a own few =
     data_sent ToGuest caps id (moving.Control ep s.request s.kind (status_byte o.status) s.value s.index o.done o.body) ((own.0, (own.1, (a.done, tt))), tt) (can_answer caps configuration id (form.Control s) ep o fits a)
 answer-read caps configuration id (form.Bulk stream) ep o fits a own few =

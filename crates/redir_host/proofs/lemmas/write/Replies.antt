@@ -15,7 +15,7 @@ use Rattle.redir_wire.specs.declared.packet.Header.{Header}
 use Rattle.redir_wire.specs.declared.packet.RedirControl.{RedirControl}
 use Rattle.redir_wire.specs.declared.packet.RedirControl.TheVariants as plain
 use Rattle.redir_wire.specs.declared.packet.Way.TheVariants.{ToGuest, ToHost}
-use Rattle.redir_wire.specs.State.{is_wide, later}
+use Rattle.redir_wire.specs.State.{is_wide, later, wide_ids}
 use Rattle.redir_wire.specs.Header.{IdFits}
 use Rattle.redir_wire.specs.Spelling.{is_hello}
 use Rattle.redir_wire.proofs.Says.{header_says}
@@ -57,11 +57,11 @@ use Rattle.redir_host.proofs.lemmas.write.Facts.{connect}
 abbrev Reads : {S : Type 0} → Host S → Move S → Type 0
 Reads h v = Each (CanBeRead ToGuest h.guest.caps) v.sent
 
-status-read : (caps : Caps) (id : ℕ) (k : StreamKind) (status : UsbStatus) (ep : ℕ) → IdFits (is_wide (later caps)) id → CanBeRead ToGuest caps (id, status_of k status ep)
+status-read : (caps : Caps) (id : ℕ) (k : StreamKind) (status : UsbStatus) (ep : ℕ) → IdFits (wide_ids caps) id → CanBeRead ToGuest caps (id, status_of k status ep)
 status-read caps id Iso status ep fits = control_sent ToGuest caps id (plain.IsoStatus (status_byte status) ep) refl tt (record { agreed = refl; id_fits = fits; writable = tt }) refl
 status-read caps id Interrupt status ep fits = control_sent ToGuest caps id (plain.InterruptStatus (status_byte status) ep) refl tt (record { agreed = refl; id_fits = fits; writable = tt }) refl
 
-start-read : {S : Type 0} (h : Host S) (id : ℕ) (k : StreamKind) (ep : ℕ) (b : Bool) → IdFits (is_wide (later h.guest.caps)) id → Reads h (start_move b h id k ep)
+start-read : {S : Type 0} (h : Host S) (id : ℕ) (k : StreamKind) (ep : ℕ) (b : Bool) → IdFits (wide_ids h.guest.caps) id → Reads h (start_move b h id k ep)
 start-read h id k ep true fits = (status-read h.guest.caps id k Success ep fits, tt)
 start-read h id k ep false fits = (status-read h.guest.caps id k Inval ep fits, tt)
 
@@ -69,15 +69,15 @@ cancel-read : {S : Type 0} (h : Host S) (id : ℕ) (o : Option Request) → IfSo
 cancel-read h id None is = tt
 cancel-read h id (Some q) is = (cancelled-read h.guest q is.0, tt)
 
-asked-read : {S : Type 0} (h : Host S) (id : ℕ) (b : Bool) (f : Form) (t : Transfer) → IdFits (is_wide (later h.guest.caps)) id → FormFits f → Reads h (data_move h id (asked_if b f t))
+asked-read : {S : Type 0} (h : Host S) (id : ℕ) (b : Bool) (f : Form) (t : Transfer) → IdFits (wide_ids h.guest.caps) id → FormFits f → Reads h (data_move h id (asked_if b f t))
 asked-read h id true f t fits own = tt
 asked-read h id false f t fits own = (answer-read h.guest.caps 0 id f t.ep (ended Inval) fits (ended_fits h.guest.caps f t.ep Inval) own (lit< tt), tt)
 
-interrupt-read : {S : Type 0} (h : Host S) (id : ℕ) (can into : Bool) (t : Transfer) → IdFits (is_wide (later h.guest.caps)) id → Reads h (data_move h id (cond into Nothing (asked_if can form.Interrupt t)))
+interrupt-read : {S : Type 0} (h : Host S) (id : ℕ) (can into : Bool) (t : Transfer) → IdFits (wide_ids h.guest.caps) id → Reads h (data_move h id (cond into Nothing (asked_if can form.Interrupt t)))
 interrupt-read h id can true t fits = tt
 interrupt-read h id can false t fits = asked-read h id can form.Interrupt t fits tt
 
-data-read : {S : Type 0} (h : Host S) (id : ℕ) (d : RedirData) → IdFits (is_wide (later h.guest.caps)) id → IsData h.guest.caps ToHost d → Reads h (data_move h id (asking_of d))
+data-read : {S : Type 0} (h : Host S) (id : ℕ) (d : RedirData) → IdFits (wide_ids h.guest.caps) id → IsData h.guest.caps ToHost d → Reads h (data_move h id (asking_of d))
 data-read h id (moving.Control ep asked kind status value index told body) fits is =
     let setup : Setup = record { kind = kind; request = asked; value = value; index = index; length = told } in
     asked-read h id _ (form.Control setup) (record { ep = ep; setup = Some setup; wanted = told; body = body }) fits (is.ranges.0.0, is.ranges.0.1.0)
@@ -87,7 +87,7 @@ data-read h id (moving.Iso ep status told body) fits is = tt
 data-read h id (moving.Interrupt ep status told body) fits is = interrupt-read h id (is_other ep) (is_in_endpoint ep) (record { ep = ep; setup = None; wanted = told; body = body }) fits
 
 -- of one that is no hello
-plain-read : {S : Type 0} (m : Meaning S) (h : Host S) (id : ℕ) (c : RedirControl) → is_hello c ≡ false → IsSound h → IdFits (is_wide (later h.guest.caps)) id → Reads h (packet_move_by m h id (Plain c))
+plain-read : {S : Type 0} (m : Meaning S) (h : Host S) (id : ℕ) (c : RedirControl) → is_hello c ≡ false → IsSound h → IdFits (wide_ids h.guest.caps) id → Reads h (packet_move_by m h id (Plain c))
 plain-read m h id (plain.Hello x) other sound fits = absurd (true≢false other)
 plain-read m h id (plain.StartIso ep pkts_per_urb no_urbs) other sound fits = start-read h id Iso ep (can_start (m.table h.gadget) Iso ep) fits
 plain-read m h id (plain.StopIso ep) other sound fits = (status-read h.guest.caps id Iso Success ep fits, tt)

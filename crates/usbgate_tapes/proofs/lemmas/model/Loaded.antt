@@ -1,13 +1,13 @@
 -- A made tape read by a model: its lines are all good, and what is kept are the steps that they say.
 use Rattle.std.proofs.Common.{◌≡◌, ℕ, ◌+◌, ◌-◌, ◌≤◌, Bool, true, false, cond, ◌&&◌, List, [], ◌∷◌, ◌++◌, length, get_or, take, nat_eq, nat_lt, option_map, Option, Some, None, refl, ap, ◌∙◌, append_assoc, arith}
-use Rattle.std.specs.List.{list_any}
+use Rattle.std.specs.List.{list_any, cons_option}
 use Rattle.std.proofs.lemmas.Bool.{le-ltb, or_parts}
 use Rattle.std.proofs.lemmas.List.{length-append}
 use Rattle.std.proofs.Math.Seq.{take-append_seam, get_or-append_seam}
 use Rattle.packet_show.specs.declared.tape.ModelLine.{ModelLine}
 use Rattle.packet_show.specs.Tape.{model_line}
 use Rattle.model_device.specs.Meaning.{Meaning}
-use Rattle.direct_run.specs.Steps.{Step}
+use Rattle.direct_run.specs.Steps.{PastStep}
 use Rattle.made_tape.specs.Lines.{words_of, line_of, tape_text}
 use Rattle.made_tape.specs.Again.{IsReadAgain, AreReadAgain, TapeAgain}
 use Rattle.usbgate_tapes.specs.tape.Tape.{lines_of, content}
@@ -16,7 +16,7 @@ use Rattle.usbgate_tapes.specs.model.Model.{on_step, step_said, model}
 use Rattle.packet_show.specs.declared.tape.TheConstants.{TAPE_LIMIT}
 use Rattle.usbgate_tapes.specs.tape.TapeCommand.{Progress, begin, one_further, next_line, Reading, on_line, read_lines, read_tape, last_text}
 use Rattle.usbgate_tapes.specs.Text.{bad_line}
-use Rattle.usbgate_tapes.specs.inner.model.Loaded.{with_step, steps_after}
+use Rattle.usbgate_tapes.specs.inner.model.Loaded.{steps_after}
 use Rattle.usbgate_tapes.proofs.lemmas.tape.Lines.{lines_of-line}
 
 -- ---- a line
@@ -47,34 +47,34 @@ first-line said later again = ap lines_of (append_assoc (words_of said) (10 ∷ 
 -- ---- of a device
 
 module _ {S : Type 0} (m : Meaning S) (s : S) where
-  abbrev on_said : List Step → Option ModelLine → Option (List ℕ × List Step)
+  abbrev on_said : List PastStep → Option ModelLine → Option (List ℕ × List PastStep)
   on_said steps said = option_map (λ (x : ModelLine). on_step m s steps (step_said x)) said
 
   -- a line that is read again adds what it says
-  said-line : (steps : List Step) (said : ModelLine) → IsReadAgain said → on_said steps (model_line (content (line_of said))) ≡ Some (on_step m s steps (step_said said))
+  said-line : (steps : List PastStep) (said : ModelLine) → IsReadAgain said → on_said steps (model_line (content (line_of said))) ≡ Some (on_step m s steps (step_said said))
   said-line steps said again =
       ap (λ (text : List ℕ). on_said steps (model_line text)) (content-line (words_of said)) ∙ ap (on_said steps) again.says
 
-  kept-step : (steps : List Step) (x : Option Step) → (on_step m s steps x).1 ≡ with_step x steps
+  kept-step : (steps : List PastStep) (x : Option PastStep) → (on_step m s steps x).1 ≡ cons_option x steps
   kept-step steps None = refl
   kept-step steps (Some x) = refl
 
   -- the progress behind such a line
-  abbrev further : Progress (List Step) → ModelLine → Progress (List Step)
+  abbrev further : Progress (List PastStep) → ModelLine → Progress (List PastStep)
   further p said = (one_further p (line_of said) (on_step m s p.kept (step_said said))).1
 
-  good-line : (p : Progress (List Step)) (said : ModelLine) → IsReadAgain said → p.bytes + length (line_of said) ≤ TAPE_LIMIT
+  good-line : (p : Progress (List PastStep)) (said : ModelLine) → IsReadAgain said → p.bytes + length (line_of said) ≤ TAPE_LIMIT
       → next_line (model m s) p (line_of said) ≡ Some (one_further p (line_of said) (on_step m s p.kept (step_said said)))
   good-line p said again within =
       ap (λ (t : Bool). cond t None (option_map (one_further p (line_of said)) (on_said p.kept (model_line (content (line_of said)))))) (le-ltb TAPE_LIMIT (p.bytes + length (line_of said)) within)
       ∙ ap (option_map (one_further p (line_of said))) (said-line p.kept said again)
 
   -- no line is bad, and these steps are kept
-  record IsRead (x : Reading (List Step)) (steps : List Step) : Type 0 where
+  record IsRead (x : Reading (List PastStep)) (steps : List PastStep) : Type 0 where
     good : x.bad ≡ false
     kept : x.after.kept ≡ steps
 
-  lines-read : (lines : List ModelLine) (p : Progress (List Step)) → AreReadAgain lines → p.bytes + length (tape_text lines) ≤ TAPE_LIMIT
+  lines-read : (lines : List ModelLine) (p : Progress (List PastStep)) → AreReadAgain lines → p.bytes + length (tape_text lines) ≤ TAPE_LIMIT
       → IsRead (read_lines (model m s) p (lines_of (tape_text lines))) (steps_after lines p.kept)
   lines-read [] p again within = record { good = refl; kept = refl }
   lines-read (said ∷ lines) p again within =
@@ -85,8 +85,8 @@ module _ {S : Type 0} (m : Meaning S) (s : S) where
       ap (read_lines (model m s) p) (first-line said (tape_text lines) again.0)
       ∙ ap (on_line p (λ z. read_lines (model m s) z (lines_of (tape_text lines)))) (good-line p said again.0 (omega (arith, long))) in
       record {
-        good = ap (λ (x : Reading (List Step)). x.bad) is ∙ others.good;
-        kept = ap (λ (x : Reading (List Step)). x.after.kept) is ∙ others.kept ∙ ap (steps_after lines) (kept-step p.kept (step_said said));
+        good = ap (λ (x : Reading (List PastStep)). x.bad) is ∙ others.good;
+        kept = ap (λ (x : Reading (List PastStep)). x.after.kept) is ∙ others.kept ∙ ap (steps_after lines) (kept-step p.kept (step_said said));
       }
 
   -- so these steps are kept of such a tape
@@ -101,6 +101,6 @@ module _ {S : Type 0} (m : Meaning S) (s : S) where
   last-made lines again =
       last-good (read_tape (model m s) (tape_text lines)) _ (tape-read lines again)
     where
-      last-good : (x : Reading (List Step)) (steps : List Step) → IsRead x steps → last_text (model m s) x ≡ (model m s).closing steps
+      last-good : (x : Reading (List PastStep)) (steps : List PastStep) → IsRead x steps → last_text (model m s) x ≡ (model m s).closing steps
       last-good x steps is =
           ap (λ (t : Bool). cond t (bad_line (x.after.lines + 1)) ((model m s).closing x.after.kept)) is.good ∙ ap (model m s).closing is.kept

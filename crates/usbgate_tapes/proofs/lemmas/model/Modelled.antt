@@ -17,7 +17,7 @@ use Rattle.direct_run.specs.declared.told.Told.{Told}
 use Rattle.direct_run.specs.Kept.{SystemKept}
 use Rattle.gate_history.specs.write.Refusals.{refusal_in}
 use Rattle.direct_run.specs.Stands.{SystemStands}
-use Rattle.direct_run.specs.Steps.{Step, Client, ClientEnd, ToHost, ToGate, Perform, Offer, Unplug}
+use Rattle.direct_run.specs.Steps.{PastStep, Client, ClientEnd, ToHost, ToGate, Perform, Offer, Unplug}
 use Rattle.direct_run.specs.Trace.{given_of, told_by}
 use Rattle.direct_run.specs.World.{Course, first_id, course, after_step, wire_to_gate}
 use Rattle.usbgate_tapes.specs.declared.model.ModelRun.{ModelRun}
@@ -46,7 +46,7 @@ event-refuses events e =
     ap (λ (b : Bool). has_refusal (history first_id events) || b) (some-told (given_of notes_of events e))
     ∙ refused-more first_id (history first_id events) (history first_id (e ∷ events)) (given_of notes_of events e) (event-gives notes_of first_id events e)
 
-step-refuses : {S : Type 0} (m : Meaning S) (s : S) (c : Course) (x : Step) → (has_refusal (history first_id c.events) || not (is_empty (told_by m s c x).refusals)) ≡ has_refusal (history first_id (after_step m s c x).events)
+step-refuses : {S : Type 0} (m : Meaning S) (s : S) (c : Course) (x : PastStep) → (has_refusal (history first_id c.events) || not (is_empty (told_by m s c x).refusals)) ≡ has_refusal (history first_id (after_step m s c x).events)
 step-refuses m s c (Client b) = event-refuses c.events (ClientPiece b)
 step-refuses m s c ClientEnd = event-refuses c.events ClientEnds
 step-refuses m s c (ToHost n) = or-false (has_refusal (history first_id c.events))
@@ -58,7 +58,7 @@ step-refuses m s c Unplug = or-false (has_refusal (history first_id c.events))
 -- ---- a line
 
 -- a line whose step was done puts what that adds behind the text
-pub line-told : {S : Type 0} (m : Meaning S) (s : S) (old new : ModelRun S) (steps : List Step) (content : List ℕ) (said : ModelLine) (done : SystemKept S) (outcome : Option Told) (told : Told) (text_old text_new : List ℕ) →
+pub line-told : {S : Type 0} (m : Meaning S) (s : S) (old new : ModelRun S) (steps : List PastStep) (content : List ℕ) (said : ModelLine) (done : SystemKept S) (outcome : Option Told) (told : Told) (text_old text_new : List ℕ) →
     model_line content ≡ Some said → (SystemStands m s old.system steps → TakesSaid m s done steps (step_said said) outcome) → outcome ≡ Some told → new.system ≡ done → text_new ≡ text_old ++ told_text told → new.refused ≡ (old.refused || not (is_empty told.refusals)) →
     HasDone m s old steps → TakesLine (HasDone m s) ((model m s).line steps content) new text_old text_new
 line-told {S = S} m s old new steps content said done outcome told text_old text_new is takes outcome-is system-is text-is refused h =
@@ -68,7 +68,7 @@ line-told {S = S} m s old new steps content said done outcome told text_old text
     taken = subst (λ (k : SystemKept S). TakesSaid m s k steps (step_said said) (Some told)) (sym system-is)
         (subst (TakesSaid m s done steps (step_said said)) outcome-is (takes h.system))
 
-    go : (o : Option Step) → TakesSaid m s new.system steps o (Some told) → TakesLine (HasDone m s) (Some (on_step m s steps o)) new text_old text_new
+    go : (o : Option PastStep) → TakesSaid m s new.system steps o (Some told) → TakesLine (HasDone m s) (Some (on_step m s steps o)) new text_old text_new
     go None never = absurd never
     go (Some x) t = (
       text-is ∙ ap (λ (y : Told). text_old ++ told_text y) t.told-is,

@@ -7,7 +7,7 @@ use Rattle.model_device.specs.Loopback.{loopback}
 use Rattle.model_device.specs.Meaning.{Meaning}
 use Rattle.direct_run.specs.Kept.{SystemKept}
 use Rattle.direct_run.specs.Stands.{SystemStands}
-use Rattle.direct_run.specs.Steps.{Step}
+use Rattle.direct_run.specs.Steps.{PastStep}
 use Rattle.direct_proof.specs.Simulates.{Simulates}
 use Rattle.made_tape.specs.Again.{TapeAgain}
 use Rattle.made_tape.specs.Rounds.{made_lines}
@@ -25,7 +25,7 @@ use Rattle.usbgate_tapes.proofs.lemmas.model.Loaded.{kept-made}
 
 -- the law of systems
 abbrev pub SystemsAreDirect : {S : Type 0} → Meaning S → Type 0
-SystemsAreDirect {S = S} m = (first : S) (kept : SystemKept S) (steps : List Step) → SystemStands m first kept steps → Simulates m first steps
+SystemsAreDirect {S = S} m = (first : S) (kept : SystemKept S) (steps : List PastStep) → SystemStands m first kept steps → Simulates m first steps
 
 pub are-simulated : {S T : Type 0} (m : Meaning S) (s : S) (read_gives : T → List ℕ → Result ℕ Failed → T → Type 0) (remaining : T → Option (List ℕ)) (status : Status) (old new : T) → SystemsAreDirect m → ReadsTo read_gives remaining status (HasDone m s) (model m s) old new → AreSimulated read_gives remaining status m s old new
 are-simulated m s read_gives remaining status old new law reads = record {

@@ -14,7 +14,7 @@ use Rattle.packet_stream.specs.Streams.{StreamView, capped, passed, FollowsBy, F
 use Rattle.packet_stream.proofs.Following.{changed_to}
 use Rattle.gate_history.specs.step.Events.{PastEvent}
 use Rattle.usbgate_tapes.specs.Show.{Shown, packet_lines, wrong_line, split_text, stream_split, was_wrong, is_wrong, stream_text, show_side}
-use Rattle.usbgate_tapes.specs.tape.Tape.{added}
+use Rattle.usb_base.specs.Lists.{gained}
 use Rattle.usbgate_tapes.specs.inner.show.Shown.{HasNone}
 use Rattle.usbgate_tapes.specs.inner.show.Show.{HasShown, ShowsEvent, Shows, ShowsSoFar, Showed, ShowsPackets}
 
@@ -148,12 +148,12 @@ module _ {S P : Type 0} (shown : Shown S P) where
   none-wrong (Some w) is = absurd (false≢true (sym is))
 
   -- what an event adds to a stream that isn't wrong, and to one that is
-  adds : (events : List PastEvent) (e : PastEvent) (text more : List ℕ) → is_wrong shown events ≡ false → added (stream_text shown) events e ≡ more → text ++ more ≡ text ++ (show_side shown).text events e
+  adds : (events : List PastEvent) (e : PastEvent) (text more : List ℕ) → is_wrong shown events ≡ false → gained (stream_text shown) events e ≡ more → text ++ more ≡ text ++ (show_side shown).text events e
   adds events e text more right is =
-      ap (λ (l : List ℕ). text ++ l) (sym is ∙ ap (λ (b : Bool). cond b [] (added (stream_text shown) events e)) (sym right))
+      ap (λ (l : List ℕ). text ++ l) (sym is ∙ ap (λ (b : Bool). cond b [] (gained (stream_text shown) events e)) (sym right))
 
   adds-none : (events : List PastEvent) (e : PastEvent) (text : List ℕ) → is_wrong shown events ≡ true → text ≡ text ++ (show_side shown).text events e
-  adds-none events e text wrong = sym (append-nil text) ∙ ap (λ (b : Bool). text ++ cond b [] (added (stream_text shown) events e)) (sym wrong)
+  adds-none events e text wrong = sym (append-nil text) ∙ ap (λ (b : Bool). text ++ cond b [] (gained (stream_text shown) events e)) (sym wrong)
 
   -- whether a stream was wrong, with an event behind which the present one is or isn't
   wrong-after : (refused now : Bool) (events : List PastEvent) (e : PastEvent) → refused ≡ was_wrong shown events → is_wrong shown (e ∷ events) ≡ now → (refused || now) ≡ was_wrong shown (e ∷ events)
@@ -170,7 +170,7 @@ module _ {S P : Type 0} (shown : Shown S P) where
 
   -- more packets, and perhaps a wrong place
   added-more : (events : List PastEvent) (e : PastEvent) (more : List (ℕ × P)) (w : Option (ℕ × Reason)) → (stream_split shown events).wrong ≡ None → (stream_split shown (e ∷ events)).packets ≡ (stream_split shown events).packets ++ more
-      → (stream_split shown (e ∷ events)).wrong ≡ w → added (stream_text shown) events e ≡ packet_lines shown more ++ wrong_line shown.side w
+      → (stream_split shown (e ∷ events)).wrong ≡ w → gained (stream_text shown) events e ≡ packet_lines shown more ++ wrong_line shown.side w
   added-more events e more w right packets wrong =
       let x = stream_split shown events in
       let y = stream_split shown (e ∷ events) in
@@ -306,7 +306,7 @@ module _ {S P : Type 0} (shown : Shown S P) where
         );
   }
     where
-      nothing : added (stream_text shown) events e ≡ []
+      nothing : gained (stream_text shown) events e ≡ []
       nothing = ap (λ (b : List ℕ). drop (length (split_text shown (stream_split shown events))) (split_text shown (split shown.reader shown.start b))) same ∙ drop-length (split_text shown (stream_split shown events))
 
       none-added : (b : Bool) → is_wrong shown events ≡ b → text ≡ text ++ (show_side shown).text events e
@@ -328,7 +328,7 @@ module _ {S P : Type 0} (shown : Shown S P) where
       text-none = ap (λ (b : List ℕ). split_text shown (split shown.reader shown.start b)) is ∙ ap (λ (ps : List (ℕ × P)). packet_lines shown ps ++ wrong_line shown.side (split shown.reader shown.start []).wrong) none.packets
           ∙ ap (λ (w : Option (ℕ × Reason)). wrong_line shown.side w) none.right
 
-      nothing : added (stream_text shown) events e ≡ []
+      nothing : gained (stream_text shown) events e ≡ []
       nothing = ap (drop (length (split_text shown (stream_split shown events)))) text-none ∙ drop-none (length (split_text shown (stream_split shown events)))
 
       none-added : (b : Bool) → is_wrong shown events ≡ b → text ≡ text ++ (show_side shown).text events e

@@ -6,8 +6,8 @@ use Rattle.std.proofs.lemmas.List.Sums.{prefix_len_passes}
 use Rattle.std.proofs.lemmas.Option.{none-some}
 use Rattle.std.proofs.Math.Seq.{take-suc}
 use Rattle.std.proofs.lemmas.Bool.{eqb-true, ltb-false, false_from_ne_true, not-true}
-use Rattle.std.specs.List.{position_or_len}
-use Rattle.usbgate_tapes.specs.tape.Tape.{before_first, lines_of}
+use Rattle.std.specs.List.{position_or_len, onto_first}
+use Rattle.usbgate_tapes.specs.tape.Tape.{lines_of}
 use Rattle.usbgate_tapes.specs.Run.{EndsALine, HasNoLF}
 
 -- ---- LFs
@@ -35,13 +35,13 @@ EndsALine-line (b ∷ c ∷ bs) = EndsALine-line (c ∷ bs)
 pub lines_of-line : (part rest : List ℕ) → HasNoLF part → lines_of (part ++ 10 ∷ rest) ≡ (part ++ 10 ∷ []) ∷ lines_of rest
 lines_of-line [] rest p = refl
 lines_of-line (b ∷ bs) rest p =
-    ap (λ (t : Bool). cond t ((10 ∷ []) ∷ lines_of (bs ++ 10 ∷ rest)) (before_first b (lines_of (bs ++ 10 ∷ rest)))) (not_lf b p.0)
-    ∙ ap (before_first b) (lines_of-line bs rest p.1)
+    ap (λ (t : Bool). cond t ((10 ∷ []) ∷ lines_of (bs ++ 10 ∷ rest)) (onto_first b (lines_of (bs ++ 10 ∷ rest)))) (not_lf b p.0)
+    ∙ ap (onto_first b) (lines_of-line bs rest p.1)
 
 pub lines_of-last : (b : ℕ) (bs : List ℕ) → HasNoLF (b ∷ bs) → lines_of (b ∷ bs) ≡ (b ∷ bs) ∷ []
 lines_of-last b [] p = ap (λ (t : Bool). cond t ((10 ∷ []) ∷ []) ((b ∷ []) ∷ [])) (not_lf b p.0)
 lines_of-last b (c ∷ bs) p =
-    ap (λ (t : Bool). cond t ((10 ∷ []) ∷ lines_of (c ∷ bs)) (before_first b (lines_of (c ∷ bs)))) (not_lf b p.0) ∙ ap (before_first b) (lines_of-last c bs p.1)
+    ap (λ (t : Bool). cond t ((10 ∷ []) ∷ lines_of (c ∷ bs)) (onto_first b (lines_of (c ∷ bs)))) (not_lf b p.0) ∙ ap (onto_first b) (lines_of-last c bs p.1)
 
 -- the first line, and the others
 pub record First (text : List ℕ) (front : List ℕ) : Type 0 where
@@ -49,7 +49,7 @@ pub record First (text : List ℕ) (front : List ℕ) : Type 0 where
   pub others : List (List ℕ)
   pub is : lines_of text ≡ (front ++ more) ∷ others
 
-first_of : (b : ℕ) (lines : List (List ℕ)) → (more : List ℕ) × (others : List (List ℕ)) × (before_first b lines ≡ (b ∷ more) ∷ others)
+first_of : (b : ℕ) (lines : List (List ℕ)) → (more : List ℕ) × (others : List (List ℕ)) × (onto_first b lines ≡ (b ∷ more) ∷ others)
 first_of b [] = ([], [], refl)
 first_of b (line ∷ lines) = (line, lines, refl)
 
@@ -60,14 +60,14 @@ first-part b [] later p =
     record {
       more = f.0;
       others = f.1;
-      is = ap (λ (t : Bool). cond t ((10 ∷ []) ∷ lines_of later) (before_first b (lines_of later))) (not_lf b p.0) ∙ f.2;
+      is = ap (λ (t : Bool). cond t ((10 ∷ []) ∷ lines_of later) (onto_first b (lines_of later))) (not_lf b p.0) ∙ f.2;
     }
 first-part b (c ∷ bs) later p =
     let f = first-part c bs later p.1 in
     record {
       more = f.more;
       others = f.others;
-      is = ap (λ (t : Bool). cond t ((10 ∷ []) ∷ lines_of ((c ∷ bs) ++ later)) (before_first b (lines_of ((c ∷ bs) ++ later)))) (not_lf b p.0) ∙ ap (before_first b) f.is;
+      is = ap (λ (t : Bool). cond t ((10 ∷ []) ∷ lines_of ((c ∷ bs) ++ later)) (onto_first b (lines_of ((c ∷ bs) ++ later)))) (not_lf b p.0) ∙ ap (onto_first b) f.is;
     }
 
 -- ---- where the first LF is

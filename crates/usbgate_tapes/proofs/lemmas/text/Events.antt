@@ -23,7 +23,7 @@ use Rattle.gate_history.specs.Headline.{Gains}
 use Rattle.gate_core.specs.step.Stands.{TakesEvent}
 use Rattle.usbgate_tapes.specs.declared.replay.Replay.{Replay}
 use Rattle.usbgate_tapes.specs.Text.{sent_text}
-use Rattle.usbgate_tapes.specs.tape.Tape.{added}
+use Rattle.usb_base.specs.Lists.{gained}
 use Rattle.usbgate_tapes.specs.Replay.{has_refusal}
 use Rattle.usbgate_tapes.specs.inner.Replay.{HasReplayed, PutsEvent}
 
@@ -92,13 +92,13 @@ pub sees : (first : ℕ) (old new : Replay) (events : List PastEvent) (e : PastE
 sees first old new events e client host text_old text_new notes h t text no_client no_host refused =
     let clients : List PastEvent → List ℕ = λ es. out_client first (history first es) in
     let hosts : List PastEvent → List ℕ = λ es. out_host first (history first es) in
-    let to_client : client ≡ added clients events e = gains-is old.to_client client _ _ h.to_client t.sends.client in
-    let to_host : host ≡ added hosts events e = gains-is old.to_host host _ _ h.to_host t.sends.host in
-    let told : notes ≡ added (λ es. all_of notes_of first (history first es)) events e =
+    let to_client : client ≡ gained clients events e = gains-is old.to_client client _ _ h.to_client t.sends.client in
+    let to_host : host ≡ gained hosts events e = gains-is old.to_host host _ _ h.to_host t.sends.host in
+    let told : notes ≡ gained (λ es. all_of notes_of first (history first es)) events e =
     sym (drop_at (all_of notes_of first (history first events)) notes _ refl) ∙ ap (drop (length (all_of notes_of first (history first events)))) (sym t.sends.notes-are) in
     record {
-      text = text ∙ ap (λ (l : List ℕ). text_old ++ l) (ap (λ (l : List ℕ). sent_text l host notes) to_client ∙ ap (λ (l : List ℕ). sent_text (added clients events e) l notes) to_host
-          ∙ ap (λ (l : List Note). sent_text (added clients events e) (added hosts events e) l) told);
+      text = text ∙ ap (λ (l : List ℕ). text_old ++ l) (ap (λ (l : List ℕ). sent_text l host notes) to_client ∙ ap (λ (l : List ℕ). sent_text (gained clients events e) l notes) to_host
+          ∙ ap (λ (l : List Note). sent_text (gained clients events e) (gained hosts events e) l) told);
       seen = record {
         gate = t.stands;
         to_client = no_client;

@@ -6,7 +6,7 @@ use Rattle.model_device.specs.Meaning.{Meaning}
 use Rattle.direct_run.specs.declared.told.Told.{Told}
 use Rattle.direct_run.specs.Kept.{SystemKept}
 use Rattle.direct_run.specs.Stands.{SystemStands, TakesStep}
-use Rattle.direct_run.specs.Steps.{Step}
+use Rattle.direct_run.specs.Steps.{PastStep}
 use Rattle.direct_run.specs.World.{first_id, course}
 use Rattle.usbgate_tapes.specs.declared.model.ModelRun.{ModelRun}
 use Rattle.usbgate_tapes.specs.declared.status.Status.{Status}
@@ -17,12 +17,12 @@ use Rattle.usbgate_tapes.specs.model.Model.{model}
 use Rattle.usbgate_tapes.specs.model.Simulated.{AreSimulated}
 
 -- it is the modelled run of a device that began in state s, with which these steps were done
-pub record HasDone {S : Type 0} (m : Meaning S) (s : S) (r : ModelRun S) (steps : List Step) : Type 0 where
+pub record HasDone {S : Type 0} (m : Meaning S) (s : S) (r : ModelRun S) (steps : List PastStep) : Type 0 where
   pub system : SystemStands m s r.system steps
   pub refused : r.refused ≡ has_refusal (history first_id (course m s steps).events)
 
 -- a line's step is done, if it says one
-abbrev pub TakesSaid : {S : Type 0} → Meaning S → S → SystemKept S → List Step → Option Step → Option Told → Type 0
+abbrev pub TakesSaid : {S : Type 0} → Meaning S → S → SystemKept S → List PastStep → Option PastStep → Option Told → Type 0
 TakesSaid m s new steps None None = SystemStands m s new steps
 TakesSaid m s new steps None (Some told) = ⊥
 TakesSaid m s new steps (Some x) None = ⊥

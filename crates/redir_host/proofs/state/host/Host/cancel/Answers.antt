@@ -1,6 +1,6 @@
 use Rattle.std.proofs.Common.{◌==◌, ℕ, sym, subst}
 use Rattle.std.proofs.lemmas.Bool.{and_parts, eqb-true}
-use Rattle.redir_wire.specs.State.{is_wide, later}
+use Rattle.redir_wire.specs.State.{wide_ids}
 use Rattle.redir_wire.specs.Header.{IdFits}
 use Rattle.redir_host.specs.state.Queues.{is_cancelled_by, is_data}
 use Rattle.redir_host.proofs.lemmas.state.Each.{found_passes}
@@ -12,4 +12,4 @@ write_cancelled-requires g c =
     let q = c.in-Some.cancelled.request in
     let passes = found_passes (is_cancelled_by c.args.id) h.queue q c.in-Some.ensures.request in
     let same = eqb-true q.id c.args.id (and_parts (is_data q.form) (q.id == c.args.id) passes).1 in
-    subst (λ (n : ℕ). IdFits (is_wide (later h.guest.caps)) n) (sym same) c.requires
+    subst (λ (n : ℕ). IdFits (wide_ids h.guest.caps) n) (sym same) c.requires
