@@ -247,6 +247,10 @@ first_found by lanes ps place n key b reads up before behind within read tested 
 abbrev pub Parts : By → List Entries → List ℕ → ℕ → ℕ → Type 0
 Parts by lanes keys place n = (pairs : Pairs) → keys ≡ map key_in pairs → Reads by lanes pairs → IsNonDecreasingBy number_of pairs → Before pairs place n × Behind pairs place n
 
+-- and of those before it alone
+abbrev pub FrontIsLesser : By → List Entries → List ℕ → ℕ → ℕ → Type 0
+FrontIsLesser by lanes keys place n = (pairs : Pairs) → keys ≡ map key_in pairs → Reads by lanes pairs → IsNonDecreasingBy number_of pairs → Before pairs place n
+
 module _ {by : By} {requests : List (ℕ × Live)} {keys : List ℕ} (o : IsOrderOf by requests keys) (lanes : List Entries) (stand : Stand lanes requests) (place n : ℕ) (parts : Parts by lanes keys place n) where
   reads_in : Reads by lanes o.pairs
   reads_in = order_reads by lanes requests o.pairs stand o.ordering
@@ -304,7 +308,7 @@ stand_at by lanes (r ∷ rs) (suc i) key x stand is = stand_at by lanes rs i key
 
 -- a request's key, behind the keys of lesser numbers
 module _ {by : By} {requests : List (ℕ × Live)} {keys : List ℕ} (o : IsOrderOf by requests keys) (lanes : List Entries) (stand : Stand lanes requests) (i key : ℕ) (x : Live) (at : slice_get requests i ≡ Some (key, x)) (found : any_by by x ≡ true)
-    (first n : ℕ) (number : n ≡ number_by by x) (bound : first ≤ length keys) (parts : Parts by lanes keys first n) where
+    (first n : ℕ) (number : n ≡ number_by by x) (bound : first ≤ length keys) (lesser_before : FrontIsLesser by lanes keys first n) where
   reads_all : Reads by lanes o.pairs
   reads_all = order_reads by lanes requests o.pairs stand o.ordering
 
@@ -315,7 +319,7 @@ module _ {by : By} {requests : List (ℕ × Live)} {keys : List ℕ} (o : IsOrde
   inside_pairs = let long = ap length o.keys_are ∙ length-map o.pairs key_in in omega (arith, bound, long)
 
   lesser : Before o.pairs first (number_by by x)
-  lesser = rw number at (parts o.pairs o.keys_are reads_all o.rises).0
+  lesser = rw number at lesser_before o.pairs o.keys_are reads_all o.rises
 
   pub key_there : IsSome (position (λ k. k == key) (drop first keys))
   key_there = rw o.keys_are (key_behind by lanes o.pairs reads_all (number_by by x) key numbered first inside_pairs lesser (pair_there o.ordering (number_by by x) key (column_has (any_by by) (number_by by) requests i (key, x) at found)))

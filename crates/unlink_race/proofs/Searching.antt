@@ -120,10 +120,3 @@ module _ {arena : ArenaView (ℕ × Live)} {keys : List ℕ} (s : IsSound arena 
 
       pub led_nowhere : index ≡ None → earliest test (in_order arena keys) ≡ None
       led_nowhere is = found_none test (entry_of arena) keys s.kept (sym told ∙ is)
-
-      pub ranked : (k : ℕ) (e : ℕ × Live) → index ≡ Some k → entry_of arena k ≡ Some e → earliest test (in_order arena keys) ≡ Some e.0
-      ranked k e is there =
-          let f = led k is in
-          let same : Some f.entry ≡ Some e = sym f.is ∙ there in
-          let one : f.entry ≡ e = cc in
-          f.rank ∙ ap (λ (x : ℕ × Live). Some x.0) one

@@ -75,6 +75,18 @@ fn place_behind(arena: &Arena<(u64, Live)>, keys: &[Key], by: By, number: u64) -
     keys.partition_point(|key| compared(arena, *key, by, number).is_le())
 }
 
+/// From where on a key of this number is looked for: those before have lesser numbers. Most requests end first of all.
+fn start_of(arena: &Arena<(u64, Live)>, keys: &[Key], by: By, key: Key, number: u64) -> usize
+    ensures bound { result ≤ length keys.now }
+    ensures before { (pairs : List (ℕ × ℕ)) → keys.now ≡ map (λ p. p.1) pairs → Reads by arena.now.lanes pairs → IsNonDecreasingBy (λ p. p.0) pairs → Before pairs result number }
+{
+    if keys.first() == Some(&key) {
+        0
+    } else {
+        place_before(arena, keys, by, number)
+    }
+}
+
 /// Where a key stands.
 fn place_of(keys: &[Key], key: Key) -> Option<usize>
     ensures { result ≡ position (λ k. k == key) keys.now }
@@ -108,7 +120,7 @@ pub fn take(arena: &Arena<(u64, Live)>, keys: &mut Keys, by: By, key: Key, live:
     requires { (requests : List (ℕ × Live)) × (place : ℕ) × Stand arena.now.lanes requests × IsOrderOf by requests keys.old × (any_by by live.now ≡ true) × (slice_get requests place ≡ Some (key, live.now)) }
     ensures { (requests : List (ℕ × Live)) (place : ℕ) → Stand arena.now.lanes requests → IsOrderOf by requests keys.old → any_by by live.now ≡ true → slice_get requests place ≡ Some (key, live.now) → Distinct (λ (r : ℕ × Live). r.0) requests → IsOrderOf by (remove requests place) keys.new }
 {
-    let first = place_before(arena, keys, by, by.of(live));
-    let behind = place_of(&keys[first..], key);
-    keys.remove(first + behind.unwrap());
+    let start = start_of(arena, keys, by, key, by.of(live));
+    let behind = place_of(&keys[start..], key);
+    keys.remove(start + behind.unwrap());
 }

@@ -76,6 +76,17 @@ fn place_ranked(arena: &Arena<(u64, Live)>, keys: &[Key], rank: u64) -> Option<u
     found.ok()
 }
 
+/// The place of a key: that of its request's rank, for the ranks rise with the keys. Most requests end first of all, and
+/// of the first key nothing is read.
+fn place_of_key(arena: &Arena<(u64, Live)>, keys: &[Key], key: Key) -> Option<usize>
+    ensures { (high : ℕ) (entry : ℕ × Live) → IsKeyed (λ k. k) (entry_of arena.now) keys.now → Rises 0 (ranks_of arena.now keys.now) high → find_in key arena.now.lanes ≡ Some entry → result ≡ position (λ n. n == entry.0) (ranks_of arena.now keys.now) }
+{
+    match keys.first() {
+        Some(first) if *first == key => Some(0),
+        _ => place_ranked(arena, keys, rank_of(arena, key)?),
+    }
+}
+
 /// Ranks the requests anew from 0, in their order.
 fn deal(arena: &mut Arena<(u64, Live)>, keys: &[Key])
     requires { IsKeyed (λ k. k) (entry_of arena.old) keys.now × (length keys.now ≤ MAX_LIVE) }
@@ -145,8 +156,7 @@ impl Table {
         ensures { result ≡ position (found_by by number) self.now }
     {
         let key = self.index.first(&self.arena, by, number)?;
-        let entry = self.arena.get(key).unwrap();
-        place_ranked(&self.arena, &self.keys, entry.0)
+        place_of_key(&self.arena, &self.keys, key)
     }
 
     /// Where the first request with this seqnum stands.
