@@ -18,7 +18,7 @@ mod verdict;
 use vectors::Vectors;
 
 fn main(rt: HostRuntime) -> anyhow::Result<()> {
-    let mut vectors = Vectors::new(rt.alloc());
+    let mut vectors = Vectors::new(rt.alloc())?;
     for line in rt.lines(rt.alloc()) {
         take(&rt, &mut vectors, line?.as_str())?;
     }

@@ -13,12 +13,13 @@ pub struct Vectors {
 }
 
 impl Vectors {
-    /// No packet has a name, and no row has begun.
-    pub fn new(alloc: Global) -> Vectors {
-        Vectors {
-            packets: Packets::new(alloc),
+    /// The packets that programs share have names, and no row has begun.
+    pub fn new(alloc: Global) -> Result<Vectors, Memory> {
+        let packets = Packets::new(alloc)?;
+        Ok(Vectors {
+            packets,
             row: Row::new(alloc),
-        }
+        })
     }
 
     /// Takes a line, and gives the verdict on the run that it asks for.

@@ -16,7 +16,7 @@ use std::net::Net;
 use std::rt::Clock;
 
 fn main(rt: HostRuntime) -> anyhow::Result<()> {
-    let mut rows = Rows::new(rt.alloc());
+    let mut rows = Rows::new(rt.alloc())?;
     for line in rt.lines(rt.alloc()) {
         take(&rt, &mut rows, line?.as_str())?;
     }

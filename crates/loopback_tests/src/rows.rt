@@ -16,13 +16,14 @@ pub struct Rows {
 }
 
 impl Rows {
-    /// Nothing has a name, and no row has begun.
-    pub fn new(alloc: Global) -> Rows {
-        Rows {
-            packets: Packets::new(alloc),
+    /// The packets that programs share have names, and no row has begun.
+    pub fn new(alloc: Global) -> Result<Rows, Memory> {
+        let packets = Packets::new(alloc)?;
+        Ok(Rows {
+            packets,
             parts: Vec::new(alloc),
             row: Row::new(alloc),
-        }
+        })
     }
 
     /// Takes a line, and gives the verdict on the row that it ends.

@@ -28,7 +28,7 @@ use std::alloc::Global;
 use usb_base::{Bytes, Memory};
 
 fn main(rt: HostRuntime) -> Result<(), Wrong> {
-    let mut rows = Rows::new(rt.alloc());
+    let mut rows = Rows::new(rt.alloc())?;
     for line in rt.lines(rt.alloc()) {
         take(&rt, &mut rows, line?.as_str())?;
     }

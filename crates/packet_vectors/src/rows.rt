@@ -16,12 +16,13 @@ pub struct Rows {
 
 impl Rows {
     /// No row has come.
-    pub fn new(alloc: Global) -> Rows {
-        Rows {
-            texts: Texts::new(alloc),
+    pub fn new(alloc: Global) -> Result<Rows, Memory> {
+        let texts = Texts::new(alloc)?;
+        Ok(Rows {
+            texts,
             group: String::new(alloc),
             count: 0,
-        }
+        })
     }
 
     /// Takes a line, and appends what is told of it.

@@ -2,40 +2,34 @@
 
 use crate::output::Output;
 use hex::FromHexError;
+use named_packets::Packets;
 use std::alloc::{AllocError, Global};
 use usb_base::{Bytes, Memory};
 
-/// Texts by name. A word is pieces with `+` between them, of which each is a name or a text; `00*8` stands for eight
-/// times `00`, and `~` in front of a piece for a space.
+/// Texts by name. A word is pieces with `+` between them, of which each is a text or a name, behind which its numbers
+/// stand; `00*8` stands for eight times `00`, and `~` in front of a piece for a space.
 #[derive(Drop)]
 pub struct Texts {
-    named: Vec<(String, Bytes)>,
+    packets: Packets,
 }
 
 impl Texts {
-    /// No text has a name.
-    pub fn new(alloc: Global) -> Texts {
-        Texts {
-            named: Vec::new(alloc),
-        }
+    /// The packets that programs share have names.
+    pub fn new(alloc: Global) -> Result<Texts, Memory> {
+        let packets = Packets::new(alloc)?;
+        Ok(Texts { packets })
     }
 
     /// Adds a text: its name, and its words, which are joined.
     pub fn add(&mut self, alloc: Global, line: &str) -> Result<(), Memory> {
-        let (name, words) = line.split_once(' ').unwrap_or((line, ""));
-        let joined = self.joined(alloc, words)?;
-        self.named.push((name.to_string(alloc)?, joined))?;
-        Ok(())
+        self.packets.add(alloc, line)
     }
 
     /// The text with this name. Any other is itself.
-    fn text_of<'a>(&'a self, name: &'a str) -> &'a [u8] {
-        for (known, text) in &self.named {
-            if known.as_str() == name {
-                return text.as_slice();
-            }
-        }
-        name.as_bytes()
+    fn text_of(&self, name: &str, out: &mut Output) -> String {
+        let mut text = String::new(out.alloc);
+        out.note(self.packets.push(&mut text, name, 0));
+        text
     }
 
     /// Appends a word.
@@ -46,20 +40,12 @@ impl Texts {
                 Some(name) => (" ", name),
                 None => ("", name),
             };
-            let repeated = self.text_of(name);
+            let repeated = self.text_of(name, out);
             for _ in 0..times.parse().unwrap_or(0_u32) {
                 out.text(gap);
-                out.append(repeated);
+                out.text(repeated.as_str());
             }
         }
-    }
-
-    fn joined(&self, alloc: Global, words: &str) -> Result<Bytes, Memory> {
-        let mut text = Output::new(alloc);
-        for word in words.split_whitespace() {
-            self.push_word(word, &mut text);
-        }
-        text.taken()
     }
 
     /// The lines of a text that has a semicolon between two of them. `*8` in front of one stands for eight such lines.

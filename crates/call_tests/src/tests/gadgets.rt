@@ -3,7 +3,7 @@
 ghost use Rattle.std.specs.Prelude.{◌≡◌, IfOk};
 ghost use Rattle.model_device.specs.Transfer.{IsTransfer};
 
-use crate::tests::laid_out::{GoesByRows, bytes, goes_by, setup};
+use crate::tests::laid_out::{GoesByRows, Names, goes_by};
 use model_device::{Gadget, Keyboard, Loopback, Tone};
 use std::alloc::Global;
 use std::test::Fail;
@@ -15,45 +15,45 @@ use usb_base::{Bytes, EpAddr, Memory, Outcome, Setup, StreamPacket, Transfer, Us
 
 const KEYBOARD: &str = "
     offer | nothing
-    ask SET_CONFIGURATION | ok 0
-    offer | ok 8 KEY_A
-    ask HALT_IN | ok 0
+    ask SETCONFIGSETUP | ok 0
+    offer | ok 8 KEYA
+    ask HALTINSETUP | ok 0
     offer | nothing
-    ask CLEAR_HALT_IN | ok 0
-    offer | ok 8 KEY_B
-    ask HALT_IN | ok 0
+    ask CLEARHALTINSETUP | ok 0
+    offer | ok 8 KEYB
+    ask HALTINSETUP | ok 0
     offer | nothing
-    ask SET_CONFIGURATION | ok 0
-    offer | ok 8 KEY_A
-    ask SETTING_1 | stall 0
-    offer | ok 8 KEY_B
-    ask SETTING_0 | ok 0
-    offer | ok 8 KEY_A
-    ask GET_CONFIGURATION | ok 1 01
-    offer | ok 8 KEY_B
+    ask SETCONFIGSETUP | ok 0
+    offer | ok 8 KEYA
+    ask SETALT1SETUP | stall 0
+    offer | ok 8 KEYB
+    ask SETALT0SETUP | ok 0
+    offer | ok 8 KEYA
+    ask GETCONFIGSETUP | ok 1 01
+    offer | ok 8 KEYB
     want 8 | stall 0
-    ask PORT_RESET | ok 0
+    ask PORTRESETSETUP | ok 0
     offer | nothing
-    ask SET_CONFIGURATION | ok 0
-    ask CLEAR_CONFIGURATION | ok 0
+    ask SETCONFIGSETUP | ok 0
+    ask CLEARCONFIGSETUP | ok 0
     offer | nothing
 ";
 
 const TONE: &str = "
-    ask SET_CONFIGURATION | ok 0
+    ask SETCONFIGSETUP | ok 0
     offer | nothing
-    ask SETTING_1 | ok 0
+    ask SETALT1SETUP | ok 0
     offer | ok 192 00*192
     offer | ok 192 01*192
-    ask SETTING_0 | ok 0
+    ask SETALT0SETUP | ok 0
     offer | nothing
-    ask SETTING_1 | ok 0
+    ask SETALT1SETUP | ok 0
     offer | ok 192 00*192
 ";
 
 const LOOP: &str = "
     want 8 | stall 0
-    ask SET_CONFIGURATION | ok 0
+    ask SETCONFIGSETUP | ok 0
     send 01020304 | ok 4
     send 0506 | ok 2
     want 3 | ok 3 010203
@@ -64,20 +64,20 @@ const LOOP: &str = "
     offer | nothing
     # what came before a change is gone, and before any other request it isn't
     send 07 | ok 1
-    ask GET_CONFIGURATION | ok 1 01
-    ask SETTING_1 | stall 0
+    ask GETCONFIGSETUP | ok 1 01
+    ask SETALT1SETUP | stall 0
     want 1 | ok 1 07
     send 08 | ok 1
-    ask SET_CONFIGURATION | ok 0
+    ask SETCONFIGSETUP | ok 0
     want 1 | nothing
     send 09 | ok 1
-    ask SETTING_0 | ok 0
+    ask SETALT0SETUP | ok 0
     want 1 | nothing
     send 0a | ok 1
-    ask HALT_OUT | ok 0
+    ask HALTOUTSETUP | ok 0
     send 0b | stall 0
     want 1 | ok 1 0a
-    ask PORT_RESET | ok 0
+    ask PORTRESETSETUP | ok 0
     want 1 | stall 0
 ";
 
@@ -140,22 +140,22 @@ fn of_packet(packet: Option<StreamPacket>) -> Option<Outcome> {
 }
 
 // The transfer that an act is.
-fn transfer(alloc: Global, act: &str) -> Result<Transfer, Fail>
+fn transfer(names: &Names, act: &str) -> Result<Transfer, Fail>
     ensures { IfOk result IsTransfer }
 {
     let (name, words) = act.split_once(' ').unwrap_or((act, ""));
     match name {
-        "ask" => control(alloc, setup(alloc, words)?),
-        "send" => sent(bytes(alloc, words)?),
-        _ => wanted(alloc, words.parse()?),
+        "ask" => control(names.alloc, names.setup(words)?),
+        "send" => sent(names.bytes(words)?),
+        _ => wanted(names.alloc, words.parse()?),
     }
 }
 
-fn done<G: Gadget>(alloc: Global, gadget: &mut G, act: &str) -> Result<Option<Outcome>, Fail> {
+fn done<G: Gadget>(names: &Names, gadget: &mut G, act: &str) -> Result<Option<Outcome>, Fail> {
     if act == "offer" {
-        return Ok(of_packet(gadget.offer(alloc, address(0x81)?)?));
+        return Ok(of_packet(gadget.offer(names.alloc, address(0x81)?)?));
     }
-    Ok(gadget.perform(alloc, &transfer(alloc, act)?)?)
+    Ok(gadget.perform(names.alloc, &transfer(names, act)?)?)
 }
 
 fn status_name(status: UsbStatus) -> &'static str {
@@ -167,7 +167,7 @@ fn status_name(status: UsbStatus) -> &'static str {
 }
 
 /// Whether this came of an act.
-fn is_so(alloc: Global, outcome: &Option<Outcome>, came: &str) -> Result<bool, Memory> {
+fn is_so(names: &Names, outcome: &Option<Outcome>, came: &str) -> Result<bool, Memory> {
     let Some(outcome) = outcome else {
         return Ok(came == "nothing");
     };
@@ -176,7 +176,7 @@ fn is_so(alloc: Global, outcome: &Option<Outcome>, came: &str) -> Result<bool, M
     Ok(
         status_name(outcome.status) == status
             && done.parse() == Ok(outcome.done)
-            && outcome.body.as_slice() == bytes(alloc, given)?.as_slice(),
+            && outcome.body.as_slice() == names.bytes(given)?.as_slice(),
     )
 }
 
@@ -187,9 +187,9 @@ struct Attached<G: Gadget> {
 }
 
 impl<G: Gadget> GoesByRows for Attached<G> {
-    fn goes(&mut self, alloc: Global, row: &str) -> Result<bool, Fail> {
+    fn goes(&mut self, names: &Names, row: &str) -> Result<bool, Fail> {
         let (act, came) = row.split_once(" | ").unwrap_or((row, ""));
-        Ok(is_so(alloc, &done(alloc, &mut self.gadget, act)?, came)?)
+        Ok(is_so(names, &done(names, &mut self.gadget, act)?, came)?)
     }
 }
 

@@ -1,7 +1,7 @@
 //! Hosts that lend their devices live as the rows say.
 
 use crate::tests::host_rows::*;
-use crate::tests::laid_out::{GoesByRows, bytes, goes_by};
+use crate::tests::laid_out::{GoesByRows, Names, goes_by};
 use model_device::{Gadget, Keyboard, Loopback, Tone};
 use redir_host::{HostCore, HostNote, Offered, Performed};
 use std::alloc::Global;
@@ -53,24 +53,24 @@ fn offered(told: Offered) -> Told {
 }
 
 fn heard<G: Gadget>(
-    alloc: Global,
+    names: &Names,
     core: &mut HostCore<G>,
     words: &str,
     out: &mut Bytes,
 ) -> Result<Told, Memory> {
-    let piece = bytes(alloc, words)?;
+    let piece = names.bytes(words)?;
     let notes = core.take(piece.as_slice(), out)?;
     Ok(noted(notes.as_slice()))
 }
 
 /// Each byte of these words is a piece of its own.
 fn heard_by_bytes<G: Gadget>(
-    alloc: Global,
+    names: &Names,
     core: &mut HostCore<G>,
     words: &str,
     out: &mut Bytes,
 ) -> Result<Told, Memory> {
-    let bytes = bytes(alloc, words)?;
+    let bytes = names.bytes(words)?;
     for byte in bytes.as_slice() {
         core.take(&[*byte], out)?;
     }
@@ -100,23 +100,23 @@ fn unplugged<G: Gadget>(core: &mut HostCore<G>, out: &mut Bytes) -> Result<Told,
 }
 
 fn called<G: Gadget>(
-    alloc: Global,
+    names: &Names,
     core: &mut HostCore<G>,
     call: &str,
     out: &mut Bytes,
 ) -> Result<Told, Memory> {
     let (letter, words) = call.split_once(' ').unwrap_or((call, ""));
     match (letter, address(words)) {
-        ("g", _) => heard(alloc, core, words, out),
-        ("b", _) => heard_by_bytes(alloc, core, words, out),
+        ("g", _) => heard(names, core, words, out),
+        ("b", _) => heard_by_bytes(names, core, words, out),
         (letter, Some(ep)) => used(core, letter, ep, out),
         (_, None) => unplugged(core, out),
     }
 }
 
 /// Whether these words lay out what was sent.
-fn is_laid_out(alloc: Global, sent: &Bytes, words: &str) -> Result<bool, Memory> {
-    Ok(sent.as_slice() == bytes(alloc, words)?.as_slice())
+fn is_laid_out(names: &Names, sent: &Bytes, words: &str) -> Result<bool, Memory> {
+    Ok(sent.as_slice() == names.bytes(words)?.as_slice())
 }
 
 /// What the host of this device sends as it is made.
@@ -134,19 +134,20 @@ fn made<G: Gadget>(alloc: Global, gadget: G) -> Result<HostCore<G>, Memory> {
 
 impl<G: Gadget> GoesByRows for HostCore<G> {
     /// Whether a call sends and tells what its row says.
-    fn goes(&mut self, alloc: Global, row: &str) -> Result<bool, Fail> {
+    fn goes(&mut self, names: &Names, row: &str) -> Result<bool, Fail> {
         let (call, rest) = row.split_once('|').unwrap_or((row, ""));
         let (sent, told) = rest.split_once('|').unwrap_or((rest, ""));
-        let mut out = Bytes::new(alloc);
-        let came = called(alloc, self, call.trim(), &mut out)?;
-        Ok(is_told(came, told.trim()) && is_laid_out(alloc, &out, sent.trim())?)
+        let mut out = Bytes::new(names.alloc);
+        let came = called(names, self, call.trim(), &mut out)?;
+        Ok(is_told(came, told.trim()) && is_laid_out(names, &out, sent.trim())?)
     }
 }
 
 #[test]
 fn a_host_says_hello(rt: HostRuntime) -> Result<(), Fail> {
+    let names = Names::new(rt.alloc())?;
     let sent = hello(rt.alloc(), Loopback::make(rt.alloc())?)?;
-    assert!(rt; is_laid_out(rt.alloc(), &sent, "HG")?);
+    assert!(rt; is_laid_out(&names, &sent, "HG")?);
     Ok(())
 }
 

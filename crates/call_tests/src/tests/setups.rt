@@ -1,6 +1,6 @@
 //! Requests on endpoint 0, laid out from the standard (USB 2.0, 9.4).
 
-use crate::tests::laid_out::{GoesByRows, bytes, goes_by, setup};
+use crate::tests::laid_out::{GoesByRows, Names, goes_by};
 use chapter9::{DescriptorSet, DevState, Parts, standard, walk};
 use std::alloc::Global;
 use std::test::Fail;
@@ -10,7 +10,7 @@ use usb_base::{Bytes, EpAddr, Memory, Outcome, Setup, Transfer, UsbStatus};
 /// device is reset, or configured and ready, or so with its IN endpoint 1 halted.
 const ROWS: &str = "
     # what is read
-    reset GET_DEVICE reset DEVICE
+    reset GETDEVICESETUP reset DEVICE
     reset 8006000100000800 reset 12 01 00 02 00 00 00 40
     ready 8006000100000000 ready
     ready 800600020000ff00 ready CONFIGURATION
@@ -25,23 +25,23 @@ const ROWS: &str = "
     halted 8200000001000200 halted 00 00
     halted 8200000080000100 halted 00
     reset 8200000000000200 reset 00 00
-    reset GET_CONFIGURATION reset 00
+    reset GETCONFIGSETUP reset 00
     ready 8008000000000200 ready 01
     ready 8008000000000000 ready
-    ready 810a000000000100 ready 00
+    ready GETALTSETUP ready 00
     # what is changed
-    ready HALT_IN halted
-    halted HALT_IN halted
+    ready HALTINSETUP halted
+    halted HALTINSETUP halted
     ready 0203000080000000 ready
-    halted CLEAR_HALT_IN ready
+    halted CLEARHALTINSETUP ready
     halted 0201000001000000 halted
-    ready CLEAR_HALT_IN ready
-    reset SET_ADDRESS reset
-    reset SET_CONFIGURATION ready
-    halted SET_CONFIGURATION ready
-    halted CLEAR_CONFIGURATION reset
-    halted SETTING_0 ready
-    halted PORT_RESET reset
+    ready CLEARHALTINSETUP ready
+    reset SETADDRESSSETUP reset
+    reset SETCONFIGSETUP ready
+    halted SETCONFIGSETUP ready
+    halted CLEARCONFIGSETUP reset
+    halted SETALT0SETUP ready
+    halted PORTRESETSETUP reset
     # what is refused, and changes nothing
     ready 800602030904ff00 refused
     ready 8006010100001200 refused
@@ -55,20 +55,20 @@ const ROWS: &str = "
     ready 8200000081010200 refused
     ready 0203010081000000 refused
     ready 0203000002000000 refused
-    reset HALT_IN refused
+    reset HALTINSETUP refused
     halted 0201010081000000 refused
     halted 0003010000000000 refused
     reset 0005070000000100 refused
     halted 0009020000000000 refused
     halted 0009010100000000 refused
     halted 0009010000000100 refused
-    halted SETTING_1 refused
+    halted SETALT1SETUP refused
     halted 010b000100000000 refused
     halted 010b000001000000 refused
     halted 010b000000000100 refused
-    reset SETTING_0 refused
+    reset SETALT0SETUP refused
     ready 810a000001000100 refused
-    reset 810a000000000100 refused
+    reset GETALTSETUP refused
     halted 2303080001000000 refused
     halted 2303040001000100 refused
     ready c001000000000400 refused
@@ -82,11 +82,11 @@ fn state_of(name: &str) -> DevState {
     }
 }
 
-fn descriptors(alloc: Global) -> Result<DescriptorSet, Fail> {
+fn descriptors(names: &Names) -> Result<DescriptorSet, Fail> {
     Ok(DescriptorSet {
-        device: bytes(alloc, "DEVICE")?.as_slice().try_into()?,
-        config: bytes(alloc, "CONFIGURATION")?,
-        name: bytes(alloc, "NAME")?,
+        device: names.bytes("DEVICE")?.as_slice().try_into()?,
+        config: names.bytes("CONFIGURATION")?,
+        name: names.bytes("NAME")?,
     })
 }
 
@@ -114,11 +114,11 @@ fn is_so(outcome: &Outcome, status: UsbStatus, given: &[u8]) -> bool {
 }
 
 // Whether an outcome is what a row says.
-fn is_told(alloc: Global, outcome: &Outcome, after: &str, given: &str) -> Result<bool, Memory> {
+fn is_told(names: &Names, outcome: &Outcome, after: &str, given: &str) -> Result<bool, Memory> {
     if after == "refused" {
         return Ok(is_so(outcome, UsbStatus::Stall, &[]));
     }
-    Ok(is_so(outcome, UsbStatus::Success, bytes(alloc, given)?.as_slice()))
+    Ok(is_so(outcome, UsbStatus::Success, names.bytes(given)?.as_slice()))
 }
 
 // A device that answers by its descriptors.
@@ -130,26 +130,26 @@ struct Described {
 
 impl GoesByRows for Described {
     // Whether a request gives what its row says, and leaves the state that it says.
-    fn goes(&mut self, alloc: Global, row: &str) -> Result<bool, Fail> {
+    fn goes(&mut self, names: &Names, row: &str) -> Result<bool, Fail> {
         let (before, rest) = row.split_once(' ').unwrap_or((row, ""));
         let (asked, rest) = rest.split_once(' ').unwrap_or((rest, ""));
         let (after, given) = rest.split_once(' ').unwrap_or((rest, ""));
         let mut state = state_of(before);
         let outcome = answer(
-            alloc,
+            names.alloc,
             &self.set,
             &self.parts,
             &mut state,
-            setup(alloc, asked)?,
+            names.setup(asked)?,
         )?;
         let left = if after == "refused" { before } else { after };
-        Ok(state == state_of(left) && is_told(alloc, &outcome, after, given)?)
+        Ok(state == state_of(left) && is_told(names, &outcome, after, given)?)
     }
 }
 
 #[test]
 fn what_requests_give_and_change_and_what_is_refused(rt: HostRuntime) -> Result<(), Fail> {
-    let set = descriptors(rt.alloc())?;
+    let set = descriptors(&Names::new(rt.alloc())?)?;
     let parts = walk(rt.alloc(), set.config.as_slice())?;
     goes_by(&rt, rt.alloc(), Described { set, parts }, ROWS)
 }
