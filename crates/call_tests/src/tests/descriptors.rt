@@ -1,5 +1,6 @@
 //! Configurations of real devices, and where a wrong one is wrong (USB 2.0, 9.6).
 
+use crate::tests::laid_out::{GoesByRows, Names, goes_by};
 use chapter9::{DevState, InterfaceClass, WalkError, class_of, table_of, walk};
 use std::alloc::Global;
 use std::test::Fail;
@@ -39,23 +40,40 @@ const SOUND_CARD: [u8; 143] = [
     7, 0x25, 1, 1, 0, 0, 0,
 ];
 
-/// The configuration, how many parts it has, the alternate setting, an endpoint, and its row: the kind, the largest
-/// packet, the interval and the interface.
-type Row = (&'static [u8], usize, u8, u8, EpKind, u16, u8, u8);
+/// The configuration, the alternate setting and an endpoint; how many parts the configuration has, and of the endpoint
+/// the kind, the largest packet, the interval and the interface.
+const ENDPOINTS: &str = "
+    keyboard 0 81 | 4 interrupt 8 10 0
+    storage 0 81 | 4 bulk 512 0 0
+    storage 0 02 | 4 bulk 512 0 0
+    storage 0 01 | 4 none 0 0 0
+    sound 0 01 | 16 none 0 0 0
+    sound 1 01 | 16 isochronous 192 1 1
+    sound 2 01 | 16 isochronous 288 1 1
+    sound 3 01 | 16 none 0 0 0
+    sound 2 00 | 16 control 64 0 0
+    sound 2 80 | 16 control 64 0 0
+    loop 0 81 | 4 bulk 512 0 0
+";
 
-const ENDPOINTS: [Row; 11] = [
-    (&BOOT_KEYBOARD, 4, 0, 0x81, EpKind::Interrupt, 8, 10, 0),
-    (&MASS_STORAGE, 4, 0, 0x81, EpKind::Bulk, 512, 0, 0),
-    (&MASS_STORAGE, 4, 0, 0x02, EpKind::Bulk, 512, 0, 0),
-    (&MASS_STORAGE, 4, 0, 0x01, EpKind::Invalid, 0, 0, 0),
-    (&SOUND_CARD, 16, 0, 0x01, EpKind::Invalid, 0, 0, 0),
-    (&SOUND_CARD, 16, 1, 0x01, EpKind::Iso, 192, 1, 1),
-    (&SOUND_CARD, 16, 2, 0x01, EpKind::Iso, 288, 1, 1),
-    (&SOUND_CARD, 16, 3, 0x01, EpKind::Invalid, 0, 0, 0),
-    (&SOUND_CARD, 16, 2, 0x00, EpKind::Control, 64, 0, 0),
-    (&SOUND_CARD, 16, 2, 0x80, EpKind::Control, 64, 0, 0),
-    (&LOOP, 4, 0, 0x81, EpKind::Bulk, 512, 0, 0),
-];
+fn configuration(name: &str) -> &'static [u8] {
+    match name {
+        "keyboard" => &BOOT_KEYBOARD,
+        "storage" => &MASS_STORAGE,
+        "sound" => &SOUND_CARD,
+        _ => &LOOP,
+    }
+}
+
+fn kind_name(kind: EpKind) -> &'static str {
+    match kind {
+        EpKind::Control => "control",
+        EpKind::Iso => "isochronous",
+        EpKind::Bulk => "bulk",
+        EpKind::Interrupt => "interrupt",
+        EpKind::Invalid => "none",
+    }
+}
 
 // How many parts a configuration has, and the row of an endpoint in a setting.
 fn row_of(alloc: Global, blob: &[u8], alt: u8, byte: u8) -> Result<(usize, EpRow), Fail> {
@@ -69,18 +87,36 @@ fn row_of(alloc: Global, blob: &[u8], alt: u8, byte: u8) -> Result<(usize, EpRow
     Ok((parts.len(), table_of(&parts, &state).row(ep)))
 }
 
+// The same as a row tells it.
+fn told_of(alloc: Global, asked: &str) -> Result<String, Fail> {
+    let (name, rest) = asked.split_once(' ').unwrap_or((asked, ""));
+    let (alt, ep) = rest.split_once(' ').unwrap_or((rest, ""));
+    let blob = configuration(name);
+    let (count, row) = row_of(alloc, blob, alt.parse()?, u8::from_str_radix(ep, 16)?)?;
+    let kind = kind_name(row.kind);
+    let EpRow {
+        max_packet,
+        interval,
+        interface,
+        ..
+    } = row;
+    Ok(format!(in alloc; "{count} {kind} {max_packet} {interval} {interface}")?)
+}
+
+// The endpoints of configurations.
+#[derive(Drop)]
+struct Endpoints;
+
+impl GoesByRows for Endpoints {
+    fn goes(&mut self, names: &Names, row: &str) -> Result<bool, Fail> {
+        let (asked, told) = row.split_once(" | ").unwrap_or((row, ""));
+        Ok(told_of(names.alloc, asked)?.as_str() == told)
+    }
+}
+
 #[test]
 fn endpoints_of_real_configurations(rt: HostRuntime) -> Result<(), Fail> {
-    for (blob, count, alt, byte, kind, max_packet, interval, interface) in ENDPOINTS {
-        let wanted = EpRow {
-            kind,
-            interval,
-            interface,
-            max_packet,
-        };
-        assert!(rt; row_of(rt.alloc(), blob, alt, byte)? == (count, wanted));
-    }
-    Ok(())
+    goes_by(&rt, rt.alloc(), Endpoints, ENDPOINTS)
 }
 
 const STREAMING: InterfaceClass = InterfaceClass {
@@ -106,29 +142,30 @@ const LOOP: [u8; 32] = [
     7, 5, 0x81, 2, 0, 2, 0,
 ];
 
-/// Of each row: the place of a byte, its new value, and the place of the first wrong descriptor.
-const WRONG: [(usize, u8, Option<usize>); 20] = [
-    (0, 8, Some(0)),
-    (0, 33, Some(0)),
-    (0, 18, None),
-    (1, 4, Some(0)),
-    (2, 31, Some(0)),
-    (3, 1, Some(0)),
-    (9, 0, Some(9)),
-    (9, 1, Some(9)),
-    (9, 8, Some(9)),
-    (9, 24, Some(9)),
-    (10, 2, None),
-    (10, 5, None),
-    (18, 0, Some(18)),
-    (18, 6, Some(18)),
-    (18, 14, None),
-    (18, 15, Some(18)),
-    (20, 0x11, Some(18)),
-    (20, 0x8F, None),
-    (25, 8, Some(25)),
-    (25, 6, Some(25)),
-];
+/// A byte of the loop's configuration, by its place, and its new value in hexadecimal; the place of the first descriptor
+/// that is wrong then, or that none is.
+const WRONG: &str = "
+    0 08 | 0
+    0 21 | 0
+    0 12 | none
+    1 04 | 0
+    2 1f | 0
+    3 01 | 0
+    9 00 | 9
+    9 01 | 9
+    9 08 | 9
+    9 18 | 9
+    10 02 | none
+    10 05 | none
+    18 00 | 18
+    18 06 | 18
+    18 0e | none
+    18 0f | 18
+    20 11 | 18
+    20 8f | none
+    25 08 | 25
+    25 06 | 25
+";
 
 fn wrong_place(alloc: Global, blob: &[u8]) -> Result<Option<usize>, Memory> {
     match walk(alloc, blob) {
@@ -138,16 +175,34 @@ fn wrong_place(alloc: Global, blob: &[u8]) -> Result<Option<usize>, Memory> {
     }
 }
 
+// The loop's configuration with another byte at a place.
+fn with_byte(place: usize, byte: u8) -> [u8; 32] {
+    let mut blob = LOOP;
+    if let Some(wrong) = blob.get_mut(place) {
+        *wrong = byte;
+    }
+    blob
+}
+
+// One byte that is changed.
+#[derive(Drop)]
+struct Changed;
+
+impl GoesByRows for Changed {
+    fn goes(&mut self, names: &Names, row: &str) -> Result<bool, Fail> {
+        let (change, told) = row.split_once(" | ").unwrap_or((row, ""));
+        let (place, byte) = change.split_once(' ').unwrap_or((change, ""));
+        let blob = with_byte(place.parse()?, u8::from_str_radix(byte, 16)?);
+        match wrong_place(names.alloc, &blob)? {
+            Some(place) => Ok(told.parse() == Ok(place)),
+            None => Ok(told == "none"),
+        }
+    }
+}
+
 #[test]
 fn one_wrong_byte_is_found_at_its_descriptor(rt: HostRuntime) -> Result<(), Fail> {
-    for (place, byte, wanted) in WRONG {
-        let mut blob = LOOP;
-        if let Some(wrong) = blob.get_mut(place) {
-            *wrong = byte;
-        }
-        assert!(rt; wrong_place(rt.alloc(), &blob)? == wanted);
-    }
-    Ok(())
+    goes_by(&rt, rt.alloc(), Changed, WRONG)
 }
 
 #[test]
