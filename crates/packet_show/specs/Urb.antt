@@ -26,10 +26,5 @@ urb_words (urb.Submit s) = submit_words s
 urb_words (urb.Unlink u) = unlink_words u
 urb_words _ = []
 
-abbrev pub IsShown : UrbPacket → Type 0
-IsShown (urb.Submit s) = Unit {0}
-IsShown (urb.Unlink u) = Unit {0}
-IsShown _ = ⊥
-
 abbrev pub urb_line : ℕ → UrbPacket → List ℕ
 urb_line place p = line place (urb_words p)

@@ -2,50 +2,86 @@
 
 ghost use Rattle.std.specs.Prelude.{◌≡◌, ◌++◌};
 ghost use Rattle.usb_base.specs.Writes.{Appends, AppendsSome};
-ghost use Rattle.usbip_op.specs.Ranges.{way_of};
-ghost use Rattle.usbip_op.specs.declared.packet.OpWay.TheVariants.{Request};
+ghost use Rattle.usbip_op.specs.declared.packet.OpPacket.TheVariants.{ReqDevlist, ReqImport};
 ghost use Rattle.packet_show.specs.Line.{decimal, spaced_words};
-ghost use Rattle.packet_show.specs.Client.{client_line, client_words};
+ghost use Rattle.packet_show.specs.Client.{client_line, client_words, status_of};
 
 use crate::line::{end_line, push_begin, push_bytes, push_number};
 use std::alloc::Global;
 use usb_base::{Bytes, Memory};
-use usbip_op::OpPacket;
+use usbip_op::{BUS_ID_SIZE, OpPacket, OpRequest};
 
 /// Appends the line of a request, whose first byte stands at `place` of its stream. For want of memory `out`
 /// stands.
-#[tactic(auto, using(crate::proofs::Words::line_spaced))]
 pub fn show_client(
     alloc: Global,
     place: u64,
-    packet: &OpPacket,
+    request: &OpRequest,
     out: &mut Bytes,
 ) -> Result<(), Memory>
-    requires { way_of packet.now ≡ Request }
-    ensures { Appends result out.old out.new (client_line place packet.now) }
+    ensures { Appends result out.old out.new (client_line place request.now) }
+{
+    let status = status_of(request);
+    match request.busid() {
+        None => show_devlist(place, status, out),
+        Some(busid) => show_import(alloc, place, status, &busid, out),
+    }
+}
+
+/// Appends the line of a list request, as `show_client` does.
+pub fn show_devlist(place: u64, status: u32, out: &mut Bytes) -> Result<(), Memory>
+    ensures { Appends result out.old out.new (client_line place (ReqDevlist status)) }
 {
     let from = out.len();
-    let begun = push_request(alloc, place, packet, out);
+    let begun = push_devlist(place, status, out);
     end_line(begun, from, out)
 }
 
-#[tactic(auto, using(crate::proofs::Words::spacing))]
-fn push_request(alloc: Global, place: u64, packet: &OpPacket, out: &mut Bytes) -> Result<(), Memory>
-    requires { way_of packet.now ≡ Request }
-    ensures { AppendsSome result out.old out.new (decimal place ++ spaced_words (client_words packet.now)) }
+/// Appends the line of an import request, as `show_client` does.
+pub fn show_import(
+    alloc: Global,
+    place: u64,
+    status: u32,
+    busid: &[u8; BUS_ID_SIZE],
+    out: &mut Bytes,
+) -> Result<(), Memory>
+    ensures { Appends result out.old out.new (client_line place (ReqImport status busid.now)) }
 {
-    match packet {
-        OpPacket::ReqDevlist { status } => {
-            push_begin(place, "REQ_DEVLIST", out)?;
-            push_number(*status, out)?;
-            Ok(())
-        }
-        OpPacket::ReqImport { status, busid } => {
-            push_begin(place, "REQ_IMPORT", out)?;
-            push_number(*status, out)?;
-            push_bytes(alloc, busid, out)?;
-            Ok(())
-        }
-        OpPacket::RepDevlist { .. } | OpPacket::RepImport { .. } => unreachable!(),
+    let from = out.len();
+    let begun = push_import(alloc, place, status, busid, out);
+    end_line(begun, from, out)
+}
+
+fn status_of(request: &OpRequest) -> u32
+    ensures { result ≡ status_of request.now }
+{
+    match request.packet() {
+        OpPacket::ReqDevlist { status }
+        | OpPacket::ReqImport { status, .. }
+        | OpPacket::RepDevlist { status, .. }
+        | OpPacket::RepImport { status, .. } => status,
     }
+}
+
+fn push_devlist(place: u64, status: u32, out: &mut Bytes) -> Result<(), Memory>
+    ensures { AppendsSome result out.old out.new (decimal place ++ spaced_words (client_words (ReqDevlist status))) }
+{
+    push_begin(place, "REQ_DEVLIST", out)?;
+    push_number(status, out)?;
+    Ok(())
+}
+
+fn push_import(
+    alloc: Global,
+    place: u64,
+    status: u32,
+    busid: &[u8; BUS_ID_SIZE],
+    out: &mut Bytes,
+) -> Result<(), Memory>
+    ensures { AppendsSome result out.old out.new (decimal place ++ spaced_words (client_words (ReqImport status busid.now))) }
+{
+    push_begin(place, "REQ_IMPORT", out)?;
+    push_number(status, out)?;
+    push_bytes(alloc, busid, out)?;
+    Ok(())
 }

@@ -8,8 +8,8 @@ mod redir;
 mod tape;
 mod urb;
 
-pub use client::show_client;
+pub use client::{show_client, show_devlist, show_import};
 pub use number::read_number;
 pub use redir::show_redir;
 pub use tape::{LineError, ModelLine, ReplayLine, TAPE_LIMIT};
-pub use urb::{show_submit, show_unlink, show_urb};
+pub use urb::{show_submit, show_unlink};

@@ -1,35 +1,17 @@
-//! The line of a URB request.
+//! The line of a submit or an unlink.
 
 ghost use Rattle.std.specs.Prelude.{◌≡◌, ◌++◌, ◌∷◌, IfOk, map, string_bytes};
 ghost use Rattle.usb_base.specs.Writes.{Appends, AppendsSome};
 ghost use Rattle.usbip_urb.specs.declared.packet.UrbPacket.TheVariants.{Submit as SubmitPacket, Unlink as UnlinkPacket};
 ghost use Rattle.packet_show.specs.Line.{decimal, numbers, spaced_words};
-ghost use Rattle.packet_show.specs.Urb.{IsShown, urb_line, submit_words, unlink_words, desc_word};
+ghost use Rattle.packet_show.specs.Urb.{urb_line, submit_words, unlink_words, desc_word};
 
 use crate::line::{end_line, push_begin, push_bytes, push_numbers, push_word};
 use std::alloc::Global;
 use usb_base::{Bytes, Memory};
-use usbip_urb::{Head, IsoDesc, Submit, Unlink, UrbPacket};
+use usbip_urb::{Head, IsoDesc, Submit, Unlink};
 
-/// Appends the line of a request, whose first byte stands at `place` of its stream. For want of memory `out`
-/// stands.
-pub fn show_urb(
-    alloc: Global,
-    place: u64,
-    packet: &UrbPacket,
-    out: &mut Bytes,
-) -> Result<(), Memory>
-    requires { IsShown packet.now }
-    ensures { Appends result out.old out.new (urb_line place packet.now) }
-{
-    match packet {
-        UrbPacket::Submit(submit) => show_submit(alloc, place, submit, out),
-        UrbPacket::Unlink(unlink) => show_unlink(alloc, place, unlink, out),
-        UrbPacket::RetSubmit(_) | UrbPacket::RetUnlink(_) => unreachable!(),
-    }
-}
-
-/// Appends the line of a submit, as `show_urb` does.
+/// Appends the line of a submit, whose first byte stands at `place` of its stream. For want of memory `out` stands.
 pub fn show_submit(
     alloc: Global,
     place: u64,
@@ -43,7 +25,7 @@ pub fn show_submit(
     end_line(begun, from, out)
 }
 
-/// Appends the line of an unlink, as `show_urb` does.
+/// Appends the line of an unlink, as `show_submit` does.
 pub fn show_unlink(
     alloc: Global,
     place: u64,

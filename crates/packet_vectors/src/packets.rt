@@ -1,6 +1,6 @@
 //! A packet that is read: its line, and that it is written again as the bytes that it was read from.
 
-use crate::lines::{push_op, push_redir, push_request, push_urb};
+use crate::lines::{push_op, push_op_request, push_redir, push_urb, push_urb_request};
 use crate::output::Output;
 use crate::reader::{Reader, Setting};
 use crate::written::{push_op_again, push_redir_again, push_ret_again, push_urb_again};
@@ -33,8 +33,8 @@ fn client_packet(place: u64, bytes: &[u8], out: &mut Output) {
 /// Appends the line of what a client sent.
 pub fn push_client(place: u64, packet: &ClientPacket, out: &mut Output) {
     match packet {
-        ClientPacket::Op(request) => push_op(place, &request.packet(), out),
-        ClientPacket::Urb(request) => push_request(place, request, out),
+        ClientPacket::Op(request) => push_op_request(place, request, out),
+        ClientPacket::Urb(request) => push_urb_request(place, request, out),
     }
 }
 

@@ -8,7 +8,6 @@ use Rattle.usb_base.specs.declared.reason.Reason.{Reason}
 use Rattle.usb_base.specs.Refusal.{refusal_line}
 use Rattle.packet_stream.specs.Split.{Reader, Position, Splitting, split}
 use Rattle.packet_stream.specs.Streams.{capped}
-use Rattle.usbip_op.specs.declared.packet.OpPacket.TheVariants as op
 use Rattle.usbip_urb.specs.declared.packet.UrbPacket.TheVariants as urb
 use Rattle.usbip_urb.specs.declared.client.ClientPacket.{ClientPacket}
 use Rattle.usbip_urb.specs.declared.client.ClientPacket.TheVariants.{Op, Urb}
@@ -74,8 +73,7 @@ show_side shown = record {
 
 -- a client sends requests alone, and an answer has no line
 abbrev pub asked_line : ℕ → ClientPacket → List ℕ
-asked_line place (Op (op.ReqDevlist status)) = client_line place (op.ReqDevlist status)
-asked_line place (Op (op.ReqImport status busid)) = client_line place (op.ReqImport status busid)
+asked_line place (Op packet) = client_line place packet
 asked_line place (Urb (urb.Submit submit)) = urb_line place (urb.Submit submit)
 asked_line place (Urb (urb.Unlink unlink)) = urb_line place (urb.Unlink unlink)
 asked_line place packet = []

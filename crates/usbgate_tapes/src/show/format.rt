@@ -100,7 +100,7 @@ impl ShownFormat for ClientFormat {
         text: &mut Bytes,
     ) -> Result<(), Memory> {
         match packet {
-            ClientPacket::Op(request) => show_client(alloc, place, &request.packet(), text),
+            ClientPacket::Op(request) => show_client(alloc, place, request, text),
             ClientPacket::Urb(request) => match request.command() {
                 UrbCommand::Submit(submit) => show_submit(alloc, place, submit, text),
                 UrbCommand::Unlink(unlink) => show_unlink(alloc, place, unlink, text),
