@@ -73,7 +73,9 @@ fn push_control(
 fn push_data(alloc: Global, packet: &RedirData, out: &mut Bytes) -> Result<(), Memory>
     ensures { AppendsSome result out.old out.new (spaced_words (data_fields packet.now)) }
 {
-    packet.write_fixed(false, &Line { alloc }, out)?;
+    // All that a capability adds is the upper half of a bulk packet's length, which shows no word.
+    let has_upper_half = false;
+    packet.write_fixed(has_upper_half, &Line { alloc }, out)?;
     push_bytes(alloc, packet.body().as_slice(), out)?;
     Ok(())
 }
