@@ -73,7 +73,11 @@ fn control_address(setup: &Setup, endpoint: u8) -> Result<EpAddr, u8>
     ensures byte { byte_of result ≡ endpoint }
 {
     let ep = EpAddr::control(setup.is_in());
-    Some(ep).filter(|ep| ep.byte() == endpoint).ok_or(endpoint)
+    if ep.byte() == endpoint {
+        Ok(ep)
+    } else {
+        Err(endpoint)
+    }
 }
 
 /// The address of an endpoint other than 0 for a transfer of this length, if it can be asked for; else its byte.
