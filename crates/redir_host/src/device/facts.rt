@@ -1,11 +1,10 @@
 //! What is told of the device.
 
-ghost use Rattle.std.specs.Prelude.{◌≡◌, ◌++◌, ◌≤◌, ◌<◌, ◌^◌, get_or, if◌then◌else◌, OnOk, OnErr};
-ghost use Rattle.usb_base.specs.Endpoint.{no_endpoint};
+ghost use Rattle.std.specs.Prelude.{◌≡◌, ◌++◌, ◌≤◌, OnOk, OnErr};
+ghost use Rattle.std.specs.Int.{w16};
 ghost use Rattle.usb_base.specs.Writes.{Begins};
-ghost use Rattle.redir_wire.specs.declared.packet.TheConstants.Caps.{MAX_PACKET_SIZE};
-ghost use Rattle.redir_wire.specs.Capability.{has};
 ghost use Rattle.redir_wire.specs.Ranges.{Ranges};
+ghost use Rattle.redir_wire.specs.Words.{AreNumbers};
 ghost use Rattle.redir_wire.specs.declared.packet.TheConstants.{MAX_INTERFACES};
 ghost use Rattle.redir_host.specs.device.Facts.{connect_of, ep_info_of};
 ghost use Rattle.redir_host.specs.write.Told.{facts_bytes, connect_bytes};
@@ -13,7 +12,7 @@ ghost use Rattle.redir_host.specs.write.Told.{facts_bytes, connect_bytes};
 use crate::write::packet::write;
 use redir_data::RedirPacket;
 use redir_wire::{Caps, Connect, EpInfo, InterfaceInfo, RedirControl};
-use usb_base::{Bytes, ENDPOINTS, EpRow, EpTable, Memory};
+use usb_base::{Bytes, ENDPOINTS, EpTable, Memory};
 
 /// Appends the endpoints and the interfaces. For want of memory what was there still stands at the front.
 pub fn write_facts(
@@ -49,39 +48,25 @@ fn ep_info(table: &EpTable, caps: Caps) -> EpInfo
     ensures info { result ≡ ep_info_of caps table.now }
     ensures ranges { Ranges (RedirControl.EpInfo result) }
 {
-    let mut info = EpInfo {
-        kinds: [0; ENDPOINTS],
-        interval: [0; ENDPOINTS],
-        interface: [0; ENDPOINTS],
-        max_packet: [0; ENDPOINTS],
-    };
-    for index in 0..ENDPOINTS {
-        let row = row_at(table, index);
-        info.kinds[index] = row.kind.to_byte();
-        info.interval[index] = row.interval;
-        info.interface[index] = row.interface;
-        info.max_packet[index] = max_packet(row, caps);
+    let rows = table.rows;
+    EpInfo {
+        kinds: rows.map(|row| row.kind.to_byte()),
+        interval: rows.map(|row| row.interval),
+        interface: rows.map(|row| row.interface),
+        max_packet: max_packets(table, caps),
     }
-    info
 }
 
-/// The largest packet, 0 where it isn't sent.
-fn max_packet(row: EpRow, caps: Caps) -> u16
-    ensures size { result ≡ (if has caps MAX_PACKET_SIZE then row.max_packet else 0) }
-    ensures fits { result < 2 ^ 16 }
+/// The largest packets, 0 where they aren't sent.
+fn max_packets(table: &EpTable, caps: Caps) -> [u16; ENDPOINTS]
+    ensures sizes { result ≡ (ep_info_of caps table.now).max_packet }
+    ensures fit { AreNumbers w16 result }
 {
     if caps.contains(Caps::MAX_PACKET_SIZE) {
-        row.max_packet
+        table.rows.map(|row| row.max_packet)
     } else {
-        0
+        [0; ENDPOINTS]
     }
-}
-
-fn row_at(table: &EpTable, index: usize) -> EpRow
-    requires { index < ENDPOINTS }
-    ensures { result ≡ get_or table.now.rows index no_endpoint }
-{
-    table.rows[index]
 }
 
 /// What is told as the device is plugged in.

@@ -46,12 +46,10 @@ impl Keys {
     pub fn first_from(&self, number: u64) -> Option<(u64, usize)>
         ensures { result ≡ find (λ e. nat_le number e.0) self.now }
     {
-        for entry in &self.keys {
-            if number <= entry.0 {
-                return Some(*entry);
-            }
-        }
-        None
+        self.keys
+            .iter()
+            .copied()
+            .find(|(other, _)| number <= *other)
     }
 
     /// Puts a key behind those that are there. For want of memory nothing has changed.

@@ -196,8 +196,8 @@ fn retain_keys(queues: &mut [Keys; ENDPOINTS], requests: &Slab<Request>)
     ensures count { length queues.new ≡ ENDPOINTS }
     ensures each { (place : ℕ) → slice_index_or queues.new place [] ≡ filter (λ e. is_some (at_key requests.now e.1)) (slice_index_or queues.old place []) }
 {
-    for place in 0..ENDPOINTS {
-        queues[place].retain(requests);
+    for queue in queues {
+        queue.retain(requests);
     }
 }
 

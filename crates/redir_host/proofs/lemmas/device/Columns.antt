@@ -1,7 +1,6 @@
--- A column of a table of endpoints, which is filled cell by cell.
-use Rattle.std.proofs.Common.{◌≡◌, ℕ, zero, suc, ◌+◌, ◌<◌, ◌^◌, List, [], ◌∷◌, ◌++◌, length, replicate, take, set, get_or, refl, sym, ap, ◌∙◌, arith, add-one, lit<}
-use Rattle.std.proofs.lemmas.Grind.{take-set_at}
-use Rattle.std.proofs.lemmas.List.{take_all, length-set}
+-- A column of a table of endpoints, cell by cell.
+use Rattle.std.proofs.Common.{◌≡◌, ℕ, Bool, true, false, if◌then◌else◌, zero, suc, ◌<◌, ◌≤◌, ◌^◌, List, [], ◌∷◌, ◌++◌, length, take, get_or, refl, sym, ap, ◌∙◌, arith, add-one}
+use Rattle.std.proofs.lemmas.List.{take_all, take_more}
 use Rattle.usb_base.specs.Endpoint.{no_endpoint}
 use Rattle.usb_base.specs.declared.endpoint.EpRow.{EpRow}
 use Rattle.usb_base.specs.declared.endpoint.EpTable.{EpTable}
@@ -9,36 +8,27 @@ use Rattle.std.specs.Int.{w16}
 use Rattle.redir_wire.specs.Words.{AreNumbers}
 use Rattle.redir_host.specs.device.Facts.{column}
 
--- its first n cells are filled
-pub record IsColumn (f : EpRow → ℕ) (t : EpTable) (n : ℕ) (cells : List ℕ) : Type 0 where
-  pub long : length cells ≡ 32
-  pub told : take n cells ≡ column f t n
-
-column_next : (f : EpRow → ℕ) (t : EpTable) (n : ℕ) → column f t (n + 1) ≡ column f t n ++ f (get_or t.rows n no_endpoint) ∷ []
+-- its first n cells
+front_column : (f : EpRow → ℕ) (t : EpTable) (cells : List ℕ) (n : ℕ) → ((i : ℕ) → i < n → get_or cells i 0 ≡ f (get_or t.rows i no_endpoint)) → n ≤ length cells → take n cells ≡ column f t n
 unfolding column
-column_next f t n = ap (column f t) (add-one n)
+front_column f t cells zero each within = refl
+front_column f t cells (suc n) each within =
+    ap (λ k. take k cells) (sym (add-one n))
+    ∙ take_more cells n 0 (omega (arith, within))
+    ∙ (λ i. front_column f t cells n (λ k less. each k (omega (arith, less))) (omega (arith, within)) i ++ each n (omega arith) i ∷ [])
 
-pub first_column : (f : EpRow → ℕ) (t : EpTable) (cells : List ℕ) → length cells ≡ 32 → IsColumn f t 0 cells
-unfolding column
-first_column f t cells long = record { long = long; told = refl }
+pub column_of : (f : EpRow → ℕ) (t : EpTable) (cells : List ℕ) → length cells ≡ 32 → ((i : ℕ) → i < 32 → get_or cells i 0 ≡ f (get_or t.rows i no_endpoint)) → cells ≡ column f t 32
+column_of f t cells long each = sym (take_all 32 cells (omega (arith, long))) ∙ front_column f t cells 32 each (omega (arith, long))
 
-pub next_cell : (f : EpRow → ℕ) (t : EpTable) (n : ℕ) (cells : List ℕ) (row : EpRow) (cell : ℕ) → row ≡ get_or t.rows n no_endpoint → cell ≡ f row → n < 32 → IsColumn f t n cells → IsColumn f t (n + 1) (set cells n cell)
-next_cell f t n cells row cell is value less h = record {
-  long = length-set cells n cell ∙ h.long;
-  told = let there : n < length cells = omega (arith, h.long) in
-      take-set_at cells n (n + 1) cell refl there ∙ (λ i. h.told i ++ (value ∙ ap f is) i ∷ []) ∙ sym (column_next f t n);
-}
+-- a cell that is told only where a capability is there
+pub told : (there : Bool) (n : ℕ) → there ≡ true → n ≡ (if there then n else 0)
+told there n is = ap (λ (b : Bool). if b then n else 0) (sym is)
 
-pub whole_column : (f : EpRow → ℕ) (t : EpTable) (n : ℕ) (cells : List ℕ) → n ≡ 32 → IsColumn f t n cells → cells ≡ column f t 32
-whole_column f t n cells is h = sym (take_all n cells (omega (arith, h.long))) ∙ h.told ∙ ap (column f t) is
+pub untold : (there : Bool) (n : ℕ) → there ≡ false → 0 ≡ (if there then n else 0)
+untold there n is = ap (λ (b : Bool). if b then n else 0) (sym is)
 
 -- ---- numbers of 16 bits
 
-pub zero_halves : (n : ℕ) → AreNumbers w16 (replicate n 0)
-zero_halves zero = tt
-zero_halves (suc n) = (lit< tt, zero_halves n)
-
-pub set_halves : (cells : List ℕ) (n cell : ℕ) → AreNumbers w16 cells → cell < 2 ^ 16 → AreNumbers w16 (set cells n cell)
-set_halves [] n cell are fits = tt
-set_halves (x ∷ xs) zero cell are fits = (fits, are.1)
-set_halves (x ∷ xs) (suc n) cell are fits = (are.0, set_halves xs n cell are.1 fits)
+pub halves_of : (cells : List ℕ) → ((i : ℕ) → i < length cells → get_or cells i 0 < 2 ^ 16) → AreNumbers w16 cells
+halves_of [] each = tt
+halves_of (x ∷ xs) each = (each 0 (omega arith), halves_of xs (λ i less. each (suc i) (omega (arith, less))))

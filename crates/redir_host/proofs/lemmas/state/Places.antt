@@ -76,8 +76,8 @@ upto_next f n old new x within is upto = (
   λ i from. get_or-set_other new n i x [] (λ same. omega (arith, from, same)) ∙ upto.1 i (omega (arith, from)),
 )
 
-pub upto_all : (f : List (ℕ × ℕ) → List (ℕ × ℕ)) (n : ℕ) (old new : List (List (ℕ × ℕ))) → length new ≡ n → f [] ≡ [] → Upto f n old new → (i : ℕ) → get_or new i [] ≡ f (get_or old i [])
+pub upto_all : (f : List (ℕ × ℕ) → List (ℕ × ℕ)) (n : ℕ) (old new : List (List (ℕ × ℕ))) → length new ≤ n → f [] ≡ [] → Upto f n old new → (i : ℕ) → get_or new i [] ≡ f (get_or old i [])
 upto_all f n old new long none upto i = elim (cases_lt i n) [
   | inl within ↦ upto.0 i within
-  | inr past ↦ let empty = get_or_past new i [] (rw long past) in empty ∙ sym (ap f (sym (upto.1 i past) ∙ empty) ∙ none)
+  | inr past ↦ let empty = get_or_past new i [] (omega (arith, long, past)) in empty ∙ sym (ap f (sym (upto.1 i past) ∙ empty) ∙ none)
 ]

@@ -4,15 +4,15 @@ use Rattle.redir_host.proofs.lemmas.state.Flushed.{is_there}
 use Rattle.redir_host.proofs.lemmas.state.Places.{upto_all, upto_next}
 use Rattle.redir_host.proofs.state.waiting.retain_keys.Goals as goal
 
-pub loop-place-preserved : goal.loop-place-preserved
-loop-place-preserved c =
-    let queues = c.loop-place.queues in
-    let place = c.loop-place.place in
+pub loop-queue-preserved : goal.loop-queue-preserved
+loop-queue-preserved c =
+    let queues = c.loop-queue.queue-items in
+    let place = c.loop-queue.queue-index in
     let left = filter (is_there c.args.requests.now) in
-    let within : place < length queues = omega (arith, c.loop-place.invariant.0, c.loop-place-test.true) in (
-      length-set queues place _ ∙ c.loop-place.invariant.0,
-      upto_next left place c.args.queues.now queues _ within (c.retain.ensures ∙ ap left (get_or_default queues place c.index-queues-place.result [] within)) c.loop-place.invariant.1,
+    let within : place < length queues = omega (arith, c.loop-queue-test.true) in (
+      length-set queues place _ ∙ c.loop-queue.invariant.0,
+      upto_next left place c.args.queues.now queues _ within (c.retain.ensures ∙ ap left (get_or_default queues place c.queue-item.result [] within)) c.loop-queue.invariant.1,
     )
 
 pub returns-clause-each : goal.returns-clause-each
-returns-clause-each c = upto_all (filter (is_there c.args.requests.now)) c.loop-place.place c.args.queues.now c.loop-place.queues (omega (arith, c.loop-place.invariant.0, c.loop-place-test.false)) refl c.loop-place.invariant.1
+returns-clause-each c = upto_all (filter (is_there c.args.requests.now)) c.loop-queue.queue-index c.args.queues.now c.loop-queue.queue-items (omega (arith, c.loop-queue-test.false)) refl c.loop-queue.invariant.1

@@ -4,5 +4,5 @@ use Rattle.redir_host.proofs.lemmas.state.Flushed.{is_there}
 use Rattle.redir_host.proofs.lemmas.state.Places.{Upto}
 use Rattle.redir_host.proofs.state.waiting.retain_keys.Given as goal
 
-abbrev pub invariant-loop-place : goal.invariant-loop-place
-invariant-loop-place l = (length l.queues ≡ ENDPOINTS) × Upto (filter (is_there l.requests)) l.place l.fn.queues l.queues
+abbrev pub invariant-loop-queue : goal.invariant-loop-queue
+invariant-loop-queue l = (length l.queue-items ≡ ENDPOINTS) × Upto (filter (is_there l.requests)) l.queue-index l.fn.queues l.queue-items
