@@ -2,7 +2,7 @@
 use Rattle.std.specs.Prelude.{ℕ, ◌+◌, ◌-◌, ◌*◌, List, drop}
 use Rattle.std.specs.Int.{w16, w32}
 use Rattle.usb_base.specs.Number.{be_at, byte_at, part}
-use Rattle.usbip_op.specs.declared.code.TheConstants.{BUS_ID_SIZE, DEVICE_SIZE, INTERFACE_SIZE}
+use Rattle.usbip_op.specs.declared.code.TheConstants.{BUS_ID_SIZE, DEVICE_SIZE, INTERFACE_SIZE, PATH_SIZE}
 use Rattle.usbip_op.specs.declared.packet.DeviceRow.{DeviceRow}
 use Rattle.usbip_op.specs.declared.packet.IfaceRow.{IfaceRow}
 use Rattle.usbip_op.specs.declared.packet.Listed.{Listed}
@@ -16,8 +16,8 @@ interface_count b = byte_at (DEVICE_SIZE - 1) b
 
 abbrev pub device_at : List ℕ → DeviceRow
 device_at b = record {
-  path = part 0 256 b;
-  busid = part 256 BUS_ID_SIZE b;
+  path = part 0 PATH_SIZE b;
+  busid = part PATH_SIZE BUS_ID_SIZE b;
   busnum = be_at w32 288 b;
   devnum = be_at w32 292 b;
   speed = be_at w32 296 b;

@@ -1,6 +1,6 @@
 -- Which fields packets may have.
 use Rattle.std.specs.Prelude.{◌≡◌, ◌≢◌, ◌↔◌, ℕ, ◌≤◌, ◌<◌, ◌^◌, List, [], length, IsSome, IfSome, All}
-use Rattle.usbip_op.specs.declared.code.TheConstants.{BUS_ID_SIZE, MAX_DEVICES}
+use Rattle.usbip_op.specs.declared.code.TheConstants.{BUS_ID_SIZE, MAX_DEVICES, PATH_SIZE}
 use Rattle.usbip_op.specs.declared.packet.DeviceRow.{DeviceRow}
 use Rattle.usbip_op.specs.declared.packet.Listed.{Listed}
 use Rattle.usbip_op.specs.declared.packet.OpPacket.{OpPacket}
@@ -11,7 +11,7 @@ use Rattle.usbip_op.specs.declared.packet.OpWay.TheVariants.{Request, Reply}
 -- ---- the ranges that the types of the code have
 
 pub record IsDevice (d : DeviceRow) : Type 0 where
-  pub path_length : length d.path ≡ 256
+  pub path_length : length d.path ≡ PATH_SIZE
   pub busid_length : length d.busid ≡ BUS_ID_SIZE
   pub busnum_fits : d.busnum < 2 ^ 32
   pub devnum_fits : d.devnum < 2 ^ 32

@@ -26,6 +26,8 @@ pub const ST_NA: u32 = 1;
 pub const HEADER_SIZE: usize = 8;
 /// How many bytes a list has before its devices: the header, and how many they are.
 pub const LIST_HEADER_SIZE: usize = 12;
+/// How many bytes a device's path has, with the zeros behind it.
+pub const PATH_SIZE: usize = 256;
 /// How many bytes a bus id has, with the zeros behind it.
 pub const BUS_ID_SIZE: usize = 32;
 /// How many bytes a device has, without its interfaces. The last of them is the number of those.
@@ -43,7 +45,7 @@ pub fn protocol_numbers()
     ensures import { (OP_REQ_IMPORT ≡ 0x8003) × (OP_REP_IMPORT ≡ 0x0003) }
     ensures statuses { (ST_OK ≡ 0) × (ST_NA ≡ 1) }
     ensures headers { (HEADER_SIZE ≡ 8) × (LIST_HEADER_SIZE ≡ 12) }
-    ensures rows { (BUS_ID_SIZE ≡ 32) × (DEVICE_SIZE ≡ 312) × (INTERFACE_SIZE ≡ 4) }
+    ensures rows { (PATH_SIZE ≡ 256) × (BUS_ID_SIZE ≡ 32) × (DEVICE_SIZE ≡ 312) × (INTERFACE_SIZE ≡ 4) }
     ensures devices { MAX_DEVICES ≡ 1024 }
     ensures exported { (BUS_ID ≡ codes "1-1") × (BUS_NUMBER ≡ 1) × (DEVICE_NUMBER ≡ 2) }
 {}

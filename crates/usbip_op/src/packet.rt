@@ -1,6 +1,6 @@
 //! The list and import packets of USB/IP, as plain data.
 
-use crate::code::BUS_ID_SIZE;
+use crate::code::{BUS_ID_SIZE, PATH_SIZE};
 use packet_stream::{Read, ReadError};
 use usb_base::List;
 
@@ -9,7 +9,7 @@ use usb_base::List;
 /// (low), 2 (full), 3 (high) or 5 (super).
 #[derive(Clone, Copy)]
 pub struct DeviceRow {
-    pub path: [u8; 256],
+    pub path: [u8; PATH_SIZE],
     pub busid: [u8; BUS_ID_SIZE],
     pub busnum: u32,
     pub devnum: u32,

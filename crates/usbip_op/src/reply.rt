@@ -14,7 +14,7 @@ ghost use Rattle.usbip_op.specs.declared.code.TheConstants.{USBIP_VERSION as ver
 use crate::check::wrong_head;
 use crate::code::{
     DEVICE_SIZE, HEADER_SIZE, INTERFACE_SIZE, LIST_HEADER_SIZE, MAX_DEVICES, OP_REP_DEVLIST,
-    OP_REP_IMPORT,
+    OP_REP_IMPORT, PATH_SIZE,
 };
 use crate::packet::{
     DeviceRow, IfaceRow, IfaceRows, Listed, ListedRows, OpError, OpPacket, OpRead,
@@ -160,7 +160,7 @@ fn device_at(bytes: &[u8]) -> DeviceRow
 {
     DeviceRow {
         path: array_at(bytes, 0),
-        busid: array_at(bytes, 256),
+        busid: array_at(bytes, PATH_SIZE),
         busnum: be_u32_at(bytes, 288),
         devnum: be_u32_at(bytes, 292),
         speed: be_u32_at(bytes, 296),

@@ -3,7 +3,7 @@ use Rattle.std.specs.Prelude.{ℕ, ◌==◌, not, Bool, List, [], ◌∷◌, ◌
 use Rattle.std.specs.Option.{option_map_or, option_to_list}
 use Rattle.usb_base.specs.Speed.{speed_of, usbip_speed}
 use Rattle.usb_base.specs.Text.{padded}
-use Rattle.usbip_op.specs.declared.code.TheConstants.{BUS_ID_SIZE, ST_NA, ST_OK}
+use Rattle.usbip_op.specs.declared.code.TheConstants.{BUS_ID_SIZE, PATH_SIZE, ST_NA, ST_OK}
 use Rattle.usbip_op.specs.declared.exported.TheConstants.{BUS_ID, BUS_NUMBER, DEVICE_NUMBER}
 use Rattle.usbip_op.specs.declared.packet.OpPacket.{OpPacket}
 use Rattle.usbip_op.specs.declared.packet.OpPacket.TheVariants.{RepDevlist, RepImport}
@@ -24,7 +24,7 @@ interface_rows info = option_map_or (λ i. take i.count (rows i.class i.subclass
 
 abbrev pub device_row : Facts → Connect → DeviceRow
 device_row f c = record {
-  path = padded 256 (codes "/usbredir/" ++ BUS_ID);
+  path = padded PATH_SIZE (codes "/usbredir/" ++ BUS_ID);
   busid = padded BUS_ID_SIZE BUS_ID;
   busnum = BUS_NUMBER;
   devnum = DEVICE_NUMBER;
