@@ -113,14 +113,11 @@ impl Up {
         ensures fits { IfSome result (λ filling. filling.done ≤ wanted) }
     {
         let seen = self.seen_behind(from);
-        let behind = self.behind(from);
-        let (fewest, seen) = behind.fewest_filling(self.row.max_packet, wanted, seen);
-        let filling = match fewest {
-            Some(fewest) => Some(behind.filling_by(wanted, fewest)),
-            None => None,
-        };
+        let (fewest, seen) = self
+            .behind(from)
+            .fewest_filling(self.row.max_packet, wanted, seen);
         self.remember(from, seen);
-        filling
+        Some(self.behind(from).filling_by(wanted, fewest?))
     }
 
     /// What is remembered of the packets behind the first `from`.
