@@ -20,6 +20,6 @@ pub use write::ask::{
     acknowledge, wire_packet, write_cancel, write_cancel_of, write_hello, write_route, write_start,
     write_stop,
 };
-pub use write::finish::{has_won, row_for, write_completed, write_end_of, write_lost};
+pub use write::finish::{row_for, write_completed, write_end_of, write_lost};
 pub use write::outputs::Outputs;
 pub use write::refusal::{client_refusal, host_refusal};

@@ -21,16 +21,18 @@ ghost use Rattle.gate_history.specs.step.Meaning.{mark_as, fact_of, by_response,
 ghost use Rattle.gate_history.specs.state.Sound.{IsSound};
 ghost use Rattle.gate_history.specs.step.Wants.{GivesSome};
 ghost use Rattle.gate_parts.specs.host.Responses.{response_view, expected_by, IsAnswer, completes};
+ghost use Rattle.gate_core.specs.inner.host.Counted.{counted};
 ghost use Rattle.gate_core.specs.inner.state.Holds.{IsKept, Holds, Does, StopsShort};
 ghost use Rattle.gate_history.specs.step.Fits.{ResponseFits, ToldFits};
 
 use crate::state::kept::Kept;
 use gate_parts::{
-    Outputs, Response, data_of, has_won, head_size, lifted, mismatch, status_of, stream_in,
-    stream_packet, write_completed,
+    Outputs, Response, data_of, head_size, lifted, mismatch, status_of, stream_in, stream_packet,
+    write_completed,
 };
 use redir_data::RedirData;
 use redir_wire::{Caps, Header, Hello, RedirControl};
+use unlink_race::Ending;
 use usb_base::{Memory, Refusal, UsbStatus};
 
 impl Kept {
@@ -79,10 +81,8 @@ impl Kept {
                 Ok(())
             }
             RedirControl::Disconnect => self.disconnect(header.id, out),
-            RedirControl::IsoStatus { status, endpoint } => {
-                self.told_stream(header.id, *endpoint, *status, out)
-            }
-            RedirControl::InterruptStatus { status, endpoint } => {
+            RedirControl::IsoStatus { status, endpoint }
+            | RedirControl::InterruptStatus { status, endpoint } => {
                 self.told_stream(header.id, *endpoint, *status, out)
             }
             _ => self.told_fact(place, header, packet, out),
@@ -232,9 +232,21 @@ impl Kept {
         };
         let ending = write_completed(self.alloc, live, response, out)?;
         self.lives.finish_at(at);
-        let won = has_won(ending);
-        self.answered = self.answered.saturating_add(u64::from(!won));
-        self.unlinked = self.unlinked.saturating_add(u64::from(won));
+        self.count(ending);
         Ok(())
+    }
+
+    /// Counts the answer of a request that has ended: its unlink's where this has won, and else its own.
+    fn count(&mut self, ending: Ending)
+        requires kept { IsKept self.old }
+        ensures kept { IsKept self.new }
+        ensures counted { self.new ≡ counted ending self.old }
+    {
+        match ending {
+            Ending::Unlinked { .. } => self.unlinked = self.unlinked.saturating_add(1),
+            Ending::Completed | Ending::CompletedThenLate { .. } => {
+                self.answered = self.answered.saturating_add(1);
+            }
+        }
     }
 }

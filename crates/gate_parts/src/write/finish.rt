@@ -11,7 +11,7 @@ ghost use Rattle.gate_parts.specs.state.Rows.{IsRowOf, row_request, lost_bytes, 
 ghost use Rattle.usbip_urb.specs.declared.client.ClientPacket.TheVariants.{Urb};
 ghost use Rattle.gate_history.specs.declared.note.Note.TheVariants.{Answered};
 ghost use Rattle.gate_history.specs.host.Responses.{told_outcome};
-ghost use Rattle.gate_parts.specs.host.Responses.{response_view, IsAnswer, IsCounted, has_won};
+ghost use Rattle.gate_parts.specs.host.Responses.{response_view, IsAnswer, IsCounted};
 ghost use Rattle.usb_base.specs.Writes.{Begins};
 ghost use Rattle.unlink_race.specs.Endings.{ending_of};
 ghost use Rattle.unlink_race.specs.Searches.{ended_by};
@@ -127,13 +127,6 @@ pub fn write_completed(
         seqnum: live.seqnum,
     })?;
     write_answers(alloc, live, outcome, &mut out.to_client)
-}
-
-/// Whether a request ends by its unlink, which has won.
-pub fn has_won(ending: Ending) -> bool
-    ensures { result ≡ has_won ending }
-{
-    matches!(ending, Ending::Unlinked { .. })
 }
 
 /// Appends the answer of a request whose stream ends so, and nothing for any other.

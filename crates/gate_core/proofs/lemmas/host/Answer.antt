@@ -22,6 +22,7 @@ use Rattle.redir_wire.specs.Header.{head_size}
 use Rattle.redir_data.specs.declared.packet.RedirPacket.{RedirPacket}
 use Rattle.redir_data.specs.declared.packet.RedirPacket.TheVariants.{Plain}
 use Rattle.unlink_race.specs.declared.ending.Ending.{Ending}
+use Rattle.unlink_race.specs.declared.ending.Ending.TheVariants.{Completed, Unlinked, CompletedThenLate}
 use Rattle.unlink_race.specs.declared.live.Live.{Live}
 use Rattle.unlink_race.specs.Searches.{has_id as has_row_id}
 use Rattle.unlink_race.specs.Firsts.{without_first}
@@ -51,6 +52,7 @@ use Rattle.gate_parts.specs.state.Rows.{row_of, row, unmarked, left_row}
 use Rattle.gate_parts.specs.host.Responses.{expected_by, completes, IsAnswer, has_won, IsCounted}
 use Rattle.gate_parts.specs.write.Outputs.{with_answers}
 use Rattle.gate_parts.proofs.lemmas.write.Outputs.{with-none}
+use Rattle.gate_core.specs.inner.host.Counted.{counted}
 use Rattle.gate_core.specs.inner.state.Holds.{IsRow, Holds, Does}
 use Rattle.gate_history.specs.step.Fits.{ResponseFits}
 use Rattle.gate_history.proofs.lemmas.Lists.{Each, every, filter-same, filter-map, flat_map-map}
@@ -224,40 +226,47 @@ module _ (st : State) (id : ℕ) (o : Outcome) where
 
 -- ---- the answer of the one that waits
 
+-- nothing is added to a count
+none-more : (n more : ℕ) → n ≤ 2 ^ 64 - 1 → more ≡ 0 → n ≡ capped (n + more)
+none-more n more fits none = capped-same n fits ∙ ap (λ (k : ℕ). capped (n + k)) (sym none)
+
+-- by its ending one is added to one of the counts
+counted-is : (ending : Ending) (t : Kept) (answered unlinked : ℕ) → t.answered ≤ 2 ^ 64 - 1 → t.unlinked ≤ 2 ^ 64 - 1 → answered ≡ cond (has_won ending) 0 1 → unlinked ≡ cond (has_won ending) 1 0 →
+    counted ending t ≡ record t { answered = capped (t.answered + answered); unlinked = capped (t.unlinked + unlinked) }
+counted-is Completed t answered unlinked answered_fits unlinked_fits one none = λ i. record t { answered = capped (t.answered + sym one i); unlinked = none-more t.unlinked unlinked unlinked_fits none i }
+counted-is (Unlinked by) t answered unlinked answered_fits unlinked_fits none one = λ i. record t { answered = none-more t.answered answered answered_fits none i; unlinked = capped (t.unlinked + sym one i) }
+counted-is (CompletedThenLate by) t answered unlinked answered_fits unlinked_fits one none = λ i. record t { answered = capped (t.answered + sym one i); unlinked = none-more t.unlinked unlinked unlinked_fits none i }
+
 module _ (st : State) (id : ℕ) (response : Response) (sound : IsSound st) where
   waits : find (has_id id) (submits st ++ st.abandoned) ≡ option_or (option_map (λ (p : Pending). p.submit) (find (pending_has_id id) st.live)) (find (has_id id) st.abandoned)
   waits = find-append (has_id id) (submits st) st.abandoned ∙ ap (λ (o : Option Submission). option_or o (find (has_id id) st.abandoned)) (find-map (has_id id) (λ (p : Pending). p.submit) st.live)
 
   -- of a live one, by its row
-  pub does-live : (old : Kept) (lives : Requests) (l : Live) (ending : Ending) (answered unlinked : ℕ) (out out_new : Outputs) → Holds old st → old.dropped ≤ 2 ^ 64 - 1 →
+  pub does-live : (old : Kept) (lives : Requests) (l : Live) (ending : Ending) (out out_new : Outputs) → Holds old st → old.answered ≤ 2 ^ 64 - 1 → old.unlinked ≤ 2 ^ 64 - 1 → old.dropped ≤ 2 ^ 64 - 1 →
       find (has_row_id id) old.lives.live ≡ Some l →
       lives ≡ record old.lives { live = without_first (has_row_id id) old.lives.live } →
       ((s : Submission) → row_of s l.unlinker ≡ l → out_new ≡ with_answers out (flat_map spelling (answers_by s (told_outcome s.request s.verdict response) l.unlinker)) (note.Answered l.seqnum ∷ [])) →
       ((s : Submission) → row_of s l.unlinker ≡ l → IsCounted (map Urb (answers_by s (told_outcome s.request s.verdict response) l.unlinker)) ending) →
-      answered ≡ capped (old.answered + cond (has_won ending) 0 1) →
-      unlinked ≡ capped (old.unlinked + cond (has_won ending) 1 0) →
-      Does st (mark_as st (completes id response (find (has_id id) (submits st ++ st.abandoned))) None) old (record old { lives = lives; answered = answered; unlinked = unlinked }) out out_new
-  does-live old lives l ending answered unlinked out out_new h few found rest gives counted answered_is unlinked_is =
+      Does st (mark_as st (completes id response (find (has_id id) (submits st ++ st.abandoned))) None) old (counted ending (record old { lives = lives })) out out_new
+  does-live old lives l ending out out_new h answered_fits unlinked_fits few found rest gives counts =
       let p = map-some row (find (pending_has_id id) st.live) l (sym (find-rows id st.live) ∙ ap (find (has_row_id id)) (sym h.live) ∙ found) in
       let s = p.from.submit in
       let by : l.unlinker ≡ p.from.unlinker = ap (λ (k : Live). k.unlinker) (sym p.is) in
       let its : row_of s l.unlinker ≡ l = ap (row_of s) by ∙ p.is in
       let o = told_outcome s.request s.verdict response in
       let one : sent st id o (p.from ∷ []) ≡ map Urb (answers_by s o l.unlinker) = ap (map Urb) (append-nil (answers_by s o p.from.unlinker)) ∙ ap (λ (u : Option ℕ). map Urb (answers_by s o u)) (sym by) in
-      let count = counted s its in
+      let count = counts s its in
       let effect : Answers id o ≡ completes id response (find (has_id id) (submits st ++ st.abandoned)) =
       sym (ap (completes id response) (waits ∙ ap (λ (q : Option Pending). option_or (option_map (λ (r : Pending). r.submit) q) (find (has_id id) st.abandoned)) p.found)) in
-      subst (λ (e : Effect). Does st (mark_as st e None) old (record old { lives = lives; answered = answered; unlinked = unlinked }) out out_new) effect
-      (does-answer st id o old (record old { lives = lives; answered = answered; unlinked = unlinked }) lives.live lives.abandoned (p.from ∷ []) out out_new h few
+      subst (λ (e : Effect). Does st (mark_as st e None) old (counted ending (record old { lives = lives })) out out_new) effect
+      (does-answer st id o old (counted ending (record old { lives = lives })) lives.live lives.abandoned (p.from ∷ []) out out_new h few
       (found-alone st id sound ∙ ap option_to_list p.found)
       (ap (λ (r : Requests). r.live) rest ∙ ap (without_first (has_row_id id)) h.live ∙ live-without st id sound)
       (ap (λ (r : Requests). map unmarked r.abandoned) rest ∙ h.abandoned
       ∙ (let none = left-alone st id sound p.from p.found in ap (map left_row) (none ∙ sym (ap (filter (λ s. not (has_id id s))) none))))
-      (λ i. record old {
-        lives = lives;
-        answered = (answered_is ∙ ap (λ (n : ℕ). capped (old.answered + n)) (sym count.answered ∙ sym (ap (λ (ps : List ClientPacket). length (filter is_ret_submit ps)) one))) i;
-        unlinked = (unlinked_is ∙ ap (λ (n : ℕ). capped (old.unlinked + n)) (sym count.unlinked ∙ sym (ap (λ (ps : List ClientPacket). length (filter is_won_unlink ps)) one))) i;
-      })
+      (counted-is ending (record old { lives = lives }) (length (filter is_ret_submit (sent st id o (p.from ∷ [])))) (length (filter is_won_unlink (sent st id o (p.from ∷ [])))) answered_fits unlinked_fits
+      (ap (λ (ps : List ClientPacket). length (filter is_ret_submit ps)) one ∙ count.answered)
+      (ap (λ (ps : List ClientPacket). length (filter is_won_unlink ps)) one ∙ count.unlinked))
       (gives s its ∙ (λ i. with_answers out ((sym (flat_map-map client_spelling Urb (answers_by s o l.unlinker)) ∙ sym (ap (flat_map client_spelling) one)) i) (note.Answered (sym p.is i).seqnum ∷ []))))
 
   -- which is told

@@ -1,9 +1,14 @@
-use Rattle.std.proofs.Common.{None, OnOk, OnErr, sym, subst}
+use Rattle.std.proofs.Common.{◌≡◌, ◌⊎◌, ℕ, None, OnOk, OnErr, sym, ap, subst, inl, inr}
+use Rattle.usb_base.specs.Status.{status_of}
+use Rattle.redir_wire.specs.declared.packet.Header.{Header}
+use Rattle.redir_wire.specs.declared.packet.RedirControl.{RedirControl}
+use Rattle.redir_wire.specs.declared.packet.RedirControl.TheVariants as plain
 use Rattle.redir_wire.specs.Capability.{announced, caps_of, agreed}
 use Rattle.redir_data.specs.declared.packet.RedirPacket.TheVariants.{Plain}
 use Rattle.gate_core.specs.declared.state.kept.Kept.{Kept}
-use Rattle.gate_history.specs.step.Marks.{Effect, Agrees}
-use Rattle.gate_history.specs.step.Meaning.{mark_as, fact_of}
+use Rattle.gate_history.specs.step.Marks.{Mark, Effect, Agrees, StreamTold}
+use Rattle.gate_history.specs.state.State.{State}
+use Rattle.gate_history.specs.step.Meaning.{mark_as, fact_of, told_meaning}
 use Rattle.gate_history.specs.step.Wants.{GivesSome}
 use Rattle.gate_core.specs.inner.state.Holds.{Does}
 use Rattle.gate_core.proofs.lemmas.host.Answer.{does-agree, told-other}
@@ -32,22 +37,19 @@ returns-in_default c =
           (c.told_fact.ensures.wants st at place h sound);
     }
 
+-- a status of a stream means the same of either kind, and tells no fact
+told-status : (st : State) (at : ℕ) (h : Header) (p : RedirControl) (status endpoint : ℕ) → (p ≡ plain.IsoStatus status endpoint) ⊎ (p ≡ plain.InterruptStatus status endpoint) →
+    mark_as st (told_meaning st at h (Plain p)) (fact_of (Plain p)) ≡ mark_as st (StreamTold h.id endpoint (status_of status)) None
+told-status st at h p status endpoint (inl is) = ap (λ (q : RedirControl). mark_as st (told_meaning st at h (Plain q)) (fact_of (Plain q))) is
+told-status st at h p status endpoint (inr is) = ap (λ (q : RedirControl). mark_as st (told_meaning st at h (Plain q)) (fact_of (Plain q))) is
+
 pub returns-in-IsoStatus-clause-ok : goal.returns-in-IsoStatus-clause-ok
 returns-in-IsoStatus-clause-ok c st at place h sound going =
-    rw c.in-IsoStatus.is (c.told_stream.ensures.ok st h sound)
+    rw (told-status st at c.args.header.now c.args.packet.now c.in-IsoStatus.status c.in-IsoStatus.endpoint c.in-IsoStatus.is) (c.told_stream.ensures.ok st h sound)
 
 pub returns-in-IsoStatus-clause-err : goal.returns-in-IsoStatus-clause-err
 returns-in-IsoStatus-clause-err c = c.told_stream.ensures.err
 
-pub returns-in-InterruptStatus-clause-ok : goal.returns-in-InterruptStatus-clause-ok
-returns-in-InterruptStatus-clause-ok c st at place h sound going =
-    rw c.in-InterruptStatus.is (c.told_stream-in-InterruptStatus.ensures.ok st h sound)
-
-pub returns-in-InterruptStatus-clause-err : goal.returns-in-InterruptStatus-clause-err
-returns-in-InterruptStatus-clause-err c = c.told_stream-in-InterruptStatus.ensures.err
-
 pub returns-in-IsoStatus-clause-wants : goal.returns-in-IsoStatus-clause-wants
-returns-in-IsoStatus-clause-wants c st at place h sound = rw c.in-IsoStatus.is (c.told_stream.ensures.wants st h sound)
-
-pub returns-in-InterruptStatus-clause-wants : goal.returns-in-InterruptStatus-clause-wants
-returns-in-InterruptStatus-clause-wants c st at place h sound = rw c.in-InterruptStatus.is (c.told_stream-in-InterruptStatus.ensures.wants st h sound)
+returns-in-IsoStatus-clause-wants c st at place h sound =
+    subst (λ (m : Mark). OnErr c.told_stream.result (GivesSome st m)) (sym (told-status st at c.args.header.now c.args.packet.now c.in-IsoStatus.status c.in-IsoStatus.endpoint c.in-IsoStatus.is)) (c.told_stream.ensures.wants st h sound)
