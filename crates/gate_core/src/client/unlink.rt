@@ -49,8 +49,7 @@ impl Kept {
         let Some(at) = self.lives.place_of_number(target) else {
             return write_ret_unlink(by, 0, &mut out.to_client);
         };
-        let live = self.lives.at(at).unwrap();
-        match live.asked_back() {
+        match self.lives.held_at(at).asked_back() {
             AskedBack::Already(_) => write_ret_unlink(by, 0, &mut out.to_client),
             AskedBack::Cancel(id) => {
                 write_cancel(id, self.caps, &mut out.to_host)?;

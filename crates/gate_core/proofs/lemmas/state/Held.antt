@@ -115,6 +115,10 @@ number-taken p r i is = without-live r i (position_found p r.live i is).1 ∙ ap
 pub among-both : (p : Live → Bool) (r : Requests) (i : ℕ) → position p r.live ≡ Some i → i < length (in_flight r)
 among-both p r i is = let within = (position_found p r.live i is).1 in let both = length-append r.live r.abandoned in omega (arith, within, both)
 
+-- what has its place among both lists is what has it among the live
+pub among-live : (p : Live → Bool) (r : Requests) (i : ℕ) (l : Live) → position p r.live ≡ Some i → slice_get (in_flight r) i ≡ Some l → slice_get r.live i ≡ Some l
+among-live p r i l is both = let one = there r.live i (position_found p r.live i is).1 in one.1 ∙ sym (there-too r.live r.abandoned i one.0 one.1) ∙ both
+
 -- ---- what stays so of those that are left
 
 each-removed : {X : Type 0} (P : X → Type 0) (xs : List X) (i : ℕ) → Each P xs → Each P (remove xs i)
