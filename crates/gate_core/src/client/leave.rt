@@ -6,7 +6,6 @@ ghost use Rattle.usb_base.specs.declared.side.Side.TheVariants.{Client};
 ghost use Rattle.unlink_race.specs.Searches.{goes_by_id};
 ghost use Rattle.gate_history.specs.declared.note.Note.TheVariants.{ClientGone};
 ghost use Rattle.gate_history.specs.step.Marks.{Ends, Refuses};
-ghost use Rattle.gate_history.specs.state.Sides.{refusal};
 ghost use Rattle.gate_history.specs.state.Ups.{no_streams};
 ghost use Rattle.gate_history.specs.state.State.{State};
 ghost use Rattle.gate_history.specs.step.Meaning.{mark_as};
@@ -93,10 +92,8 @@ impl Kept {
     }
 
     /// What the client has at the host is abandoned.
-    fn abandon(&mut self)
-        requires kept { IsKept self.old }
-        requires gone { self.old.imported ≡ false }
-        ensures kept { IsKept self.new }
+    pub fn abandon(&mut self)
+        ensures kept { IsKept self.old → self.old.imported ≡ false → IsKept self.new }
         ensures abandoned { self.new ≡ record self.old { lives = record { live = []; abandoned = self.old.lives.abandoned ++ filter goes_by_id self.old.lives.live } } }
     {
         // Of live and abandoned requests there are one kind alone.

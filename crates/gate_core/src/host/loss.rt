@@ -7,7 +7,6 @@ ghost use Rattle.redir_wire.specs.Header.{IdFits};
 ghost use Rattle.gate_history.specs.state.Flight.{wide_ids};
 ghost use Rattle.gate_history.specs.declared.note.Note.TheVariants.{DeviceGone};
 ghost use Rattle.gate_history.specs.step.Marks.{Disconnects, Ends, Refuses};
-ghost use Rattle.gate_history.specs.state.Sides.{refusal};
 ghost use Rattle.gate_history.specs.state.State.{State};
 ghost use Rattle.gate_history.specs.step.Meaning.{mark_as};
 ghost use Rattle.gate_history.specs.write.Notes.{when};
@@ -49,11 +48,7 @@ impl Kept {
         let live = self.lives.len() as u64;
         self.answered = self.answered.saturating_add(live.saturating_sub(unlinked));
         self.unlinked = self.unlinked.saturating_add(unlinked);
-        // Of live and abandoned requests there are one kind alone.
-        self.lives.one_is_empty();
-        if self.lives.abandoned() == 0 {
-            self.lives.abandon();
-        }
+        self.abandon();
         self.lives.forget_abandoned();
         self.facts = Facts::none();
         self.streams.clear();
