@@ -6,6 +6,7 @@ mod host_rows;
 mod hosts;
 mod laid_out;
 mod lanes;
+mod numbers;
 mod outside;
 mod requests;
 mod scripts;
