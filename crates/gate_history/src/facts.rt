@@ -39,8 +39,8 @@ impl Facts {
     {
         match packet {
             RedirControl::Connect(connect) => self.connect = Some(*connect),
-            RedirControl::InterfaceInfo(info) => self.interfaces = Some(*info),
-            RedirControl::EpInfo(info) => self.table = info.table(),
+            RedirControl::InterfaceInfo(info) => self.interfaces = Some(*info.get()),
+            RedirControl::EpInfo(info) => self.table = info.get().table(),
             RedirControl::ConfigurationStatus {
                 status,
                 configuration,

@@ -1,7 +1,7 @@
 -- The words of a list or import request, fields in wire order behind the version and the code.
 use Rattle.std.specs.Prelude.{ℕ, List, [], ◌∷◌, codes}
 use Rattle.usbip_op.specs.declared.packet.OpPacket.{OpPacket}
-use Rattle.usbip_op.specs.declared.packet.OpPacket.TheVariants.{ReqDevlist, ReqImport, RepDevlist, RepImport}
+use Rattle.usbip_op.specs.declared.packet.OpPacket.TheVariants.{ReqDevlist, ReqImport}
 use Rattle.packet_show.specs.Line.{decimal, hex_word, line}
 
 -- a reply isn't shown
@@ -12,9 +12,3 @@ client_words _ = []
 
 abbrev pub client_line : ℕ → OpPacket → List ℕ
 client_line place p = line place (client_words p)
-
-abbrev pub status_of : OpPacket → ℕ
-status_of (ReqDevlist status) = status
-status_of (ReqImport status busid) = status
-status_of (RepDevlist status devices) = status
-status_of (RepImport status device) = status

@@ -4,12 +4,12 @@ ghost use Rattle.std.specs.Prelude.{◌≡◌, ◌++◌};
 ghost use Rattle.usb_base.specs.Writes.{Appends, AppendsSome};
 ghost use Rattle.usbip_op.specs.declared.packet.OpPacket.TheVariants.{ReqDevlist, ReqImport};
 ghost use Rattle.packet_show.specs.Line.{decimal, spaced_words};
-ghost use Rattle.packet_show.specs.Client.{client_line, client_words, status_of};
+ghost use Rattle.packet_show.specs.Client.{client_line, client_words};
 
 use crate::line::{end_line, push_begin, push_bytes, push_number};
 use std::alloc::Global;
 use usb_base::{Bytes, Memory};
-use usbip_op::{BUS_ID_SIZE, OpPacket, OpRequest};
+use usbip_op::{BUS_ID_SIZE, OpRequest};
 
 /// Appends the line of a request, whose first byte stands at `place` of its stream. For want of memory `out`
 /// stands.
@@ -21,7 +21,7 @@ pub fn show_client(
 ) -> Result<(), Memory>
     ensures { Appends result out.old out.new (client_line place request.now) }
 {
-    let status = status_of(request);
+    let status = request.status();
     match request.busid() {
         None => show_devlist(place, status, out),
         Some(busid) => show_import(alloc, place, status, &busid, out),
@@ -50,17 +50,6 @@ pub fn show_import(
     let from = out.len();
     let begun = push_import(alloc, place, status, busid, out);
     end_line(begun, from, out)
-}
-
-fn status_of(request: &OpRequest) -> u32
-    ensures { result ≡ status_of request.now }
-{
-    match request.packet() {
-        OpPacket::ReqDevlist { status }
-        | OpPacket::ReqImport { status, .. }
-        | OpPacket::RepDevlist { status, .. }
-        | OpPacket::RepImport { status, .. } => status,
-    }
 }
 
 fn push_devlist(place: u64, status: u32, out: &mut Bytes) -> Result<(), Memory>

@@ -86,7 +86,7 @@ fn push_endpoint_of(ep: EpAddr, caps: Caps, bytes: &[u8], out: &mut Output) {
 
 fn push_told_row(ep: EpAddr, packet: &RedirPacket, out: &mut Output) {
     match packet {
-        RedirPacket::Plain(RedirControl::EpInfo(info)) => push_row(info.table().row(ep), out),
+        RedirPacket::Plain(RedirControl::EpInfo(info)) => push_row(info.get().table().row(ep), out),
         _ => out.refuse(),
     }
 }

@@ -20,7 +20,7 @@ pub fn advance(state: &mut RedirState, packet: &RedirPacket)
     ensures { state.new ≡ advanced state.old packet.now }
 {
     if let RedirPacket::Plain(RedirControl::Hello(hello)) = packet {
-        *state = RedirState::after_hello(hello);
+        *state = RedirState::after_hello(hello.get());
     }
 }
 

@@ -1,5 +1,5 @@
 -- The packets that move no data of a transfer.
-use Rattle.std.specs.Prelude.{ℕ, List, ◌==◌, not, nat_le, nat_lt, Bool, false, [], ◌∷◌, length}
+use Rattle.std.specs.Prelude.{ℕ, List, ◌==◌, nat_le, nat_lt, Bool, true, false, [], ◌∷◌}
 use Rattle.std.specs.Int.{w32}
 use Rattle.std.specs.Option.{option_map_or}
 use Rattle.usb_base.specs.declared.reason.Reason.{Reason}
@@ -13,7 +13,7 @@ use Rattle.redir_wire.specs.declared.state.RedirState.{RedirState}
 use Rattle.redir_wire.specs.declared.packet.Way.{Way}
 use Rattle.redir_wire.specs.declared.packet.Header.{Header}
 use Rattle.redir_wire.specs.declared.packet.RedirControl.{RedirControl}
-use Rattle.redir_wire.specs.declared.packet.RedirControl.TheVariants.{Hello, Disconnect}
+use Rattle.redir_wire.specs.declared.packet.RedirControl.TheVariants.{Hello, InterfaceInfo, EpInfo, Disconnect}
 use Rattle.redir_wire.specs.Bodies.{BodyCheck, Bodies, packets}
 use Rattle.redir_wire.specs.Spelling.{fields, number_of}
 use Rattle.redir_wire.specs.Ranges.{IsControl}
@@ -45,7 +45,9 @@ controls caps = record {
 abbrev pub plain : RedirState → Way → Format (Header × RedirControl) Reason
 plain s way = packets (controls s.caps) s way
 
--- only the words of a hello take memory
+-- a hello, an interface_info and an ep_info lie on the heap
 abbrev pub takes_memory : RedirControl → Bool
-takes_memory (Hello h) = not (length h.words == 0)
+takes_memory (Hello h) = true
+takes_memory (InterfaceInfo i) = true
+takes_memory (EpInfo e) = true
 takes_memory _ = false

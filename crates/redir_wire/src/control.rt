@@ -61,7 +61,7 @@ impl RedirControl {
         ensures { result ≡ words_length self.now }
     {
         match self {
-            RedirControl::Hello(hello) => hello.words.len() as u32 * 4,
+            RedirControl::Hello(hello) => hello.get().words.len() as u32 * 4,
             _ => 0,
         }
     }
@@ -78,12 +78,13 @@ impl RedirControl {
     {
         plain_types!(write_by!(self, writer, out, {
             RedirControl::Hello(hello) => {
+                let hello = hello.get();
                 writer.byte_table(&hello.version, out)?;
                 writer.longs(hello.words.as_slice(), out)
             }
             RedirControl::Connect(connect) => write_connect(connect, more, writer, out),
-            RedirControl::InterfaceInfo(info) => write_interface_info(info, writer, out),
-            RedirControl::EpInfo(info) => write_ep_info(info, more, writer, out),
+            RedirControl::InterfaceInfo(info) => write_interface_info(info.get(), writer, out),
+            RedirControl::EpInfo(info) => write_ep_info(info.get(), more, writer, out),
         }))
     }
 }

@@ -1,7 +1,7 @@
 //! The packets of usbredir that move no data of a transfer, as values (protocol description, version 0.7).
 
 use packet_stream::{Read, ReadError};
-use usb_base::{ENDPOINTS, List};
+use usb_base::{Boxed, ENDPOINTS, List};
 
 /// How many words of capabilities a hello may have. The limit is this gateway's own.
 pub const MAX_HELLO_WORDS: u32 = 32;
@@ -95,11 +95,12 @@ pub struct Header {
 }
 
 /// A packet that moves no data of a transfer. A `status` is 0 for success, else the byte of a `UsbStatus`; an
-/// `endpoint` is the byte of its address.
+/// `endpoint` is the byte of its address. The three packets that have more than 100 bytes lie on the heap, so that
+/// every other one is moved as what it is.
 #[derive(Drop)]
 pub enum RedirControl {
     /// Type 0, both ways: the first packet of its stream.
-    Hello(Hello),
+    Hello(Boxed<Hello>),
     /// Type 1, to the guest.
     Connect(Connect),
     /// Type 2, to the guest: the device is gone.
@@ -107,9 +108,9 @@ pub enum RedirControl {
     /// Type 3, to the host: resets the device.
     Reset,
     /// Type 4, to the guest.
-    InterfaceInfo(InterfaceInfo),
+    InterfaceInfo(Boxed<InterfaceInfo>),
     /// Type 5, to the guest.
-    EpInfo(EpInfo),
+    EpInfo(Boxed<EpInfo>),
     /// Type 6, to the host.
     SetConfiguration {
         configuration: u8,

@@ -21,11 +21,11 @@ use crate::packet::{
 use crate::types::plain_types;
 use packet_stream::ReadError;
 use std::alloc::Global;
-use usb_base::{ENDPOINTS, Memory, Reason, array_at, le_u16_at, le_u32_at};
+use usb_base::{Boxed, ENDPOINTS, Memory, Reason, array_at, le_u16_at, le_u32_at};
 
 /// Reads the packet whose header this is, from the bytes behind it, as far as they have come: None where fewer than
 /// the header announces are there. An interface_info with more than 32 interfaces is refused as soon as their
-/// number is there, by `Count` at place 0 of these bytes. Only the words of a hello take memory.
+/// number is there, by `Count` at place 0 of these bytes. Only a hello, an interface_info and an ep_info take memory.
 pub fn read_control(
     alloc: Global,
     head: &Header,
@@ -84,10 +84,16 @@ fn control_at(
     ensures err { OnErr result (takes_memory (fields_at caps size kind bytes.now) ≡ true) }
 {
     Ok(plain_types!(read_by!(kind, bytes, {
-        PlainKind::Hello => RedirControl::Hello(hello_at(alloc, bytes, (size as usize - 64) / 4)?),
+        PlainKind::Hello => {
+            let hello = hello_at(alloc, bytes, (size as usize - 64) / 4)?;
+            RedirControl::Hello(Boxed::new(alloc, hello)?)
+        }
         PlainKind::Connect => RedirControl::Connect(connect_at(caps.contains(Caps::CONNECT_VERSION), bytes)),
-        PlainKind::InterfaceInfo => RedirControl::InterfaceInfo(interface_info_at(bytes)),
-        PlainKind::EpInfo => RedirControl::EpInfo(ep_info_at(caps.contains(Caps::MAX_PACKET_SIZE), bytes)),
+        PlainKind::InterfaceInfo => RedirControl::InterfaceInfo(Boxed::new(alloc, interface_info_at(bytes))?),
+        PlainKind::EpInfo => {
+            let info = ep_info_at(caps.contains(Caps::MAX_PACKET_SIZE), bytes);
+            RedirControl::EpInfo(Boxed::new(alloc, info)?)
+        }
     })))
 }
 

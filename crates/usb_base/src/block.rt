@@ -1,6 +1,6 @@
 //! Blocks of memory, of whose bytes some count for nothing.
 
-ghost use Rattle.std.specs.Prelude.{◌≡◌, ◌+◌, ◌-◌, ◌++◌, ◌≤◌, ◌<◌, length, take, drop, IsTrue, OnOk, OnErr};
+ghost use Rattle.std.specs.Prelude.{◌≡◌, ◌+◌, ◌-◌, ◌++◌, ◌≤◌, ◌<◌, length, take, drop, OnOk, OnErr};
 ghost use Rattle.usb_base.specs.Incoming.{HasCome};
 
 use crate::incoming::Incoming;

@@ -3,6 +3,7 @@
 #![tactic(auto)]
 
 mod block;
+mod boxed;
 mod digits;
 mod endpoint;
 pub mod errno;
@@ -23,6 +24,7 @@ mod status;
 mod text;
 mod transfer;
 
+pub use boxed::Boxed;
 pub use digits::push_hex;
 pub use endpoint::{ENDPOINTS, EpAddr, EpKind, EpRow, EpTable, endpoint_count, is_in_endpoint};
 pub use incoming::Incoming;

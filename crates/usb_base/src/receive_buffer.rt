@@ -1,6 +1,6 @@
 //! The bytes of a stream, as its packets are taken out of them.
 
-ghost use Rattle.std.specs.Prelude.{◌≡◌, ◌+◌, ◌++◌, ◌<◌, ◌≤◌, [], length, take, drop, vec_len, IsTrue, ◌↔◌, OnOk, OnErr, IfSome, IsNone};
+ghost use Rattle.std.specs.Prelude.{◌≡◌, ◌+◌, ◌++◌, ◌<◌, ◌≤◌, [], length, take, drop, IsTrue, ◌↔◌, OnOk, OnErr, IfSome, IsNone};
 ghost use Rattle.usb_base.specs.Incoming.{HasCome};
 ghost use Rattle.usb_base.specs.Lists.{is_empty};
 

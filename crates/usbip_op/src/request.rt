@@ -4,7 +4,7 @@ ghost use Rattle.std.specs.Prelude.{◌≡◌, ℕ};
 ghost use Rattle.usbip_op.specs.declared.packet.OpPacket.TheVariants.{ReqDevlist, ReqImport};
 ghost use Rattle.usbip_op.specs.declared.packet.OpWay.TheVariants.{Request};
 ghost use Rattle.usbip_op.specs.Ranges.{way_of};
-ghost use Rattle.usbip_op.specs.Asked.{request_of};
+ghost use Rattle.usbip_op.specs.Asked.{request_of, status_of};
 
 use crate::code::BUS_ID_SIZE;
 use crate::packet::OpPacket;
@@ -47,6 +47,13 @@ impl OpRequest {
             status,
             busid: Some(busid),
         }
+    }
+
+    /// Its status, which a client sends as 0.
+    pub fn status(&self) -> u32
+        ensures { result ≡ status_of self.now }
+    {
+        self.status
     }
 
     /// The device that an import asks for, and None of a list request.

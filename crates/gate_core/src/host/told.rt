@@ -77,7 +77,7 @@ impl Kept {
     {
         match packet {
             RedirControl::Hello(hello) => {
-                self.agree(hello);
+                self.agree(hello.get());
                 Ok(())
             }
             RedirControl::Disconnect => self.disconnect(header.id, out),

@@ -23,7 +23,7 @@ use redir_wire::{Caps, Hello, RedirControl, write_control};
 use std::alloc::Global;
 use stream_buffers::Up;
 use unlink_race::{Live, LiveKind};
-use usb_base::{Bytes, EpAddr, EpKind, EpRow, Memory, Transfer};
+use usb_base::{Boxed, Bytes, EpAddr, EpKind, EpRow, Memory, Transfer};
 
 /// The packet that carries a transfer to the host, into which the transfer's body is moved.
 pub fn wire_packet(pipe: Pipe, transfer: Transfer) -> RedirData
@@ -155,7 +155,8 @@ pub fn write_hello(alloc: Global, out: &mut Bytes) -> Result<(), Memory>
     ensures err { OnErr result (out.new ≡ out.old) }
 {
     let hello = Hello::of(alloc, &GATEWAY_NAME, Caps::ANNOUNCED)?;
-    write_control(&RedirControl::Hello(hello), 0, Caps::empty(), out)
+    let hello = RedirControl::Hello(Boxed::new(alloc, hello)?);
+    write_control(&hello, 0, Caps::empty(), out)
 }
 
 /// Appends the cancel of a transfer on the wire, and nothing for any other request.

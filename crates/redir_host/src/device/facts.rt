@@ -12,10 +12,12 @@ ghost use Rattle.redir_host.specs.write.Told.{facts_bytes, connect_bytes};
 use crate::write::packet::write;
 use redir_data::RedirPacket;
 use redir_wire::{Caps, Connect, EpInfo, InterfaceInfo, RedirControl};
-use usb_base::{Bytes, ENDPOINTS, EpTable, Memory};
+use std::alloc::Global;
+use usb_base::{Boxed, Bytes, ENDPOINTS, EpTable, Memory};
 
 /// Appends the endpoints and the interfaces. For want of memory what was there still stands at the front.
 pub fn write_facts(
+    alloc: Global,
     table: &EpTable,
     interfaces: InterfaceInfo,
     caps: Caps,
@@ -26,7 +28,9 @@ pub fn write_facts(
     ensures ranges { OnOk result (Ranges (RedirControl.EpInfo (ep_info_of caps table.now)) × Ranges (RedirControl.InterfaceInfo interfaces)) }
     ensures err { OnErr result (Begins out.old out.new) }
 {
-    let endpoints = RedirPacket::Plain(RedirControl::EpInfo(ep_info(table, caps)));
+    let endpoints = Boxed::new(alloc, ep_info(table, caps))?;
+    let interfaces = Boxed::new(alloc, interfaces)?;
+    let endpoints = RedirPacket::Plain(RedirControl::EpInfo(endpoints));
     write(&endpoints, 0, caps, out)?;
     let interfaces = RedirPacket::Plain(RedirControl::InterfaceInfo(interfaces));
     write(&interfaces, 0, caps, out)?;

@@ -195,16 +195,17 @@ impl<G: Gadget> Host<G> {
         ensures err { OnErr result (Begins out.old out.new) }
     {
         self.clear(alloc, route, table, status, out)?;
-        self.tell_facts(out)
+        self.tell_facts(alloc, out)
     }
 
     /// Tells the endpoints and the interfaces as they are now.
-    pub fn tell_facts(&self, out: &mut Bytes) -> Result<(), Memory>
+    pub fn tell_facts(&self, alloc: Global, out: &mut Bytes) -> Result<(), Memory>
         ensures ok { OnOk result (out.new ≡ out.old ++ flat_map (sent_packet_bytes self.now.guest.caps) (facts_of self.now.guest.caps G.meaning self.now.gadget)) }
         ensures ranges { OnOk result (AllByRecursion InRange (facts_of self.now.guest.caps G.meaning self.now.gadget)) }
         ensures err { OnErr result (Begins out.old out.new) }
     {
         write_facts(
+            alloc,
             &self.gadget.table(),
             self.gadget.interfaces(),
             self.guest.caps,

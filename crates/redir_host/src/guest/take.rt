@@ -75,7 +75,7 @@ impl<G: Gadget> Host<G> {
         ensures err { OnErr result (Begins out.old out.new) }
     {
         match packet {
-            RedirControl::Hello(_) => self.greet(out),
+            RedirControl::Hello(_) => self.greet(alloc, out),
             RedirControl::Reset => {
                 self.resets_next = true;
                 Ok(())
@@ -118,12 +118,12 @@ impl<G: Gadget> Host<G> {
     }
 
     /// Tells the guest of the device.
-    fn greet(&self, out: &mut Bytes) -> Result<(), Memory>
+    fn greet(&self, alloc: Global, out: &mut Bytes) -> Result<(), Memory>
         ensures ok { OnOk result (out.new ≡ out.old ++ bytes_of (greets G.meaning self.now)) }
         ensures ranges { OnOk result (AllByRecursion InRange (greets G.meaning self.now).sent) }
         ensures err { OnErr result (Begins out.old out.new) }
     {
-        self.tell_facts(out)?;
+        self.tell_facts(alloc, out)?;
         write_connect(self.gadget.identity(), self.guest.caps, out)?;
         Ok(())
     }

@@ -1,6 +1,7 @@
 use Rattle.std.proofs.Common.{◌≡◌, ◌⊎◌, ℕ, None, OnOk, OnErr, sym, ap, subst, inl, inr}
 use Rattle.usb_base.specs.Status.{status_of}
 use Rattle.redir_wire.specs.declared.packet.Header.{Header}
+use Rattle.redir_wire.specs.declared.packet.Hello.{Hello}
 use Rattle.redir_wire.specs.declared.packet.RedirControl.{RedirControl}
 use Rattle.redir_wire.specs.declared.packet.RedirControl.TheVariants as plain
 use Rattle.redir_wire.specs.Capability.{announced, caps_of, agreed}
@@ -16,11 +17,12 @@ use Rattle.gate_core.proofs.state.kept.Kept.told_control.Goals as goal
 
 pub returns-in-Hello-clause-ok : goal.returns-in-Hello-clause-ok
 returns-in-Hello-clause-ok c st at place h sound going =
-    let caps = agreed (caps_of c.in-Hello.hello) announced in
+    let caps = agreed (caps_of c.get.result.now) announced in
     let k = c.requires.kept in
     rw c.in-Hello.is
+    (subst (λ (hello : Hello). Does st (mark_as st (Agrees (agreed (caps_of hello) announced)) None) c.args.self.now c.agree.new.self c.args.out.now c.args.out.now) c.get.ensures
     (subst (λ (new : Kept). Does st (mark_as st (Agrees caps) None) c.args.self.now new c.args.out.now c.args.out.now) (sym c.agree.ensures.agreed)
-    (does-agree st c.args.self.now caps c.args.out.now h k.answered_fits k.unlinked_fits k.dropped_fits))
+    (does-agree st c.args.self.now caps c.args.out.now h k.answered_fits k.unlinked_fits k.dropped_fits)))
 
 pub returns-in_default : goal.returns-in_default
 returns-in_default c =
