@@ -1,5 +1,3 @@
--- What is served: the gate, and a modelled device that is lent.
-pub mod Gate
-pub mod GateStops
-pub mod Lent
-pub mod LentStops
+-- What the calls of what is served do.
+pub mod Sends
+pub mod Taking

@@ -1,8 +1,8 @@
 //! The course of serving, in rounds.
 
-pub mod lending;
+pub mod at_door;
+pub mod between;
 pub mod polling;
 pub mod rounds;
 pub mod serve_end;
-pub mod serving;
 pub mod session;

@@ -4,12 +4,10 @@
 ghost use Rattle.std.specs.Prelude.{◌≡◌, List};
 ghost use Rattle.std.specs.List.{flat_map, AllByRecursion};
 ghost use Rattle.direct_device.specs.Direct.{first_direct};
-ghost use Rattle.direct_device.specs.Legal.{AreAllowed, IsDirect, all_answers};
+ghost use Rattle.direct_device.specs.Legal.{AreAllowed, all_answers};
 ghost use Rattle.direct_run.specs.Clients.{IsMove};
-ghost use Rattle.direct_run.specs.Kept.{SystemKept};
 ghost use Rattle.direct_run.specs.Known.{IsKnown};
 ghost use Rattle.direct_run.specs.Moves.{World, Move, run};
-ghost use Rattle.direct_run.specs.Stands.{SystemStands};
 ghost use Rattle.direct_run.specs.Steps.{PastStep};
 ghost use Rattle.direct_run.specs.World.{course};
 ghost use Rattle.direct_proof.specs.Deeds.{as_deeds};
@@ -17,7 +15,6 @@ ghost use Rattle.direct_proof.specs.Related.{Related};
 ghost use Rattle.direct_proof.specs.Runs.{AreDirectly, IsRun, urb_in};
 ghost use Rattle.direct_proof.specs.Shared.{Shared};
 ghost use Rattle.direct_proof.specs.Simulates.{Simulates};
-ghost use Rattle.direct_proof.specs.Steps.{answers_of, requests_of};
 
 use model_device::Gadget;
 
@@ -41,15 +38,5 @@ pub fn moves_are_direct<G: Gadget>()
 /// answers, and each client got its replies before its answers; and neither gateway nor host refuses the other.
 pub fn simulation<G: Gadget>()
     ensures { (first : G) (steps : List PastStep) → IsKnown G.meaning first (course G.meaning first steps)
-        → Simulates G.meaning first steps }
-{}
-
-/// A law: the simulation, of a system that stands for steps, with no premise beyond that. The trace that it keeps is a
-/// legal trace of the device attached directly, with the requests of the submits that were accepted, and what clients
-/// were sent, list and import replies aside, is just its answers.
-pub fn systems_are_direct<G: Gadget>()
-    ensures direct { (first : G) (kept : SystemKept G) (steps : List PastStep) → SystemStands G.meaning first kept steps
-        → IsDirect G.meaning first (requests_of (course G.meaning first steps)) kept.trace (answers_of (course G.meaning first steps)) }
-    ensures simulates { (first : G) (kept : SystemKept G) (steps : List PastStep) → SystemStands G.meaning first kept steps
         → Simulates G.meaning first steps }
 {}

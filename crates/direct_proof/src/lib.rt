@@ -4,4 +4,4 @@
 
 mod laws;
 
-pub use laws::{moves_are_direct, simulation, systems_are_direct};
+pub use laws::{moves_are_direct, simulation};

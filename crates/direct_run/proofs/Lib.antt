@@ -1,4 +1,4 @@
-mod Wires
+pub mod Wires
 mod Outputs
 mod Carried
 mod Headed
@@ -14,6 +14,5 @@ mod Flown
 mod Following
 mod Moved
 pub mod Courses
-mod Knowing
-mod Taking
+pub mod Knowing
 mod Examples

@@ -3,11 +3,8 @@ pub mod World
 pub mod Noted
 pub mod Trace
 pub mod Lines
-pub mod Kept
 pub mod Packets
 pub mod Known
-pub mod Stands
 pub mod Moves
 pub mod Clients
 pub mod Follows
-pub mod inner

@@ -10,9 +10,9 @@ use crate::spend::spend;
 use gate_outside::{ScriptDoors, Side, TextSink, TextSource};
 use session_tape::TextTape;
 use std::alloc::Global;
+use tape_run::Status;
 use usb_base::Memory;
 use usbgate::run;
-use usbgate_tapes::Status;
 
 /// How many bytes can be written to each side.
 const ROOM: usize = 262_144;

@@ -7,8 +7,8 @@ use crate::links::ran_recorded;
 use crate::runs::{Came, over_tape};
 use session_tape::{TextTape, Unmade};
 use std::alloc::Global;
+use tape_run::Status;
 use usb_base::Memory;
-use usbgate_tapes::Status;
 
 /// The file to record in, which isn't made yet.
 pub fn recording_of(alloc: Global, how: &How) -> Result<TextTape, Memory> {

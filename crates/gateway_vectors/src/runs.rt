@@ -7,9 +7,9 @@ use crate::links::ran_between;
 use crate::recorded::{check_recording, recording_of};
 use gate_outside::{NoDoors, TextSink, TextSource};
 use std::alloc::Global;
+use tape_run::Status;
 use usb_base::Memory;
 use usbgate::run;
-use usbgate_tapes::Status;
 
 /// What a run printed, whether of its text only the bytes of each side are compared, and how it ended.
 #[derive(Drop)]

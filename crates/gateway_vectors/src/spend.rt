@@ -3,13 +3,13 @@
 ghost use Rattle.std.specs.Prelude.{◌≡◌, ◌≤◌, false};
 ghost use Rattle.usb_base.specs.declared.side.Side.TheVariants.{Client, Host};
 
-use bridge_run::{AfterLoss, ServeTerms, serve, serve_host};
+use bridge_serve::{AfterLoss, ServeTerms, serve, serve_host};
 use gate_outside::{Doors, Sink};
 use model_device::Loopback;
 use session_tape::NoTape;
 use std::alloc::Global;
+use tape_run::Status;
 use usbgate_commands::ended_as;
-use usbgate_tapes::Status;
 
 /// How many rounds in a row may bring nothing.
 const IDLE: u64 = 5;

@@ -4,8 +4,8 @@ use crate::cut::joined;
 use crate::how::How;
 use crate::runs::Came;
 use std::alloc::Global;
+use tape_run::Status;
 use usb_base::{Memory, Side};
-use usbgate_tapes::Status;
 
 /// Whether a run printed this text and had this end; if not, where they part.
 pub fn told(

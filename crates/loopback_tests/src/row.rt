@@ -2,7 +2,8 @@
 
 use crate::act::{Act, Deed, side_of};
 use crate::serving::served;
-use bridge_run::{AfterLoss, ServeEnd};
+use bridge_run::ServeEnd;
+use bridge_serve::AfterLoss;
 use hex::FromHexError;
 use named_packets::Packets;
 use std::alloc::{AllocError, Global};

@@ -1,6 +1,6 @@
 //! The line of a list or import request.
 
-ghost use Rattle.std.specs.Prelude.{◌≡◌, ◌++◌};
+ghost use Rattle.std.specs.Prelude.{◌++◌};
 ghost use Rattle.usb_base.specs.Writes.{Appends, AppendsSome};
 ghost use Rattle.usbip_op.specs.declared.packet.OpPacket.TheVariants.{ReqDevlist, ReqImport};
 ghost use Rattle.packet_show.specs.Line.{decimal, spaced_words};

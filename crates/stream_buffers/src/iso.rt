@@ -1,6 +1,6 @@
 //! What an isochronous request is given: of each of its packets what fits into its descriptor.
 
-ghost use Rattle.std.specs.Prelude.{◌≡◌, ◌≤◌, ◌<◌, ◌^◌, ◌∷◌, [], ℕ, None, length, IfSome, IsTrue, MatchOption, OnErr};
+ghost use Rattle.std.specs.Prelude.{◌≡◌, ◌≤◌, ◌<◌, ◌^◌, ℕ, None, length, IfSome, IsTrue, MatchOption, OnErr};
 ghost use Rattle.usb_base.specs.Writes.{AppendsSome};
 ghost use Rattle.usb_base.specs.declared.limits.TheConstants.{MAX_PACKETS};
 ghost use Rattle.usbip_urb.specs.Buffers.{laid};

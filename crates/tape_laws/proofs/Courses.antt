@@ -16,8 +16,8 @@ use Rattle.bridge_run.specs.written.Recorded.{lines_of, is_last, is_full, writte
 use Rattle.bridge_run.specs.course.Course.{Setting, Course, Next, Making, AtDoor, AtClient, AtHost, AtEnd, Takes}
 use Rattle.bridge_run.specs.declared.course.polling.TheConstants.{POLL_LIMIT}
 use Rattle.bridge_run.specs.course.Calls.{Outcome, Goes, Stops, is_due, lines_with, put, settle, ends_next, take_event, come, heard, poll, gathered, make, call, and_then, calls}
-use Rattle.bridge_run.specs.served.Gate.{gate_events}
-use Rattle.usbgate_tapes.specs.tape.Tape.{host_ended}
+use Rattle.bridge_serve.specs.served.Gate.{gate_events}
+use Rattle.tape_run.specs.tape.Tape.{host_ended}
 use Rattle.bridge_run.specs.written.Ups.{client_at, host_at, client_behind, to_clients}
 use Rattle.tape_laws.specs.Ups.{host_behind, to_host}
 use Rattle.tape_laws.specs.Recordings.{recorded}

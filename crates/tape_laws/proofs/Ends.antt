@@ -15,16 +15,16 @@ use Rattle.bridge_run.specs.events.Prescribed.{Prescribed}
 use Rattle.bridge_run.specs.course.Calls.{Outcome, Goes, Stops, call, course_of}
 use Rattle.bridge_run.specs.course.Outside.{Outside, Written, written, Tells, IsBetween, IsRecordedInPart, IsRecordedUntold, HasLines, Cut}
 use Rattle.bridge_run.specs.events.RanOut.{RanOutWithin}
-use Rattle.bridge_run.specs.served.GateStops.{gate_runs_out}
+use Rattle.bridge_serve.specs.served.GateStops.{gate_runs_out}
 use Rattle.bridge_run.specs.course.Serves.{MayRunOut, Reaches, NoneWaits, EndsSo, CutShort, Leaves}
 use Rattle.bridge_run.proofs.lemmas.written.Gather.{ended-waiting}
-use Rattle.usbgate_tapes.specs.declared.status.Status.{Status}
-use Rattle.usbgate_tapes.specs.declared.status.Status.TheVariants.{Done, Usage, Refused, ReadFault, WriteFault, LinkFault, OutOfMemory, BadTape, Idle, Spent}
-use Rattle.usbgate_tapes.specs.Text.{opening_text, counts_line}
+use Rattle.tape_run.specs.declared.status.Status.{Status}
+use Rattle.tape_run.specs.declared.status.Status.TheVariants.{Done, Usage, Refused, ReadFault, WriteFault, LinkFault, OutOfMemory, BadTape, Idle, Spent}
+use Rattle.tape_run.specs.Text.{opening_text, counts_line}
 use Rattle.packet_show.specs.declared.tape.TheConstants.{TAPE_LIMIT as tape_limit}
-use Rattle.usbgate_tapes.specs.tape.TapeCommand.{Reading, last_text}
-use Rattle.usbgate_tapes.specs.tape.EventCommand.{over_events}
-use Rattle.usbgate_tapes.specs.Replay.{replay}
+use Rattle.tape_run.specs.tape.TapeCommand.{Reading, last_text}
+use Rattle.tape_run.specs.tape.EventCommand.{over_events}
+use Rattle.tape_run.specs.Replay.{replay}
 use Rattle.usbgate_commands.specs.links.Recording.{IsUnmade, IsUnbegun}
 use Rattle.usbgate_commands.specs.words.Serving.{ServeSettings}
 use Rattle.usbgate_commands.specs.links.Serves.{Known, setting_of, ended_as, IsUnrecorded, IsRecorded, Serves}

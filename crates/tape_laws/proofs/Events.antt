@@ -20,17 +20,17 @@ use Rattle.packet_show.specs.Tape.{replay_line, bytes_of, some_bytes}
 use Rattle.bridge_run.specs.events.Events.{PastLinkEvent, ClientComes, ClientQuiet, SidePiece, SideEnd}
 use Rattle.bridge_run.specs.written.Recorded.{lines_of}
 use Rattle.bridge_run.specs.events.Prescribed.{gained}
-use Rattle.bridge_run.specs.served.Gate.{gate_events, gate_notes}
-use Rattle.usbgate_tapes.specs.tape.Tape.{event_said, host_ended}
-use Rattle.usbgate_tapes.specs.Text.{sent_text}
+use Rattle.bridge_serve.specs.served.Gate.{gate_events, gate_notes}
+use Rattle.tape_run.specs.tape.Tape.{event_said, host_ended}
+use Rattle.tape_run.specs.Text.{sent_text}
 use Rattle.packet_show.specs.declared.tape.TheConstants.{TAPE_LIMIT as tape_limit}
-use Rattle.usbgate_tapes.specs.tape.TapeCommand.{TapeCommand, Progress, one_further}
-use Rattle.usbgate_tapes.specs.tape.EventCommand.{EventCommand, on_event, over_events}
-use Rattle.usbgate_tapes.specs.Replay.{replay}
-use Rattle.usbgate_tapes.specs.Run.{HasNoLF}
+use Rattle.tape_run.specs.tape.TapeCommand.{TapeCommand, Progress, one_further}
+use Rattle.tape_run.specs.tape.EventCommand.{EventCommand, on_event, over_events}
+use Rattle.tape_run.specs.Replay.{replay}
+use Rattle.tape_run.specs.Run.{HasNoLF}
 use Rattle.usbgate_commands.specs.words.Serving.{ServeSettings}
 use Rattle.tape_laws.specs.Recordings.{recorded, served, replayed, all_replayed}
-use Rattle.usbgate_tapes.proofs.lemmas.tape.Lines.{HasNoLF-append}
+use Rattle.tape_run.proofs.lemmas.tape.Lines.{HasNoLF-append}
 use Rattle.tape_laws.proofs.Spelled.{no-lf-tested, no-lf-hex, no-lf-refusal, refusal_words}
 use Rattle.tape_laws.proofs.Reading.{Reads, reads-none, reads-both, reads-line}
 

@@ -3,11 +3,11 @@ use Rattle.std.proofs.Common.{◌≡◌, ℕ, ◌+◌, ◌≤◌, Bool, cond, Li
 use Rattle.std.proofs.lemmas.Bool.{le-ltb}
 use Rattle.std.proofs.lemmas.List.{length-append}
 use Rattle.std.specs.Prelude.{option_map}
-use Rattle.usbgate_tapes.specs.tape.Tape.{lines_of, content}
-use Rattle.usbgate_tapes.specs.Run.{HasNoLF}
+use Rattle.tape_run.specs.tape.Tape.{lines_of, content}
+use Rattle.tape_run.specs.Run.{HasNoLF}
 use Rattle.packet_show.specs.declared.tape.TheConstants.{TAPE_LIMIT as tape_limit}
-use Rattle.usbgate_tapes.specs.tape.TapeCommand.{TapeCommand, Progress, one_further, next_line, Reading, on_line, read_lines}
-use Rattle.usbgate_tapes.proofs.lemmas.tape.Lines.{lines_of-line}
+use Rattle.tape_run.specs.tape.TapeCommand.{TapeCommand, Progress, one_further, next_line, Reading, on_line, read_lines}
+use Rattle.tape_run.proofs.lemmas.tape.Lines.{lines_of-line}
 use Rattle.tape_laws.proofs.Spelled.{content-line}
 
 -- text before that of a reading

@@ -7,19 +7,19 @@ use Rattle.usb_base.specs.Writes.{Begins}
 use Rattle.gate_history.specs.step.Events.{PastEvent}
 use Rattle.session_tape.specs.Lines.{first_comment}
 use Rattle.bridge_run.specs.events.Events.{PastLinkEvent}
-use Rattle.bridge_run.specs.served.Gate.{gate_events}
+use Rattle.bridge_serve.specs.served.Gate.{gate_events}
 use Rattle.packet_show.specs.declared.tape.ReplayLine.{ReplayLine}
 use Rattle.packet_show.specs.declared.tape.ReplayLine.TheVariants.{Skip}
 use Rattle.packet_show.specs.Tape.{replay_line}
-use Rattle.usbgate_tapes.specs.tape.Tape.{event_said, lines_of, content}
-use Rattle.usbgate_tapes.specs.Text.{opening_text}
+use Rattle.tape_run.specs.tape.Tape.{event_said, lines_of, content}
+use Rattle.tape_run.specs.Text.{opening_text}
 use Rattle.packet_show.specs.declared.tape.TheConstants.{TAPE_LIMIT as tape_limit}
-use Rattle.usbgate_tapes.specs.tape.TapeCommand.{Progress, begin, one_further, next_line, Reading, on_line, read_lines, last_text}
-use Rattle.usbgate_tapes.specs.tape.EventCommand.{on_event, over_events}
-use Rattle.usbgate_tapes.specs.Replay.{replay}
+use Rattle.tape_run.specs.tape.TapeCommand.{Progress, begin, one_further, next_line, Reading, on_line, read_lines, last_text}
+use Rattle.tape_run.specs.tape.EventCommand.{on_event, over_events}
+use Rattle.tape_run.specs.Replay.{replay}
 use Rattle.usbgate_commands.specs.words.Serving.{ServeSettings}
-use Rattle.usbgate_tapes.specs.Run.{HasNoLF}
-use Rattle.usbgate_tapes.proofs.lemmas.tape.Lines.{HasNoLF-append}
+use Rattle.tape_run.specs.Run.{HasNoLF}
+use Rattle.tape_run.proofs.lemmas.tape.Lines.{HasNoLF-append}
 use Rattle.std.specs.Prelude.{codes, option_map}
 use Rattle.std.specs.Fmt.{decimal}
 use Rattle.bridge_run.specs.written.Recorded.{lines_of as event_lines}

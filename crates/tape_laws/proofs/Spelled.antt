@@ -12,9 +12,9 @@ use Rattle.usb_base.specs.declared.reason.Reason.TheVariants.{Version, OpCode, C
 use Rattle.usb_base.specs.declared.refusal.Refusal.{Refusal}
 use Rattle.usb_base.specs.Reason.{number_of, name_of}
 use Rattle.usb_base.specs.Refusal.{side_name, kept_text}
-use Rattle.usbgate_tapes.specs.tape.Tape.{content}
-use Rattle.usbgate_tapes.specs.Run.{HasNoLF}
-use Rattle.usbgate_tapes.proofs.lemmas.tape.Lines.{HasNoLF-append}
+use Rattle.tape_run.specs.tape.Tape.{content}
+use Rattle.tape_run.specs.Run.{HasNoLF}
+use Rattle.tape_run.proofs.lemmas.tape.Lines.{HasNoLF-append}
 
 -- ---- a line without its LF
 

@@ -10,19 +10,19 @@ use Rattle.bridge_run.specs.events.Events.{PastLinkEvent}
 use Rattle.bridge_run.specs.course.Course.{Course, Next, Making}
 use Rattle.bridge_run.specs.course.Calls.{Goes, Stops, call, course_of}
 use Rattle.bridge_run.specs.course.Outside.{Outside}
-use Rattle.bridge_run.specs.served.Gate.{gate_events}
-use Rattle.bridge_run.specs.served.GateStops.{gate_runs_out}
+use Rattle.bridge_serve.specs.served.Gate.{gate_events}
+use Rattle.bridge_serve.specs.served.GateStops.{gate_runs_out}
 use Rattle.bridge_run.specs.events.Prescribed.{gained}
 use Rattle.bridge_run.specs.events.RanOut.{RanOutWithin}
 use Rattle.bridge_run.specs.written.Recorded.{event_line, lines_of}
 use Rattle.bridge_run.specs.course.Serves.{Reaches}
-use Rattle.usbgate_tapes.specs.declared.status.Status.{Status}
-use Rattle.usbgate_tapes.specs.declared.status.Status.TheVariants.{Done, Usage, Refused, ReadFault, WriteFault, LinkFault, OutOfMemory, BadTape, Idle, Spent}
-use Rattle.usbgate_tapes.specs.Text.{opening_text, counts_line}
-use Rattle.usbgate_tapes.specs.tape.Tape.{lines_of as tape_lines}
-use Rattle.usbgate_tapes.specs.tape.TapeCommand.{Progress, Reading, read_lines, read_tape, last_text, whole_text}
-use Rattle.usbgate_tapes.specs.tape.EventCommand.{over_events}
-use Rattle.usbgate_tapes.specs.Replay.{replay}
+use Rattle.tape_run.specs.declared.status.Status.{Status}
+use Rattle.tape_run.specs.declared.status.Status.TheVariants.{Done, Usage, Refused, ReadFault, WriteFault, LinkFault, OutOfMemory, BadTape, Idle, Spent}
+use Rattle.tape_run.specs.Text.{opening_text, counts_line}
+use Rattle.tape_run.specs.tape.Tape.{lines_of as tape_lines}
+use Rattle.tape_run.specs.tape.TapeCommand.{Progress, Reading, read_lines, read_tape, last_text, whole_text}
+use Rattle.tape_run.specs.tape.EventCommand.{over_events}
+use Rattle.tape_run.specs.Replay.{replay}
 use Rattle.usbgate_commands.specs.words.Serving.{ServeSettings}
 use Rattle.usbgate_commands.specs.links.Serves.{setting_of}
 use Rattle.bridge_run.specs.written.Ups.{to_clients}

@@ -3,8 +3,8 @@ use Rattle.std.specs.Prelude.{ℕ, List, [], ◌∷◌, ◌++◌}
 use Rattle.bridge_run.specs.events.Events.{PastLinkEvent}
 use Rattle.bridge_run.specs.events.Prescribed.{Prescribed, gained}
 use Rattle.bridge_run.specs.written.Recorded.{lines_of}
-use Rattle.bridge_run.specs.served.Gate.{gate_sends, gate_notes}
-use Rattle.usbgate_tapes.specs.Text.{sent_text}
+use Rattle.bridge_serve.specs.served.Gate.{gate_sends, gate_notes}
+use Rattle.tape_run.specs.Text.{sent_text}
 use Rattle.usbgate_commands.specs.words.Serving.{ServeSettings}
 
 -- the lines of each event, behind the first line of a recording

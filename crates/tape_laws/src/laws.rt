@@ -3,7 +3,7 @@
 ghost use Rattle.std.specs.Prelude.{◌≡◌, ◌≤◌, ℕ, List, length, Some, None};
 ghost use Rattle.bridge_run.specs.course.Course.{Course};
 ghost use Rattle.bridge_run.specs.course.Outside.{written, Tells};
-ghost use Rattle.usbgate_tapes.specs.declared.status.Status.{Status as End};
+ghost use Rattle.tape_run.specs.declared.status.Status.{Status as End};
 ghost use Rattle.usbgate_commands.specs.words.Serving.{ServeSettings};
 ghost use Rattle.usbgate_commands.specs.links.Serves.{Known, Serves};
 ghost use Rattle.packet_show.specs.declared.tape.TheConstants.{TAPE_LIMIT as tape_limit};

@@ -2,7 +2,7 @@
 //! stream are looked for, and beside it their keys in order of acceptance. By its seqnum or its id a request is found
 //! by an index, which says its key.
 
-ghost use Rattle.std.specs.Prelude.{◌≡◌, ◌==◌, ◌<◌, ◌≤◌, ◌+◌, ◌^◌, ℕ, not, true, List, [], ◌∷◌, ◌++◌, length, filter, remove, replicate, get_or, slice_get, slice_set, option_copied, option_map, Some};
+ghost use Rattle.std.specs.Prelude.{◌≡◌, ◌==◌, ◌<◌, ◌≤◌, ◌+◌, ◌^◌, ℕ, not, true, List, [], ◌∷◌, ◌++◌, length, filter, remove, replicate, get_or, slice_get, slice_set, option_map, Some};
 ghost use Rattle.std.specs.List.{find, position, list_any};
 ghost use Rattle.urb_arena.specs.Lanes.{find_in};
 ghost use Rattle.urb_arena.specs.ArenaView.{arena_view};

@@ -3,10 +3,10 @@ use Rattle.std.proofs.Common.{◌≡◌, ℕ, true, false, List, Option, Some, I
 use Rattle.std.proofs.lemmas.Option.{same_Some}
 use Rattle.gate_outside.specs.declared.fault.Failed.{Failed}
 use Rattle.gate_outside.specs.Calls.{Call}
-use Rattle.usbgate_tapes.specs.declared.status.Status.{Status}
-use Rattle.usbgate_tapes.specs.Printout.{Printout}
-use Rattle.usbgate_tapes.specs.Logs.{RunLeaves, RunWrites}
-use Rattle.usbgate_tapes.proofs.lemmas.runs.Unread.{leaves-unread}
+use Rattle.tape_run.specs.declared.status.Status.{Status}
+use Rattle.tape_run.specs.Printout.{Printout}
+use Rattle.tape_run.specs.Logs.{RunLeaves, RunWrites}
+use Rattle.tape_run.proofs.lemmas.runs.Unread.{leaves-unread}
 use Rattle.usbgate_commands.specs.declared.words.command.Command.{Command}
 use Rattle.usbgate_commands.specs.declared.words.command.Command.TheVariants.{Serve, Host}
 use Rattle.usbgate_commands.specs.words.Lending.{AskedLent}

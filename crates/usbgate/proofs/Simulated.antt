@@ -1,8 +1,8 @@
 -- What is simulated is of the device and of the number that the words ask for.
 use Rattle.std.proofs.Common.{◌≡◌, ℕ, List, Option, Result, subst}
 use Rattle.gate_outside.specs.declared.fault.Failed.{Failed}
-use Rattle.usbgate_tapes.specs.declared.model.device.Device.{Device}
-use Rattle.usbgate_tapes.specs.declared.status.Status.{Status}
+use Rattle.tape_run.specs.declared.model.device.Device.{Device}
+use Rattle.tape_run.specs.declared.status.Status.{Status}
 use Rattle.usbgate_commands.specs.declared.words.command.Command.TheVariants.{Model, Load}
 use Rattle.usbgate_tapes.specs.model.Simulated.{RunSimulates, MadeSimulates}
 

@@ -3,12 +3,12 @@
 use Rattle.std.specs.Prelude.{Option, Some, None}
 use Rattle.usbgate_commands.specs.declared.words.command.Command.{Command}
 use Rattle.usbgate_commands.specs.declared.words.command.Command.TheVariants.{Replay, Model, Show, Make, Load, Unknown}
-use Rattle.usbgate_tapes.specs.Printout.{Printout, tape_printout, printed, usage}
-use Rattle.usbgate_tapes.specs.tape.EventCommand.{over_events}
-use Rattle.usbgate_tapes.specs.Replay.{replay}
-use Rattle.usbgate_tapes.specs.model.Model.{model_of}
-use Rattle.usbgate_tapes.specs.Show.{show}
-use Rattle.usbgate_tapes.specs.model.Made.{made, loaded}
+use Rattle.tape_run.specs.Printout.{Printout, tape_printout, printed, usage}
+use Rattle.tape_run.specs.tape.EventCommand.{over_events}
+use Rattle.tape_run.specs.Replay.{replay}
+use Rattle.tape_run.specs.model.Model.{model_of}
+use Rattle.tape_run.specs.Show.{show}
+use Rattle.tape_run.specs.model.Made.{made, loaded}
 
 -- none where sockets are what it works on
 abbrev pub printout_of : Command → Option Printout

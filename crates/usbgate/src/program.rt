@@ -7,9 +7,9 @@ ghost use Rattle.usb_base.specs.declared.side.Side.TheVariants.{Client, Host};
 ghost use Rattle.session_tape.specs.Tapes.{WasThere};
 ghost use Rattle.bridge_run.specs.log.Log.{Told};
 ghost use Rattle.bridge_run.specs.course.Outside.{faults, OneRose};
-ghost use Rattle.usbgate_tapes.specs.declared.model.device.Device.{Device as ADevice};
-ghost use Rattle.usbgate_tapes.specs.Logs.{RunLeaves};
-ghost use Rattle.usbgate_tapes.specs.Printout.{Printout};
+ghost use Rattle.tape_run.specs.declared.model.device.Device.{Device as ADevice};
+ghost use Rattle.tape_run.specs.Logs.{RunLeaves};
+ghost use Rattle.tape_run.specs.Printout.{Printout};
 ghost use Rattle.usbgate.specs.Printouts.{printout_of};
 ghost use Rattle.usbgate_tapes.specs.model.Simulated.{RunSimulates, MadeSimulates};
 ghost use Rattle.usbgate_commands.specs.words.Serving.{ServeSettings};
@@ -22,9 +22,11 @@ ghost use Rattle.usbgate_commands.specs.words.Words.{texts, command_of};
 use gate_outside::{Doors, Sink, Source};
 use session_tape::MakeTape;
 use std::alloc::Global;
+use tape_run::runs::show;
+use tape_run::{Status, USAGE, make, print};
 use usbgate_commands::{Command, host, serve};
-use usbgate_tapes::runs::{model, replay, show};
-use usbgate_tapes::{Status, USAGE, load, make, print};
+use usbgate_tapes::load;
+use usbgate_tapes::runs::{model, replay};
 
 /// Does what the words say: `replay` puts the tape to a gate, and prints what that sends and which sides it refuses;
 /// `model` does the steps of the tape with a gateway and a modelled device, and prints what each tells; `show` prints

@@ -5,7 +5,7 @@
 ghost use Rattle.std.specs.Prelude.{◌≡◌, IfOk, drop, map, string_bytes, false};
 ghost use Rattle.std.specs.Process.{exit_status};
 ghost use Rattle.usb_base.specs.declared.side.Side.TheVariants.{Client, Host};
-ghost use Rattle.usbgate_tapes.specs.Code.{code_of};
+ghost use Rattle.tape_run.specs.Code.{code_of};
 ghost use Rattle.usbgate_commands.specs.words.Words.{texts};
 
 use gate_outside::{Doors, NoDoors, StdStream};
@@ -16,10 +16,10 @@ use std::net::Net;
 use std::process::ExitCode;
 use std::rt::{Clock, Env, Files};
 use std::{env, io, net};
+use tape_run::Status;
 use usb_base::{Memory, Side};
 use usbgate::run;
 use usbgate_commands::{COMMANDS, pace_of, wrong_with};
-use usbgate_tapes::Status;
 
 fn main(rt: HostRuntime) -> ExitCode {
     exit_code(run_args(&rt))

@@ -1,6 +1,3 @@
 -- What the proofs of functions cite, by subject.
-pub mod tape
-pub mod runs
-pub mod text
+pub mod replay
 pub mod model
-pub mod show

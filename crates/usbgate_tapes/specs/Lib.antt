@@ -1,12 +1,2 @@
-pub mod tape
-pub mod Text
-pub mod Replay
 pub mod model
-pub mod Show
-pub mod Printout
-pub mod Run
-pub mod Wants
-pub mod Logs
-pub mod Causes
-pub mod Code
 pub mod inner

@@ -1,5 +1,3 @@
--- What the code keeps and reads, tied to the definitions.
-pub mod tape
+-- What the code keeps, tied to the definitions.
 pub mod Replay
 pub mod model
-pub mod show

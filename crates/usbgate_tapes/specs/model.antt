@@ -1,5 +1,2 @@
--- A gateway and a modelled device, and the tapes that are made for them.
-pub mod Device
-pub mod Model
-pub mod Made
+-- A gateway and a modelled device, against the device attached directly.
 pub mod Simulated

@@ -2,24 +2,21 @@
 
 ghost use Rattle.std.specs.Prelude.{◌≡◌, ◌++◌, ◌||◌, not, [], List, IfOk, OnOk, OnErr, IsSome};
 ghost use Rattle.usb_base.specs.Lists.{is_empty};
-ghost use Rattle.direct_run.specs.Stands.{SystemStands};
+ghost use Rattle.direct_system.specs.Stands.{SystemStands};
 ghost use Rattle.direct_run.specs.Steps.{PastStep};
 ghost use Rattle.direct_run.specs.Trace.{told_first};
-ghost use Rattle.usbgate_tapes.specs.model.Model.{model, step_said};
-ghost use Rattle.usbgate_tapes.specs.Text.{told_text};
+ghost use Rattle.tape_run.specs.model.Model.{model, step_said};
+ghost use Rattle.tape_run.specs.Text.{told_text};
 ghost use Rattle.usbgate_tapes.specs.inner.model.Model.{HasDone, TakesSaid};
 
-pub mod device;
 pub mod load;
-pub mod make;
-pub mod user;
 
-use crate::tape::command::TapeCommand;
-use crate::text::{push_counts, push_told};
-use direct_run::{Step, System, Told};
+use direct_run::{Step, Told};
+use direct_system::System;
 use model_device::Gadget;
 use packet_show::{LineError, ModelLine};
 use std::alloc::Global;
+use tape_run::{TapeCommand, push_counts, push_told};
 use usb_base::{Bytes, Memory};
 
 /// A gateway and a modelled device, with which the steps of a tape are done.

@@ -4,15 +4,14 @@ ghost use Rattle.std.specs.Prelude.{◌≡◌, ◌++◌, ◌≤◌, [], ℕ, Lis
 ghost use Rattle.std.specs.List.{list_any};
 ghost use Rattle.gate_history.specs.step.Events.{PastEvent, event_of};
 ghost use Rattle.gate_history.specs.step.Refusals.{is_refusal};
-ghost use Rattle.usbgate_tapes.specs.Text.{opening_text, sent_text};
-ghost use Rattle.usbgate_tapes.specs.Replay.{replay};
+ghost use Rattle.tape_run.specs.Text.{opening_text, sent_text};
+ghost use Rattle.tape_run.specs.Replay.{replay};
 ghost use Rattle.usbgate_tapes.specs.inner.Replay.{HasReplayed, PutsEvent, Replays};
 
-use crate::tape::events::EventCommand;
-use crate::text::{push_bytes, push_counts, push_notes};
 use gate_core::Gate;
 use gate_history::{Event, Note, Notes};
 use std::alloc::Global;
+use tape_run::{EventCommand, push_bytes, push_counts, push_notes};
 use usb_base::{Bytes, Memory};
 
 /// A gate to which the events of a tape are put.

@@ -56,3 +56,8 @@ pub record NothingYet (idle budget : ℕ) (c : Course) : Type 0 where
   pub none_waits : c.waiting ≡ []
   pub waits : c.waits ≡ idle
   pub left : c.left ≡ budget
+
+-- what is served was just made: it stands for no event, and refuses nobody
+pub record IsJustMade (stands : List PastLinkEvent → Type 0) (p : Prescribed) : Type 0 where
+  pub stands_for : stands []
+  pub refuses_none : p.refusals [] ≡ []

@@ -5,8 +5,8 @@ use Rattle.bridge_run.specs.declared.events.coming.Coming.{Coming}
 use Rattle.bridge_run.specs.declared.events.coming.Coming.TheVariants.{Event, Taken}
 use Rattle.bridge_run.specs.events.Events.{PastLinkEvent, SidePiece, event_of}
 use Rattle.bridge_run.specs.events.Prescribed.{Prescribed}
-use Rattle.bridge_run.specs.inner.Sends.{nothing}
-use Rattle.bridge_run.specs.inner.Taking.{IsTaken}
+use Rattle.bridge_run.specs.served.Sends.{nothing}
+use Rattle.bridge_run.specs.served.Taking.{IsTaken}
 
 -- the event, where these are the bytes that were taken
 abbrev pub event_with : List ℕ → Coming → PastLinkEvent

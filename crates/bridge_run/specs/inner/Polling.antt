@@ -9,7 +9,7 @@ use Rattle.gate_outside.specs.Turns.{taken as count_of}
 use Rattle.bridge_run.specs.declared.events.sent.Sent.{Sent}
 use Rattle.bridge_run.specs.events.Events.{PastLinkEvent}
 use Rattle.bridge_run.specs.events.Prescribed.{Prescribed}
-use Rattle.bridge_run.specs.inner.Taking.{TakesCome}
+use Rattle.bridge_run.specs.served.Taking.{TakesCome}
 
 -- the side was polled, with so much room
 pub record IsPolled {D : Type 0} (link : D → Side → Link) (door : D → Door) (gives : D → Call → D → Type 0) (side : Side) (limit : ℕ) (polled : Polled) (room : List ℕ) (old new : D) : Type 0 where

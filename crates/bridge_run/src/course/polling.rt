@@ -5,7 +5,7 @@ ghost use Rattle.bridge_run.specs.declared.course.polling.TheConstants.{POLL_LIM
 ghost use Rattle.bridge_run.specs.inner.Polling.{IsPolled, Brings};
 
 use crate::events::sent::Sent;
-use crate::served::any::Served;
+use crate::served::Served;
 use gate_outside::{Doors, Polled, Side};
 use usb_base::{Incoming, Memory};
 

@@ -14,7 +14,7 @@ ghost use Rattle.bridge_run.specs.inner.Follows.{Prepared, IsServing, HasFaults,
 ghost use Rattle.bridge_run.specs.log.Asks.{Ask};
 ghost use Rattle.bridge_run.specs.log.Log.{Terms, Told, Logged};
 ghost use Rattle.bridge_run.specs.inner.Logging.{IsTaking, IsResting, IsAsking, PutLogs, HappenLogs, Logs};
-ghost use Rattle.bridge_run.specs.inner.Sends.{IsPart, SendsAll, SendsPart, nothing};
+ghost use Rattle.bridge_run.specs.served.Sends.{IsPart, SendsAll, SendsPart, nothing};
 ghost use Rattle.bridge_run.specs.inner.Stopping.{AreUp, IsStopping, StopLogs};
 ghost use Rattle.bridge_run.specs.inner.Idling.{NotIdle, IdledOnce, EndsWithin, RoundIdles};
 ghost use Rattle.usb_base.specs.declared.side.Side.TheVariants.{Client, Host};
@@ -26,7 +26,7 @@ use crate::course::serve_end::ServeEnd;
 use crate::events::coming::{Coming, ends_next};
 use crate::events::event::LinkEvent;
 use crate::events::sent::Sent;
-use crate::served::any::Served;
+use crate::served::Served;
 use crate::written::link::{close_link, write_link};
 use crate::written::recording::{record_coming, write_waiting};
 use gate_outside::{Doors, Polled, Side, Sink, write_all};

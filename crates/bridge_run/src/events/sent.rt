@@ -22,7 +22,7 @@ pub struct Sent {
 
 impl Sent {
     /// Nothing yet, which takes no memory.
-    pub fn new(alloc: Global) -> Self
+    pub(crate) fn new(alloc: Global) -> Self
         ensures client { result.to_client ≡ [] }
         ensures host { result.to_host ≡ [] }
         ensures refusals { result.refusals ≡ [] }
@@ -37,7 +37,7 @@ impl Sent {
     }
 
     /// Nothing again. The memory is kept with the bytes that stand in it: so a stream that takes it can lend it.
-    pub fn clear(&mut self)
+    pub(crate) fn clear(&mut self)
         ensures client { self.new.to_client ≡ [] }
         ensures host { self.new.to_host ≡ [] }
         ensures refusals { self.new.refusals ≡ [] }
@@ -50,42 +50,42 @@ impl Sent {
     }
 
     /// Whether bytes go to a side, a side is refused, or the client is let go.
-    pub fn is_any(&self) -> bool
+    pub(crate) fn is_any(&self) -> bool
         ensures { result ≡ sends_any self.now.to_client self.now.to_host self.now.refusals self.now.lets_go }
     {
         self.has_bytes() || !self.refusals.is_empty() || self.lets_go
     }
 
     /// Whether bytes go to a side.
-    pub fn has_bytes(&self) -> bool
+    pub(crate) fn has_bytes(&self) -> bool
         ensures { result ≡ (not (is_empty self.now.to_client) || not (is_empty self.now.to_host)) }
     {
         !self.to_client.is_empty() || !self.to_host.is_empty()
     }
 
     /// Whether the side is refused.
-    pub fn refuses(&self, side: Side) -> bool
+    pub(crate) fn refuses(&self, side: Side) -> bool
         ensures { result ≡ among side self.now.refusals }
     {
         self.refusals.as_slice().iter().any(|r| r.side == side)
     }
 
     /// Whether the client's link is to be closed.
-    pub fn drops_client(&self) -> bool
+    pub(crate) fn drops_client(&self) -> bool
         ensures { result ≡ (among Client self.now.refusals || self.now.lets_go) }
     {
         self.refuses(Side::Client) || self.lets_go
     }
 
     /// The first refusal.
-    pub fn refusal(&self) -> Option<Refusal>
+    pub(crate) fn refusal(&self) -> Option<Refusal>
         ensures { result ≡ first_of self.now.refusals }
     {
         self.refusals.as_slice().first().copied()
     }
 
     /// Appends the lines of the refusals.
-    pub fn push_lines(&self, alloc: Global, text: &mut Bytes) -> Result<(), Memory>
+    pub(crate) fn push_lines(&self, alloc: Global, text: &mut Bytes) -> Result<(), Memory>
         ensures written { OnOk result (text.new ≡ text.old ++ flat_map refusal_line self.now.refusals) }
         ensures wants { OnErr result (not (is_empty self.now.refusals) ≡ true) }
     {

@@ -3,9 +3,9 @@ use Rattle.std.specs.Prelude.{ℕ, false, List, None}
 use Rattle.gate_outside.specs.Calls.{Call}
 use Rattle.model_device.specs.Meaning.{Meaning}
 use Rattle.bridge_run.specs.course.Course.{AtDoor}
-use Rattle.bridge_run.specs.served.Lent.{lent_sends}
-use Rattle.bridge_run.specs.served.LentStops.{LentStops}
-use Rattle.usbgate_tapes.specs.declared.status.Status.{Status}
+use Rattle.bridge_serve.specs.served.Lent.{lent_sends}
+use Rattle.bridge_serve.specs.served.LentStops.{LentStops}
+use Rattle.tape_run.specs.declared.status.Status.{Status}
 use Rattle.usbgate_commands.specs.declared.links.serve.TheConstants.{BUDGET}
 use Rattle.usbgate_commands.specs.links.Logs.{HasLog}
 use Rattle.usbgate_commands.specs.links.Serves.{Known, EndsOf}

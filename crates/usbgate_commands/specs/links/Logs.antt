@@ -5,11 +5,11 @@ use Rattle.gate_outside.specs.Calls.{Call}
 use Rattle.bridge_run.specs.declared.course.serve_end.ServeEnd.{ServeEnd}
 use Rattle.bridge_run.specs.course.Course.{AtDoor}
 use Rattle.bridge_run.specs.events.Events.{PastLinkEvent}
-use Rattle.bridge_run.specs.served.Gate.{gate_sends}
-use Rattle.bridge_run.specs.served.GateStops.{gate_runs_out}
+use Rattle.bridge_serve.specs.served.Gate.{gate_sends}
+use Rattle.bridge_serve.specs.served.GateStops.{gate_runs_out}
 use Rattle.bridge_run.specs.log.Log.{Terms, Logged}
 use Rattle.bridge_run.specs.events.Prescribed.{Prescribed}
-use Rattle.usbgate_tapes.specs.declared.status.Status.{Status}
+use Rattle.tape_run.specs.declared.status.Status.{Status}
 use Rattle.usbgate_commands.specs.declared.links.serve.TheConstants.{BUDGET}
 use Rattle.usbgate_commands.specs.words.Lending.{AskedLent}
 use Rattle.usbgate_commands.specs.links.Serves.{Known, device_sends, device_runs_out, ended_as, setting_lent, EndsOf, Serves}

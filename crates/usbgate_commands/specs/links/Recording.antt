@@ -8,8 +8,8 @@ use Rattle.session_tape.specs.Tapes.{Counts, OneFault, WasThere}
 use Rattle.bridge_run.specs.course.Outside.{Outside, Faults, OneRose}
 use Rattle.usbgate_commands.specs.declared.words.command.Command.{Command}
 use Rattle.usbgate_commands.specs.declared.words.command.Command.TheVariants.{Serve}
-use Rattle.usbgate_tapes.specs.declared.status.Status.{Status}
-use Rattle.usbgate_tapes.specs.declared.status.Status.TheVariants.{Usage, ReadFault, WriteFault, LinkFault, OutOfMemory}
+use Rattle.tape_run.specs.declared.status.Status.{Status}
+use Rattle.tape_run.specs.declared.status.Status.TheVariants.{Usage, ReadFault, WriteFault, LinkFault, OutOfMemory}
 
 -- a file to record in is asked for
 abbrev pub records : Command → Bool

@@ -4,11 +4,11 @@ use Rattle.bridge_run.specs.declared.course.serve_end.ServeEnd.{ServeEnd}
 use Rattle.bridge_run.specs.declared.course.serve_end.ServeEnd.TheVariants as end
 use Rattle.bridge_run.specs.course.Course.{Setting, Course, Next, Making}
 use Rattle.bridge_run.specs.course.Calls.{Goes}
-use Rattle.bridge_run.specs.served.Gate.{gate_sends}
-use Rattle.bridge_run.specs.served.GateStops.{gate_runs_out}
+use Rattle.bridge_serve.specs.served.Gate.{gate_sends}
+use Rattle.bridge_serve.specs.served.GateStops.{gate_runs_out}
 use Rattle.bridge_run.specs.events.Events.{PastLinkEvent}
-use Rattle.bridge_run.specs.served.Lent.{lent_sends}
-use Rattle.bridge_run.specs.served.LentStops.{LentStops}
+use Rattle.bridge_serve.specs.served.Lent.{lent_sends}
+use Rattle.bridge_serve.specs.served.LentStops.{LentStops}
 use Rattle.usb_base.specs.declared.side.Side.{Side}
 use Rattle.gate_outside.specs.Link.{Link, Door}
 use Rattle.session_tape.specs.Tapes.{Counts, counts}
@@ -16,10 +16,10 @@ use Rattle.session_tape.specs.Lines.{first_comment}
 use Rattle.bridge_run.specs.course.Outside.{Outside, Written, Faults, outside, written, faults, Tells, HasCause, HasReason}
 use Rattle.bridge_run.specs.events.Prescribed.{Prescribed}
 use Rattle.bridge_run.specs.course.Serves.{NothingYet, Leaves}
-use Rattle.usbgate_tapes.specs.declared.model.device.Device.{Device}
-use Rattle.usbgate_tapes.specs.model.Device.{as_plugged}
-use Rattle.usbgate_tapes.specs.declared.status.Status.{Status}
-use Rattle.usbgate_tapes.specs.declared.status.Status.TheVariants.{Done, Refused, WriteFault, LinkFault, OutOfMemory, Idle, Spent}
+use Rattle.tape_run.specs.declared.model.device.Device.{Device}
+use Rattle.tape_run.specs.model.Device.{as_plugged}
+use Rattle.tape_run.specs.declared.status.Status.{Status}
+use Rattle.tape_run.specs.declared.status.Status.TheVariants.{Done, Refused, WriteFault, LinkFault, OutOfMemory, Idle, Spent}
 use Rattle.usbgate_commands.specs.declared.links.serve.TheConstants.{BUDGET}
 use Rattle.usbgate_commands.specs.words.Serving.{ServeSettings}
 use Rattle.usbgate_commands.specs.words.Lending.{AskedLent}

@@ -1,6 +1,6 @@
 -- What a modelled host is asked.
 use Rattle.std.specs.Prelude.{ℕ, List}
-use Rattle.usbgate_tapes.specs.declared.model.device.Device.{Device}
+use Rattle.tape_run.specs.declared.model.device.Device.{Device}
 
 pub record AskedLent : Type 0 where
   pub device : Device

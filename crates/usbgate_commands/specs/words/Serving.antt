@@ -1,6 +1,6 @@
 -- What the gateway between sockets is asked.
 use Rattle.std.specs.Prelude.{ℕ, List, Option}
-use Rattle.bridge_run.specs.declared.served.after_loss.AfterLoss.{AfterLoss}
+use Rattle.bridge_serve.specs.declared.served.after_loss.AfterLoss.{AfterLoss}
 
 pub record ServeSettings : Type 0 where
   -- the addresses of the host and of the clients' door

@@ -16,10 +16,10 @@ use Rattle.usbgate_commands.specs.declared.words.command_table.CommandRow.{Comma
 use Rattle.usbgate_commands.specs.declared.words.command_table.TheConstants.{ROWS}
 use Rattle.usbgate_commands.specs.words.CommandLine.{options, found}
 use Rattle.made_tape.specs.declared.made.TheConstants.{MOST_ROUNDS}
-use Rattle.usbgate_tapes.specs.declared.model.device.Device.{Device}
-use Rattle.usbgate_tapes.specs.model.Device.{named, device_of}
-use Rattle.bridge_run.specs.declared.served.after_loss.AfterLoss.{AfterLoss}
-use Rattle.bridge_run.specs.declared.served.after_loss.AfterLoss.TheVariants.{Keep, Close}
+use Rattle.tape_run.specs.declared.model.device.Device.{Device}
+use Rattle.tape_run.specs.model.Device.{named, device_of}
+use Rattle.bridge_serve.specs.declared.served.after_loss.AfterLoss.{AfterLoss}
+use Rattle.bridge_serve.specs.declared.served.after_loss.AfterLoss.TheVariants.{Keep, Close}
 use Rattle.usbgate_commands.specs.words.Serving.{ServeSettings}
 use Rattle.usbgate_commands.specs.words.Lending.{AskedLent}
 

@@ -4,7 +4,7 @@ ghost use Rattle.std.specs.Prelude.{◌≡◌};
 ghost use Rattle.usbgate_commands.specs.links.Serves.{ended_as};
 
 use bridge_run::ServeEnd;
-use usbgate_tapes::Status;
+use tape_run::Status;
 
 /// The status of this end.
 pub fn ended_as(end: ServeEnd) -> Status

@@ -10,11 +10,11 @@ ghost use Rattle.usbgate_commands.specs.inner.Lent.{IsLent};
 use crate::links::ended::ended_as;
 use crate::links::serve::BUDGET;
 use crate::words::lending::Lending;
-use bridge_run::serve_host;
+use bridge_serve::serve_host;
 use gate_outside::{Doors, Sink};
 use model_device::Gadget;
 use std::alloc::Global;
-use usbgate_tapes::{DeviceUser, Status};
+use tape_run::{DeviceUser, Status};
 
 /// Lends the device to a guest, and writes a line where that is refused.
 pub fn host<D: Doors, K: Sink>(

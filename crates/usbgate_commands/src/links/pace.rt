@@ -8,9 +8,9 @@ use chapter9::{WalkError, walk};
 use model_device::Gadget;
 use std::alloc::Global;
 use std::time::Duration;
+use tape_run::DeviceUser;
 use usb_base::request::{FROM_DEVICE, GET_DESCRIPTOR};
 use usb_base::{Bytes, EpAddr, Memory, Setup, Speed, Transfer};
-use usbgate_tapes::DeviceUser;
 
 /// The shortest interval of the endpoints of the device that the words ask for, by which it sends packets. None where
 /// they lend no device, or one that has no such endpoint.

@@ -7,19 +7,19 @@ ghost use Rattle.session_tape.specs.Lines.{first_comment};
 ghost use Rattle.bridge_run.specs.course.Course.{Making};
 ghost use Rattle.bridge_run.specs.course.Outside.{outside, faults};
 ghost use Rattle.usbgate_commands.specs.links.Recording.{IsUnmade, IsUnbegun, HasServed};
-ghost use Rattle.bridge_run.specs.served.Gate.{gate_sends};
-ghost use Rattle.bridge_run.specs.served.GateStops.{gate_runs_out};
+ghost use Rattle.bridge_serve.specs.served.Gate.{gate_sends};
+ghost use Rattle.bridge_serve.specs.served.GateStops.{gate_runs_out};
 ghost use Rattle.bridge_run.specs.log.Log.{Told};
 ghost use Rattle.usbgate_commands.specs.links.Logs.{HasLog, RunServes, terms_of};
 ghost use Rattle.usbgate_commands.specs.links.Serves.{Known, known_of, EndsOf, setting_of};
 
 use crate::links::ended::ended_as;
 use crate::words::serving::Serving;
-use bridge_run::ServeTerms;
+use bridge_serve::ServeTerms;
 use gate_outside::{Doors, Sink};
 use session_tape::{MakeTape, NoTape, Tape, Unmade, first_comment};
 use std::alloc::Global;
-use usbgate_tapes::Status;
+use tape_run::Status;
 
 /// How many bytes and clients may come: 2 ^ 62.
 pub const BUDGET: u64 = 4_611_686_018_427_387_904;
@@ -104,5 +104,5 @@ fn between<D: Doors, K: Sink, T: Tape>(
         first_id: u64::from(serving.first_id),
         after_loss: serving.after_loss,
     };
-    ended_as(bridge_run::serve(alloc, terms, doors, out, tape))
+    ended_as(bridge_serve::serve(alloc, terms, doors, out, tape))
 }

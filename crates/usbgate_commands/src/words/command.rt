@@ -10,12 +10,12 @@ use crate::words::command_table::{CommandRow, Verb};
 use crate::words::given::Given;
 use crate::words::lending::Lending;
 use crate::words::serving::Serving;
-use bridge_run::AfterLoss;
+use bridge_serve::AfterLoss;
 use made_tape::MOST_ROUNDS;
 use packet_show::read_number;
 use std::alloc::Global;
+use tape_run::Device;
 use usb_base::{Memory, Side};
-use usbgate_tapes::Device;
 
 /// What the words ask for.
 #[derive(Drop)]

@@ -1,7 +1,7 @@
 //! What a modelled host is asked.
 
 use std::marker::Model;
-use usbgate_tapes::Device;
+use tape_run::Device;
 
 /// Which device is lent, where the guest's door is, and when to end.
 #[derive(Drop)]

@@ -1,6 +1,6 @@
 //! What the gateway between links is asked.
 
-use bridge_run::AfterLoss;
+use bridge_serve::AfterLoss;
 use std::marker::Model;
 
 /// Where the host and the clients' door are, when to end, the id of the first packet to the host, what becomes of

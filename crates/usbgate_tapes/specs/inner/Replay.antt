@@ -4,9 +4,9 @@ use Rattle.gate_history.specs.step.Events.{PastEvent}
 use Rattle.gate_history.specs.step.History.{history}
 use Rattle.gate_core.specs.step.Stands.{GateStands}
 use Rattle.usbgate_tapes.specs.declared.replay.Replay.{Replay}
-use Rattle.usbgate_tapes.specs.Text.{event_text}
-use Rattle.usbgate_tapes.specs.tape.EventCommand.{EventCommand}
-use Rattle.usbgate_tapes.specs.Replay.{has_refusal, replay}
+use Rattle.tape_run.specs.Text.{event_text}
+use Rattle.tape_run.specs.tape.EventCommand.{EventCommand}
+use Rattle.tape_run.specs.Replay.{has_refusal, replay}
 
 pub record HasReplayed (first : ℕ) (r : Replay) (events : List PastEvent) : Type 0 where
   pub gate : GateStands first r.gate events

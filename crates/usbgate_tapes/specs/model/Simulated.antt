@@ -6,14 +6,14 @@ use Rattle.model_device.specs.Loopback.{loopback}
 use Rattle.model_device.specs.Meaning.{Meaning}
 use Rattle.direct_run.specs.Steps.{PastStep}
 use Rattle.direct_proof.specs.Simulates.{Simulates}
-use Rattle.usbgate_tapes.specs.declared.model.device.Device.{Device}
-use Rattle.usbgate_tapes.specs.declared.status.Status.{Status}
-use Rattle.usbgate_tapes.specs.Logs.{HoldsOfRead}
-use Rattle.usbgate_tapes.specs.model.Device.{as_plugged}
-use Rattle.usbgate_tapes.specs.model.Made.{made}
-use Rattle.usbgate_tapes.specs.model.Model.{model}
-use Rattle.usbgate_tapes.specs.Run.{ComesToEnd}
-use Rattle.usbgate_tapes.specs.tape.TapeCommand.{read_tape}
+use Rattle.tape_run.specs.declared.model.device.Device.{Device}
+use Rattle.tape_run.specs.declared.status.Status.{Status}
+use Rattle.tape_run.specs.Logs.{HoldsOfRead}
+use Rattle.tape_run.specs.model.Device.{as_plugged}
+use Rattle.tape_run.specs.model.Made.{made}
+use Rattle.tape_run.specs.model.Model.{model}
+use Rattle.tape_run.specs.Run.{ComesToEnd}
+use Rattle.tape_run.specs.tape.TapeCommand.{read_tape}
 
 -- the steps that the lines of a tape say, up to its end or its first bad line, the latest first
 abbrev pub steps_of : {S : Type 0} → Meaning S → S → List ℕ → List PastStep

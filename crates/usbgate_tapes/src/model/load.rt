@@ -1,26 +1,23 @@
 //! The command `load`: what a modelled loop makes of the tape that a number stands for.
 
 ghost use Rattle.std.specs.Prelude.{◌≡◌, ◌≢◌, ◌≤◌, [], ℕ, IfOk, OnOk};
-ghost use Rattle.direct_run.specs.Stands.{SystemStands};
+ghost use Rattle.direct_system.specs.Stands.{SystemStands};
 ghost use Rattle.made_tape.specs.declared.made.TheConstants.{MOST_ROUNDS};
 ghost use Rattle.made_tape.specs.Rounds.{made_lines};
-ghost use Rattle.usbgate_tapes.specs.model.Made.{loaded};
-ghost use Rattle.usbgate_tapes.specs.Printout.{printed};
-ghost use Rattle.usbgate_tapes.specs.Logs.{RunWrites};
+ghost use Rattle.tape_run.specs.model.Made.{loaded};
+ghost use Rattle.tape_run.specs.Printout.{printed};
+ghost use Rattle.tape_run.specs.Logs.{RunWrites};
 ghost use Rattle.usbgate_tapes.specs.model.Simulated.{MadeSimulates};
-ghost use Rattle.usbgate_tapes.specs.Causes.{HasCauses};
+ghost use Rattle.tape_run.specs.Causes.{HasCauses};
 ghost use Rattle.usbgate_tapes.specs.inner.model.Loaded.{steps_after};
 
 use crate::model::do_line;
-use crate::status::Status;
-use crate::text::printed::print;
-use crate::text::push_counts;
-use direct_proof::systems_are_direct;
-use direct_run::System;
+use direct_system::{System, systems_are_direct};
 use gate_outside::Sink;
 use made_tape::{MadeTape, read_again};
 use model_device::{Gadget, Loopback};
 use std::alloc::Global;
+use tape_run::{Status, print, push_counts};
 use usb_base::{Bytes, Memory};
 
 /// Prints the counts.

@@ -9,7 +9,7 @@ use Rattle.bridge_run.specs.events.Prescribed.{Prescribed}
 use Rattle.bridge_run.specs.course.Course.{Course}
 use Rattle.bridge_run.specs.course.Outside.{Outside, Written}
 use Rattle.bridge_run.specs.inner.Follows.{IsServing}
-use Rattle.bridge_run.specs.inner.Sends.{SendsAll, SendsPart, IsPart, nothing}
+use Rattle.bridge_run.specs.served.Sends.{SendsAll, SendsPart, IsPart, nothing}
 
 pub cleared : (sent : Sent) → sent.to_client ≡ [] → sent.to_host ≡ [] → sent.refusals ≡ [] → sent.lets_go ≡ false → sent ≡ nothing
 cleared sent client host refusals lets_go =

@@ -21,7 +21,7 @@ use Rattle.bridge_run.specs.log.Log.{Terms, events_before, JustCame, WroteInPart
 use Rattle.bridge_run.specs.inner.Follows.{Prepared}
 use Rattle.bridge_run.specs.inner.Logging.{IsTaking, WroteMore, FailedBehind}
 use Rattle.bridge_run.specs.inner.Recording.{TapeFaults}
-use Rattle.bridge_run.specs.inner.Sends.{IsPart}
+use Rattle.bridge_run.specs.served.Sends.{IsPart}
 use Rattle.bridge_run.specs.inner.Stopping.{IsStopping, HasStopped, StopFailed, StopLogs}
 use Rattle.bridge_run.proofs.lemmas.log.Log.{before-same, taking-fault, front-whole, front-of-more, front-in}
 use Rattle.bridge_run.proofs.lemmas.log.Sink.{told-all, part-more}

@@ -1,15 +1,15 @@
 use Rattle.std.proofs.Common.{inr, refl, sym, ap, ◌∙◌}
-use Rattle.usbgate_tapes.specs.tape.EventCommand.{over_events}
-use Rattle.usbgate_tapes.specs.Replay.{replay}
-use Rattle.usbgate_tapes.specs.model.Model.{model_of}
-use Rattle.usbgate_tapes.specs.Show.{show}
-use Rattle.usbgate_tapes.specs.model.Made.{made, loaded}
-use Rattle.usbgate_tapes.specs.Printout.{tape_printout, printed, usage}
+use Rattle.tape_run.specs.tape.EventCommand.{over_events}
+use Rattle.tape_run.specs.Replay.{replay}
+use Rattle.tape_run.specs.model.Model.{model_of}
+use Rattle.tape_run.specs.Show.{show}
+use Rattle.tape_run.specs.model.Made.{made, loaded}
+use Rattle.tape_run.specs.Printout.{tape_printout, printed, usage}
 use Rattle.usbgate_commands.specs.links.Recording.{records}
 use Rattle.usbgate_commands.specs.links.Serves.{known_of}
 use Rattle.usbgate_commands.proofs.lemmas.links.Served.{links-stand, link-fault-of, link-stands}
 use Rattle.usbgate_tapes.proofs.lemmas.model.Simulated.{unsimulated}
-use Rattle.usbgate_tapes.proofs.lemmas.runs.Unread.{leaves-none}
+use Rattle.tape_run.proofs.lemmas.runs.Unread.{leaves-none}
 use Rattle.usbgate.proofs.Asked.{reads-tape, leaves-asked, writes-asked, serves-asked, lends-asked}
 use Rattle.usbgate.proofs.Simulated.{simulates-device, simulates-count}
 use Rattle.usbgate_commands.proofs.lemmas.links.Logs.{run-unserved, run-unlent}

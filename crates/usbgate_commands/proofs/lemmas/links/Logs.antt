@@ -6,12 +6,12 @@ use Rattle.gate_outside.specs.Calls.{Call}
 use Rattle.gate_outside.specs.Link.{Link, Door}
 use Rattle.bridge_run.specs.declared.course.serve_end.ServeEnd.TheVariants as end
 use Rattle.bridge_run.specs.events.Events.{PastLinkEvent}
-use Rattle.bridge_run.specs.served.Gate.{gate_sends}
-use Rattle.bridge_run.specs.served.GateStops.{gate_runs_out}
+use Rattle.bridge_serve.specs.served.Gate.{gate_sends}
+use Rattle.bridge_serve.specs.served.GateStops.{gate_runs_out}
 use Rattle.bridge_run.specs.log.Log.{Terms, Told}
 use Rattle.bridge_run.specs.course.Outside.{outside}
 use Rattle.bridge_run.specs.events.Prescribed.{Prescribed}
-use Rattle.usbgate_tapes.specs.declared.status.Status.TheVariants.{OutOfMemory}
+use Rattle.tape_run.specs.declared.status.Status.TheVariants.{OutOfMemory}
 use Rattle.usbgate_commands.specs.words.Lending.{AskedLent}
 use Rattle.usbgate_commands.specs.links.Logs.{HasLog, terms_of, terms_lent, RunServes, RunLends}
 use Rattle.usbgate_commands.specs.links.Serves.{Known, known_untaped, device_sends, device_runs_out}

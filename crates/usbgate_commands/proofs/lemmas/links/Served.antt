@@ -14,8 +14,8 @@ use Rattle.session_tape.specs.Tapes.{counts}
 use Rattle.bridge_run.specs.course.Outside.{Outside, Faults, outside, written, faults, Tells, Cut, HasCause, IsBetween}
 use Rattle.bridge_run.specs.events.Events.{PastLinkEvent}
 use Rattle.bridge_run.specs.course.Serves.{MayRunOut, CutShort}
-use Rattle.usbgate_tapes.specs.declared.status.Status.{Status}
-use Rattle.usbgate_tapes.specs.declared.status.Status.TheVariants.{LinkFault, OutOfMemory}
+use Rattle.tape_run.specs.declared.status.Status.{Status}
+use Rattle.tape_run.specs.declared.status.Status.TheVariants.{LinkFault, OutOfMemory}
 use Rattle.usbgate_commands.specs.words.Serving.{ServeSettings}
 use Rattle.usbgate_commands.specs.words.Lending.{AskedLent}
 use Rattle.usbgate_commands.specs.links.Recording.{HasServed}

@@ -9,15 +9,15 @@ use Rattle.model_device.specs.Device.{State, first_state, meaning_of}
 use Rattle.model_device.specs.Loopback.{loopback}
 use Rattle.model_device.specs.Meaning.{Meaning}
 use Rattle.direct_run.specs.declared.told.Told.{Told}
-use Rattle.direct_run.specs.Kept.{SystemKept}
-use Rattle.direct_run.specs.Stands.{SystemStands}
+use Rattle.direct_system.specs.Kept.{SystemKept}
+use Rattle.direct_system.specs.Stands.{SystemStands}
 use Rattle.direct_run.specs.Steps.{PastStep}
 use Rattle.direct_run.specs.World.{first_id, course}
 use Rattle.made_tape.specs.Again.{TapeAgain}
 use Rattle.made_tape.specs.Rounds.{made_lines}
-use Rattle.usbgate_tapes.specs.model.Made.{loaded}
-use Rattle.usbgate_tapes.specs.model.Model.{step_said}
-use Rattle.usbgate_tapes.specs.Text.{counts_line}
+use Rattle.tape_run.specs.model.Made.{loaded}
+use Rattle.tape_run.specs.model.Model.{step_said}
+use Rattle.tape_run.specs.Text.{counts_line}
 use Rattle.usbgate_tapes.specs.inner.model.Loaded.{steps_after}
 use Rattle.usbgate_tapes.specs.inner.model.Model.{TakesSaid}
 use Rattle.usbgate_tapes.proofs.lemmas.model.Loaded.{last-made}

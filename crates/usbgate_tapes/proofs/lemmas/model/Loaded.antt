@@ -10,14 +10,14 @@ use Rattle.model_device.specs.Meaning.{Meaning}
 use Rattle.direct_run.specs.Steps.{PastStep}
 use Rattle.made_tape.specs.Lines.{words_of, line_of, tape_text}
 use Rattle.made_tape.specs.Again.{IsReadAgain, AreReadAgain, TapeAgain}
-use Rattle.usbgate_tapes.specs.tape.Tape.{lines_of, content}
-use Rattle.usbgate_tapes.specs.Run.{HasNoLF}
-use Rattle.usbgate_tapes.specs.model.Model.{on_step, step_said, model}
+use Rattle.tape_run.specs.tape.Tape.{lines_of, content}
+use Rattle.tape_run.specs.Run.{HasNoLF}
+use Rattle.tape_run.specs.model.Model.{on_step, step_said, model}
 use Rattle.packet_show.specs.declared.tape.TheConstants.{TAPE_LIMIT}
-use Rattle.usbgate_tapes.specs.tape.TapeCommand.{Progress, begin, one_further, next_line, Reading, on_line, read_lines, read_tape, last_text}
-use Rattle.usbgate_tapes.specs.Text.{bad_line}
+use Rattle.tape_run.specs.tape.TapeCommand.{Progress, begin, one_further, next_line, Reading, on_line, read_lines, read_tape, last_text}
+use Rattle.tape_run.specs.Text.{bad_line}
 use Rattle.usbgate_tapes.specs.inner.model.Loaded.{steps_after}
-use Rattle.usbgate_tapes.proofs.lemmas.tape.Lines.{lines_of-line}
+use Rattle.tape_run.proofs.lemmas.tape.Lines.{lines_of-line}
 
 -- ---- a line
 

@@ -14,19 +14,19 @@ use Rattle.model_device.specs.Meaning.{Meaning}
 use Rattle.packet_show.specs.declared.tape.ModelLine.{ModelLine}
 use Rattle.packet_show.specs.Tape.{model_line}
 use Rattle.direct_run.specs.declared.told.Told.{Told}
-use Rattle.direct_run.specs.Kept.{SystemKept}
+use Rattle.direct_system.specs.Kept.{SystemKept}
 use Rattle.gate_history.specs.write.Refusals.{refusal_in}
-use Rattle.direct_run.specs.Stands.{SystemStands}
+use Rattle.direct_system.specs.Stands.{SystemStands}
 use Rattle.direct_run.specs.Steps.{PastStep, Client, ClientEnd, ToHost, ToGate, Perform, Offer, Unplug}
 use Rattle.direct_run.specs.Trace.{given_of, told_by}
 use Rattle.direct_run.specs.World.{Course, first_id, course, after_step, wire_to_gate}
 use Rattle.usbgate_tapes.specs.declared.model.ModelRun.{ModelRun}
-use Rattle.usbgate_tapes.specs.model.Model.{on_step, step_said, model}
-use Rattle.usbgate_tapes.specs.Replay.{has_refusal}
-use Rattle.usbgate_tapes.specs.Text.{told_text}
+use Rattle.tape_run.specs.model.Model.{on_step, step_said, model}
+use Rattle.tape_run.specs.Replay.{has_refusal}
+use Rattle.tape_run.specs.Text.{told_text}
 use Rattle.usbgate_tapes.specs.inner.model.Model.{HasDone, TakesSaid}
-use Rattle.usbgate_tapes.specs.inner.tape.TapeReader.{TakesLine}
-use Rattle.usbgate_tapes.proofs.lemmas.text.Events.{refused-more}
+use Rattle.tape_run.specs.tape.Kept.{TakesLine}
+use Rattle.usbgate_tapes.proofs.lemmas.replay.Events.{refused-more}
 
 -- ---- a step tells a refusal where one came about
 

@@ -5,22 +5,22 @@ use Rattle.gate_outside.specs.Moved.{moved}
 use Rattle.model_device.specs.Device.{State, first_state, meaning_of}
 use Rattle.model_device.specs.Loopback.{loopback}
 use Rattle.model_device.specs.Meaning.{Meaning}
-use Rattle.direct_run.specs.Kept.{SystemKept}
-use Rattle.direct_run.specs.Stands.{SystemStands}
+use Rattle.direct_system.specs.Kept.{SystemKept}
+use Rattle.direct_system.specs.Stands.{SystemStands}
 use Rattle.direct_run.specs.Steps.{PastStep}
 use Rattle.direct_proof.specs.Simulates.{Simulates}
 use Rattle.made_tape.specs.Again.{TapeAgain}
 use Rattle.made_tape.specs.Rounds.{made_lines}
-use Rattle.usbgate_tapes.specs.declared.model.device.Device.{Device}
-use Rattle.usbgate_tapes.specs.declared.model.device.Device.TheVariants.{Keyboard}
-use Rattle.usbgate_tapes.specs.declared.status.Status.{Status}
-use Rattle.usbgate_tapes.specs.declared.status.Status.TheVariants.{OutOfMemory}
-use Rattle.usbgate_tapes.specs.model.Model.{model}
+use Rattle.tape_run.specs.declared.model.device.Device.{Device}
+use Rattle.tape_run.specs.declared.model.device.Device.TheVariants.{Keyboard}
+use Rattle.tape_run.specs.declared.status.Status.{Status}
+use Rattle.tape_run.specs.declared.status.Status.TheVariants.{OutOfMemory}
+use Rattle.tape_run.specs.model.Model.{model}
 use Rattle.usbgate_tapes.specs.model.Simulated.{steps_of, AreSimulated, RunSimulates, MadeSimulates}
 use Rattle.usbgate_tapes.specs.inner.model.Loaded.{steps_after}
 use Rattle.usbgate_tapes.specs.inner.model.Model.{HasDone}
-use Rattle.usbgate_tapes.specs.inner.tape.TapeReader.{ReadsTo}
-use Rattle.usbgate_tapes.proofs.lemmas.runs.Going.{comes-too}
+use Rattle.tape_run.specs.tape.Kept.{ReadsTo}
+use Rattle.tape_run.proofs.lemmas.runs.Going.{comes-too}
 use Rattle.usbgate_tapes.proofs.lemmas.model.Loaded.{kept-made}
 
 -- the law of systems

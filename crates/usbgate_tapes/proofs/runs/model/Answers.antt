@@ -1,7 +1,7 @@
 use Rattle.std.proofs.Common.{rules}
-use Rattle.usbgate_tapes.specs.model.Model.{model_of}
-use Rattle.usbgate_tapes.specs.Printout.{tape_printout}
-use Rattle.usbgate_tapes.proofs.lemmas.runs.Unread.{leaves-none}
+use Rattle.tape_run.specs.model.Model.{model_of}
+use Rattle.tape_run.specs.Printout.{tape_printout}
+use Rattle.tape_run.proofs.lemmas.runs.Unread.{leaves-none}
 use Rattle.usbgate_tapes.proofs.lemmas.model.Simulated.{unsimulated}
 use Rattle.usbgate_tapes.proofs.runs.model.Goals as goal
 

@@ -1,8 +1,8 @@
 use Rattle.std.proofs.Common.{ℕ, List, ◌++◌, ap, ◌∙◌}
-use Rattle.usbgate_tapes.specs.model.Model.{model}
-use Rattle.usbgate_tapes.specs.Printout.{tape_printout}
+use Rattle.tape_run.specs.model.Model.{model}
+use Rattle.tape_run.specs.Printout.{tape_printout}
 use Rattle.usbgate_tapes.proofs.lemmas.model.Simulated.{are-simulated}
-use Rattle.usbgate_tapes.proofs.lemmas.runs.Unread.{leaves-none}
+use Rattle.tape_run.proofs.lemmas.runs.Unread.{leaves-none}
 use Rattle.usbgate_tapes.proofs.runs.model_with.Goals as goal
 
 pub over_tape-requires : goal.over_tape-requires

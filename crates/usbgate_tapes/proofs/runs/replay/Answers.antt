@@ -1,8 +1,8 @@
 use Rattle.std.proofs.Common.{ℕ, List, ◌++◌, ap, ◌∙◌}
-use Rattle.usbgate_tapes.specs.Replay.{replay}
-use Rattle.usbgate_tapes.specs.tape.EventCommand.{over_events}
-use Rattle.usbgate_tapes.specs.Printout.{tape_printout}
-use Rattle.usbgate_tapes.proofs.lemmas.runs.Unread.{leaves-none}
+use Rattle.tape_run.specs.Replay.{replay}
+use Rattle.tape_run.specs.tape.EventCommand.{over_events}
+use Rattle.tape_run.specs.Printout.{tape_printout}
+use Rattle.tape_run.proofs.lemmas.runs.Unread.{leaves-none}
 use Rattle.usbgate_tapes.proofs.runs.replay.Goals as goal
 
 pub over_tape-requires : goal.over_tape-requires

@@ -1,9 +1,9 @@
 -- The steps that lines say, the latest first.
-use Rattle.std.specs.Prelude.{List, [], ◌∷◌, Option, Some, None}
+use Rattle.std.specs.Prelude.{List, [], ◌∷◌}
 use Rattle.std.specs.List.{cons_option}
 use Rattle.packet_show.specs.declared.tape.ModelLine.{ModelLine}
 use Rattle.direct_run.specs.Steps.{PastStep}
-use Rattle.usbgate_tapes.specs.model.Model.{step_said}
+use Rattle.tape_run.specs.model.Model.{step_said}
 
 abbrev pub steps_after : List ModelLine → List PastStep → List PastStep
 steps_after [] steps = steps

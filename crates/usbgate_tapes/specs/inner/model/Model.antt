@@ -4,16 +4,16 @@ use Rattle.gate_outside.specs.declared.fault.Failed.{Failed}
 use Rattle.gate_history.specs.step.History.{history}
 use Rattle.model_device.specs.Meaning.{Meaning}
 use Rattle.direct_run.specs.declared.told.Told.{Told}
-use Rattle.direct_run.specs.Kept.{SystemKept}
-use Rattle.direct_run.specs.Stands.{SystemStands, TakesStep}
+use Rattle.direct_system.specs.Kept.{SystemKept}
+use Rattle.direct_system.specs.Stands.{SystemStands, TakesStep}
 use Rattle.direct_run.specs.Steps.{PastStep}
 use Rattle.direct_run.specs.World.{first_id, course}
 use Rattle.usbgate_tapes.specs.declared.model.ModelRun.{ModelRun}
-use Rattle.usbgate_tapes.specs.declared.status.Status.{Status}
-use Rattle.usbgate_tapes.specs.Logs.{RunLeaves}
-use Rattle.usbgate_tapes.specs.Printout.{tape_printout}
-use Rattle.usbgate_tapes.specs.Replay.{has_refusal}
-use Rattle.usbgate_tapes.specs.model.Model.{model}
+use Rattle.tape_run.specs.declared.status.Status.{Status}
+use Rattle.tape_run.specs.Logs.{RunLeaves}
+use Rattle.tape_run.specs.Printout.{tape_printout}
+use Rattle.tape_run.specs.Replay.{has_refusal}
+use Rattle.tape_run.specs.model.Model.{model}
 use Rattle.usbgate_tapes.specs.model.Simulated.{AreSimulated}
 
 -- it is the modelled run of a device that began in state s, with which these steps were done

@@ -1,5 +1,5 @@
 use Rattle.std.proofs.Common.{◌≡◌, [], List, length}
-use Rattle.direct_run.specs.Stands.{SystemStands}
+use Rattle.direct_system.specs.Stands.{SystemStands}
 use Rattle.direct_run.specs.Steps.{PastStep}
 use Rattle.made_tape.specs.Rounds.{made_lines}
 use Rattle.usbgate_tapes.specs.inner.model.Loaded.{steps_after}

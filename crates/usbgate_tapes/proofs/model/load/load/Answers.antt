@@ -1,6 +1,6 @@
-use Rattle.usbgate_tapes.specs.model.Made.{loaded}
-use Rattle.usbgate_tapes.specs.Printout.{printed}
-use Rattle.usbgate_tapes.proofs.lemmas.runs.Unread.{wrote-none}
+use Rattle.tape_run.specs.model.Made.{loaded}
+use Rattle.tape_run.specs.Printout.{printed}
+use Rattle.tape_run.proofs.lemmas.runs.Unread.{wrote-none}
 use Rattle.usbgate_tapes.proofs.model.load.load.Goals as goal
 
 pub returns-in-Err-clause-leaves : goal.returns-in-Err-clause-leaves

@@ -1,6 +1,6 @@
 use Rattle.std.proofs.Common.{Bool, ◌||◌, ap}
 use Rattle.gate_history.specs.step.Events.{event_of}
-use Rattle.usbgate_tapes.proofs.lemmas.text.Events.{sees}
+use Rattle.usbgate_tapes.proofs.lemmas.replay.Events.{sees}
 use Rattle.usbgate_tapes.proofs.replay.Replay.put.Goals as goal
 
 pub returns : goal.returns

@@ -9,7 +9,7 @@ use Rattle.bridge_run.specs.course.Outside.{outside, gathering, faults}
 use Rattle.bridge_run.specs.declared.events.coming.Coming.TheVariants.{Taken}
 use Rattle.bridge_run.specs.declared.events.sent.Sent.{Sent}
 use Rattle.bridge_run.specs.inner.Coming.{StandsAt}
-use Rattle.bridge_run.specs.inner.Taking.{IsTaken}
+use Rattle.bridge_run.specs.served.Taking.{IsTaken}
 use Rattle.bridge_run.specs.inner.Follows.{IsServing, setting, polls, behind}
 use Rattle.bridge_run.specs.inner.Logging.{IsAsking}
 use Rattle.gate_outside.specs.Turns.{taken}

@@ -1,0 +1,2 @@
+-- What the proofs of functions cite, by subject.
+pub mod served

@@ -1,0 +1,2 @@
+pub mod served
+pub mod inner

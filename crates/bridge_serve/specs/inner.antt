@@ -1,0 +1,3 @@
+-- What the calls make of a gate, and of a lent device's host.
+pub mod Gated
+pub mod Lending

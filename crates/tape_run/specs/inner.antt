@@ -1,0 +1,3 @@
+-- What the code keeps and reads, tied to the definitions.
+pub mod tape
+pub mod show

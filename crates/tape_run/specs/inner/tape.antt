@@ -1,0 +1,3 @@
+-- A reader of a tape, and where a line may stand.
+pub mod TapeReader
+pub mod Stands

@@ -1,0 +1,5 @@
+//! The modelled devices, and the tapes that are made for them.
+
+pub mod device;
+pub mod make;
+pub mod user;

@@ -1,5 +1,0 @@
-use Rattle.usbgate_tapes.proofs.lemmas.tape.LineEnds.{first-lf}
-use Rattle.usbgate_tapes.proofs.tape.reader.line_end.Goals as goal
-
-pub returns : goal.returns
-returns c = first-lf c.args.bytes.now c.memchr.result c.memchr.ensures

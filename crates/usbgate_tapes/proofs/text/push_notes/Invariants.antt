@@ -1,7 +1,0 @@
-use Rattle.std.proofs.Common.{◌≡◌, ◌++◌, drop}
-use Rattle.std.specs.List.{flat_map}
-use Rattle.usbgate_tapes.specs.Text.{note_line}
-use Rattle.usbgate_tapes.proofs.text.push_notes.Given as goal
-
-abbrev pub invariant-loop-note : goal.invariant-loop-note
-invariant-loop-note l = l.text ++ flat_map note_line (drop l.note-index l.notes) ≡ l.initial.text ++ flat_map note_line l.notes
