@@ -10,7 +10,7 @@ use crate::events::event::LinkEvent;
 use crate::events::sent::Sent;
 use usb_base::{Incoming, Memory, Side};
 
-/// It takes events, and says what each sends to both sides and which sides it refuses.
+/// What is served between links: it takes events, and says what each sends to both sides and which sides it refuses.
 pub trait Served {
     ghost use Rattle.bridge_run.specs.events.Prescribed.{Prescribed};
 
@@ -31,8 +31,8 @@ pub trait Served {
     ghost takes_memory: { PastLinkEvent → Bool };
 
     /// Takes the next event, and appends what that sends. A quiet client is no ground to refuse a side, or to let the
-    /// client go. For want of memory what was sent by then is there. Nothing stands for the client before, so that it
-    /// can be handed over as it is.
+    /// client go. For want of memory what was sent by then is there. `sent` has no bytes for the client before, so that
+    /// these can be handed over as they are.
     fn take(&mut self, event: LinkEvent, sent: &mut Sent) -> Result<(), Memory>
         requires { sent.old.to_client ≡ [] }
         ensures stands { OnOk result ((first : First) (past : List PastLinkEvent) → stands first self.old past → stands first self.new (event_of event.entry ∷ past)) }

@@ -26,23 +26,15 @@ pub struct ServeTerms<'a> {
     pub first_id: u64,
     /// What becomes of the link of a client whose imported device is lost.
     pub after_loss: AfterLoss,
-    /// The addresses at which the host is dialled, and of the clients' door.
+    /// The rest is as in `RunTerms`.
     pub host: &'a str,
     pub listen: &'a str,
-    /// After how many rounds in a row that bring nothing it ends, and after how many bytes, where each client counts as
-    /// one.
     pub idle: u64,
     pub budget: u64,
 }
 
-/// Dials the host, makes the clients' door, and goes in rounds. A round asks for a client where none is there, and
-/// polls the client and then the host, whose link is up. What comes is an event of a gate that draws its ids from
-/// `first_id` on. Its line is written to the tape, where that is made, and a comment for each refusal. What an event
-/// sends is written to the client and then to the host, where that link is up. Then a side that it refuses has its link
-/// closed, and its line is written to `out`; and where `after_loss` says so, a client whose imported device it loses
-/// has its link closed, too. The end of a client whose link is closed so comes next. It ends after `idle` rounds in a
-/// row that bring nothing, and once `budget` bytes have come, where each client counts as one. The first call that
-/// fails is the last.
+/// Serves a gate that draws its ids from `first_id` on, as `run_between` does: what comes is an event of it, and where
+/// `after_loss` says so, a client whose imported device an event loses is let go.
 pub fn serve<D: Doors, K: Sink, T: Tape>(
     alloc: Global,
     terms: ServeTerms<'_>,
@@ -72,12 +64,12 @@ pub fn serve<D: Doors, K: Sink, T: Tape>(
         gate,
         after_loss: terms.after_loss,
     };
-    let links = RunTerms {
+    let run_terms = RunTerms {
         host: terms.host,
         listen: terms.listen,
         idle: terms.idle,
         budget: terms.budget,
     };
     let hello = greeting.as_slice();
-    run_between(alloc, gateway, hello, links, doors, out, tape)
+    run_between(alloc, gateway, hello, run_terms, doors, out, tape)
 }

@@ -1,4 +1,4 @@
--- What is known of a course that a system has run, and no meaning says.
+-- What is known of a course of steps that were done, and no meaning says.
 use Rattle.std.specs.List.{flat_map, AllByRecursion}
 use Rattle.usb_base.specs.Number.{AreBytes}
 use Rattle.redir_wire.specs.declared.packet.Way.TheVariants.{ToGuest}

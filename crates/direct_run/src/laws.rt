@@ -1,4 +1,4 @@
-//! Laws of a system's definitions, as contracts of functions that do nothing.
+//! Laws of steps on two wires, as contracts of functions that do nothing.
 
 ghost use Rattle.std.specs.Prelude.{◌≡◌, ◌++◌, List};
 ghost use Rattle.gate_history.specs.write.Bytes.{out_client};

@@ -1,5 +1,5 @@
-//! A gateway and a modelled device between two wires, as one system: its steps, what each of them tells, and the laws of
-//! these.
+//! What a gateway and a modelled device's host between two wires do: steps, items and what is told, as plain types, and
+//! the laws of the definitions.
 #![tactic(auto)]
 
 mod item;
@@ -9,7 +9,7 @@ mod submitted;
 mod told;
 
 pub use item::{Item, Items};
-pub use laws::{wires_are_outputs, wires_lose_nothing};
+pub use laws::{steps_are_moves, wires_are_outputs, wires_lose_nothing};
 pub use step::Step;
 pub use submitted::{Submits, Submitted};
 pub use told::{Refusals, Told};

@@ -1,6 +1,6 @@
 //! A run over a tape, from its start to its end: its lines, what a command makes of them, the text that is printed and
 //! how it ends. The commands that have no gateway within are here whole (`show`, `make`); those that have one are
-//! commands over a tape (`TapeCommand`, `EventCommand`) of the crate above.
+//! commands over a tape (`TapeCommand`, `EventCommand`), which `usbgate_tapes` hands to `over_tape`.
 #![tactic(auto)]
 
 mod model;

@@ -56,8 +56,9 @@ fn show_stream<F: ShownFormat, S: Source, K: Sink>(
     over_tape(alloc, EventTape::start(show), Bytes::new(alloc), tape, out)
 }
 
-/// Reads the tape to its end, and writes its text as it goes, behind the text with which the command starts. Of a task
-/// that the command has at its start, the run leaves what that means, and some such command keeps what was read.
+/// Reads the tape to its end, and writes its text as it goes, behind the text with which the command starts. For each
+/// task that the command has at its start, the run leaves what that task means, and where it comes to the end of its
+/// tape, or to a bad line, some command with that task keeps what was read.
 pub fn over_tape<C: TapeCommand + Drop, S: Source, K: Sink>(
     alloc: Global,
     command: C,

@@ -18,7 +18,8 @@ use gate_outside::{Doors, Side, Sink};
 use session_tape::NoTape;
 use std::alloc::Global;
 
-/// Makes a door, and goes in rounds, as `run_between` does, with no tape. The host's side has no link.
+/// Makes a door, and goes in rounds, as `run_between` does, with no tape: `core` is what is served. The host's side has
+/// no link.
 pub fn run_at_door<C: Served + Drop, D: Doors, K: Sink>(
     alloc: Global,
     core: C,

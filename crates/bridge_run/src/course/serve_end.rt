@@ -5,8 +5,8 @@ use usb_base::{Memory, Refusal, Side};
 /// Why serving has ended.
 #[derive(Clone, Copy)]
 pub enum ServeEnd {
-    /// The host has ended or was refused, and no client's link is up; or a lent device's guest has left or was refused.
-    /// With the first refusal of all.
+    /// No link is up any more: the host has ended or was refused, where one was dialled, and so has the client. With the
+    /// first refusal of all.
     Ended { refused: Option<Refusal> },
     /// A call on this side failed.
     LinkFault(Side),

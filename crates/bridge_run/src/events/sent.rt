@@ -17,6 +17,7 @@ pub struct Sent {
     pub to_client: Bytes,
     pub to_host: Bytes,
     pub refusals: List<Refusal>,
+    /// The client's link is to be closed behind what is sent.
     pub lets_go: bool,
 }
 

@@ -1,5 +1,5 @@
 -- What is served.
-pub mod Any
+pub mod NonEmpty
 pub mod Acts
 pub mod Halts
 pub mod Gate

@@ -377,7 +377,7 @@ quiet-no_links (BadTape number) quiet = tt
 quiet-no_links Idle quiet = false-true quiet
 quiet-no_links Spent quiet = false-true quiet
 
--- a replay never ends so
+-- a run over a tape never ends so
 pub quiet-not_usage : (status : Status) → is_quiet status ≡ true → status ≡ Usage → ⊥
 quiet-not_usage status quiet e = false-true (sym (ap is_quiet e) ∙ quiet)
 

@@ -4,7 +4,7 @@ use Rattle.std.proofs.lemmas.List.{drop_more}
 use Rattle.usb_base.specs.Lists.{is_empty}
 use Rattle.redir_host.specs.declared.write.note.HostNote.{HostNote}
 use Rattle.bridge_serve.specs.served.Lent.{refusal_in}
-use Rattle.bridge_serve.proofs.lemmas.served.Any.{any-made-at}
+use Rattle.bridge_serve.proofs.lemmas.served.NonEmpty.{any-made-at}
 use Rattle.bridge_serve.proofs.lemmas.served.Halts.{err-all}
 use Rattle.bridge_serve.proofs.served.lent.push_refusals.Goals as goal
 

@@ -1,5 +1,5 @@
 use Rattle.bridge_serve.proofs.lemmas.served.Acts.{on-ok}
-use Rattle.bridge_serve.proofs.lemmas.served.Any.{any-at}
+use Rattle.bridge_serve.proofs.lemmas.served.NonEmpty.{any-at}
 use Rattle.bridge_serve.proofs.lemmas.served.Gate.{gate-takes}
 use Rattle.bridge_serve.proofs.lemmas.served.GateStops.{gate-stops, gate-untold}
 use Rattle.bridge_serve.proofs.lemmas.served.Halts.{on-err, err-all}
