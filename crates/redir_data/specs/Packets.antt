@@ -29,7 +29,7 @@ from_packet (h, Carrying p) = inr (h, p)
 abbrev pub redir_packets : RedirState → Way → Format (Header × RedirPacket) Reason
 redir_packets s way = joined begins_plain (λ p. (p.0, Plain p.1)) (λ p. (p.0, Carrying p.1)) from_packet (plain s way) (carrying s way)
 
--- only data, and the words of a hello, take memory
+-- only data, and the packets without data that lie on the heap, take memory
 abbrev pub takes_memory : Header × RedirPacket → Bool
 takes_memory (h, Plain p) = wire.takes_memory p
 takes_memory (h, Carrying p) = has_data p

@@ -95,8 +95,8 @@ pub struct Header {
 }
 
 /// A packet that moves no data of a transfer. A `status` is 0 for success, else the byte of a `UsbStatus`; an
-/// `endpoint` is the byte of its address. The three packets that have more than 100 bytes lie on the heap, so that
-/// every other one is moved as what it is.
+/// `endpoint` is the byte of its address. The three that have more than 100 bytes lie on the heap, so that no other
+/// is moved as that many.
 #[derive(Drop)]
 pub enum RedirControl {
     /// Type 0, both ways: the first packet of its stream.

@@ -6,7 +6,7 @@ use crate::memory::Memory;
 use std::alloc::Global;
 use std::marker::Model;
 
-/// A value on the heap. A type of which few values are long is no longer than its others, where it has those so.
+/// A value on the heap. An enum whose few long variants hold their values so is as short as its other variants.
 #[derive(Drop)]
 pub struct Boxed<T> {
     value: Box<T>,

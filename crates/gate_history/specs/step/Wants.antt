@@ -15,7 +15,7 @@ use Rattle.gate_history.specs.step.History.{history}
 use Rattle.gate_history.specs.write.Output.{to_client, to_host}
 use Rattle.gate_history.specs.write.Notes.{notes_of}
 
--- a packet whose data take memory where it is read
+-- a packet that takes memory where it is read
 abbrev pub takes_memory : Item → Bool
 takes_memory (Asked place packet) = asked_takes_memory packet
 takes_memory (Told place header packet) = told_takes_memory (header, packet)

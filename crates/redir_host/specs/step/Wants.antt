@@ -12,7 +12,7 @@ use Rattle.redir_host.specs.step.Items.{Item, Asked}
 use Rattle.redir_host.specs.step.Machine.{move}
 use Rattle.redir_host.specs.step.Moves.{Move}
 
--- a packet whose data take memory where it is read
+-- a packet that takes memory where it is read
 abbrev pub takes_memory : Item → Bool
 takes_memory (Asked id (Plain packet)) = plain_takes_memory packet
 takes_memory (Asked id (Carrying packet)) = has_data packet
