@@ -48,7 +48,7 @@ pub fn route_of(setup: &Setup) -> Route
     }
 }
 
-// One that may have no data stage.
+// This route, of a request that must have no data stage; `Bad` where it has one.
 fn without_data(setup: &Setup, route: Route) -> Route
     ensures { result ≡ (if has_no_data setup.now then route else Route.Bad) }
 {

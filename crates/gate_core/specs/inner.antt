@@ -1,4 +1,4 @@
--- What the code's own values are of the definitions.
+-- What the code's own values stand for in the definitions.
 pub mod client
 pub mod host
 pub mod state

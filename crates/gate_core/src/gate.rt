@@ -85,7 +85,7 @@ impl Gate {
     }
 
     /// Has the next bytes of a side's stream come straight into its memory, at most `limit` of them, and takes them as
-    /// an event like the piece that they are. Where none come nothing changes. `None` where nothing was asked for any:
+    /// an event like the piece that they are. Where none come nothing changes. `None` where `incoming` wasn't asked:
     /// the gate has failed, the side is over, or its stream has no memory for so many.
     pub fn take_from<I: Incoming>(
         &mut self,

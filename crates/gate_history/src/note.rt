@@ -12,7 +12,7 @@ use usb_base::{EpAddr, List, Memory, Refusal};
 pub enum Note {
     /// The client has imported the device.
     Imported,
-    /// A submit was accepted. The id is that of its packet to the host, 0 where its answer goes by none.
+    /// A submit was accepted. The id is that of its last packet to the host, 0 where its answer goes by none.
     Submitted { seqnum: u32, id: u64 },
     /// An unlink `by` asks for the submit `target` to be taken back.
     UnlinkAsked { by: u32, target: u32 },
@@ -52,7 +52,7 @@ pub struct Counts {
     pub answered: u64,
     /// RET_UNLINKs with -104 that were sent.
     pub unlinked: u64,
-    /// Submits that are in flight.
+    /// Submits that are live: in flight, and not abandoned.
     pub left: u64,
     /// Submits that ended with their client.
     pub dropped: u64,

@@ -42,7 +42,7 @@ pub struct Situation {
     pub wide: bool,
 }
 
-/// The longest transfer where a packet has 16 bits for its length.
+/// The longest transfer where a packet has 16 bits for its length, in bytes.
 pub const MAX_NARROW: u32 = u16::MAX as u32;
 
 /// A law: the number that definitions name is this.

@@ -1,4 +1,4 @@
--- Doors that open nothing: each call that would open one counts as a fault of its side.
+-- Doors that open nothing: each call but `close` fails, and counts as a fault of its side.
 use Rattle.std.specs.Prelude.{◌≡◌, ℕ, false, None, IsErr}
 use Rattle.usb_base.specs.declared.side.Side.{Side}
 use Rattle.usb_base.specs.declared.side.Side.TheVariants.{Client, Host}

@@ -1,7 +1,7 @@
 //! The outside of the program: where bytes come from and go to, and the links to both sides.
 //!
-//! Each trait counts its faults where they happen, so that a caller's contract can say of every refusal that
-//! the outside was the cause.
+//! Sources, sinks and doors count their faults where they happen, so that a caller's contract can say of every failure
+//! that the outside was the cause.
 #![tactic(auto)]
 
 mod copy;

@@ -16,8 +16,8 @@ use usb_base::{Memory, Side};
 ///
 /// A poll takes the front turn: a piece is given in as many polls as the buffers need, an empty one is passed
 /// over, and a script that has come to its end has ended the link. Of each side the calls of `dial`, `listen`,
-/// `accept`, `poll` and `write` are counted from 0. Exactly those fail, and take no turn, whose number is
-/// listed, and polls that meet a `Fail`, and writes that find no room.
+/// `accept`, `poll` and `write` are counted from 0. Exactly these fail: those whose number is listed, which take
+/// no turn, polls that meet a `Fail`, and writes that find no room.
 #[derive(Drop)]
 pub struct ScriptDoors {
     client: ScriptSide,

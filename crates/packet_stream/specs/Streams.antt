@@ -15,7 +15,7 @@ pub record StreamView (S : Type 0) : Type 0 where
   -- the bytes from the next packet on, and the place where they begin
   pub rest : List ℕ
   pub place : ℕ
-  -- the rest, behind the packet that was given last; and the place where that begins
+  -- the packet that was given last, as long as it is held, and the rest behind it; and the place where these begin
   pub held : List ℕ
   pub at : ℕ
   -- nothing more is read of it

@@ -120,7 +120,7 @@ impl<F: PacketFormat> Stream<F> {
     }
 
     /// Has the next bytes come straight into its memory, at most `limit` of them, and says how many came: they are a
-    /// piece of it then. `None` where it is over, or has no memory for so many: nothing was asked for any then.
+    /// piece of it then. `None` where it is over, or has no memory for so many: `incoming` wasn't asked then.
     pub fn receive_from<I: Incoming>(&mut self, limit: usize, incoming: &mut I) -> Option<usize>
         requires { I.can_read incoming.old limit }
         ensures came { IfSome result (λ count. (came : HasCome I.read_gives limit count incoming.old incoming.new) × Receives (reads F.format F.after) count (take count came.room) self.old self.new) }

@@ -51,7 +51,7 @@ pub fn take_piece<F: PacketFormat, T: PacketTaker<F>>(
 }
 
 /// Has the next piece of a stream come straight into its memory, at most `limit` bytes, and hands on the packets that
-/// are whole with it. `None` where nothing was asked for any: the stream is over, or has no memory for so many.
+/// are whole with it. `None` where `incoming` wasn't asked: the stream is over, or has no memory for so many.
 pub fn take_piece_from<F: PacketFormat, T: PacketTaker<F>, I: Incoming>(
     alloc: Global,
     stream: &mut Stream<F>,

@@ -1,4 +1,4 @@
--- What a side sends behind the hellos: packets, each with its id.
+-- What a side sends: packets, each with its id.
 use Rattle.std.specs.Prelude.{ℕ, List}
 use Rattle.redir_wire.specs.declared.packet.Caps.{Caps}
 use Rattle.redir_wire.specs.declared.packet.Header.{Header}

@@ -4,9 +4,10 @@ use packet_stream::Read;
 use redir_wire::{Header, RedirControl};
 use usb_base::Bytes;
 
-/// A packet of a transfer: a request on its way to the host, or its answer on the way to the guest. `status`
-/// is the byte of a `UsbStatus`, `length` how many bytes were asked for or moved, and `endpoint` the
-/// endpoint's address. Bytes stand only in requests to an OUT endpoint and in answers of an IN endpoint.
+/// A packet of a transfer: a request on its way to the host, or, on the way to the guest, its answer or a packet of a
+/// stream. `status` is the byte of a `UsbStatus`, `length` how many bytes were asked for or moved, and `endpoint` the
+/// byte of the endpoint's address. Data stand only in packets to the host of an OUT endpoint, and in packets to the
+/// guest of an IN endpoint.
 #[derive(Drop)]
 pub enum RedirData {
     /// Type 100, `usb_redir_control_packet`: `kind` is bmRequestType.

@@ -37,8 +37,8 @@ pub fn read_data(
     take_data(alloc, head, 0, way, caps, &mut bytes)
 }
 
-/// Takes the packet whose header this is, of `size` bytes, with it off the bytes, at whose front that stands, as
-/// `read_data` tells.
+/// Takes a packet off the bytes, with the header before it: that is `head`, was read already, and is the first `size`
+/// of them. What is taken and what is refused is as `read_data` tells.
 pub(crate) fn take_data<B: PacketBytes>(
     alloc: Global,
     head: &Header,

@@ -122,7 +122,7 @@ has_wanted caps r = option_map_or (has caps) r.wanted true
 abbrev pub has_more : Caps → TypeRow → Bool
 has_more caps r = option_map_or (λ (m : More). has caps m.capability) r.more false
 
--- so many bytes are more than the fixed fields have without it
+-- so many bytes are more than the fixed fields have without that capability
 abbrev pub is_longer : TypeRow → ℕ → Bool
 is_longer r length = nat_lt r.fixed length
 

@@ -23,7 +23,7 @@ pub struct FileTape<'a, R: Files + Eprint> {
 }
 
 impl<'a, R: Files + Eprint> FileTape<'a, R> {
-    /// None is made.
+    /// A tape whose file isn't made.
     pub fn new(system: &'a R) -> FileTape<'a, R>
         ensures made { result.file ≡ None }
         ensures counts { counts result.faults result.there ≡ counts 0 0 }

@@ -3,7 +3,7 @@
 use std::io;
 use std::io::Write;
 
-/// Hands all on to a writer, and says on standard error why a call of that has failed.
+/// Hands all on to a writer, and says on standard error why a write of that has failed.
 #[derive(Drop)]
 pub struct Telling<'a, R, W> {
     pub system: &'a R,

@@ -31,8 +31,8 @@ impl Model for TextTape {
 }
 
 impl TextTape {
-    /// A tape that isn't made, with room for `room` bytes. Each piece is a write, which are counted from 0, and exactly
-    /// those fail whose number is in `fails`, and those that find no room.
+    /// A tape that isn't made, with room for `room` bytes. A piece is one write, and one more where only a front of it
+    /// fits. Writes are counted from 0, and exactly those fail whose number is in `fails`, and those that find no room.
     pub fn new(
         alloc: Global,
         room: usize,

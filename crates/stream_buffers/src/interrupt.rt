@@ -17,7 +17,7 @@ pub struct Filling {
     pub count: usize,
     /// How many of their bytes fit.
     pub done: u32,
-    /// What came of it: the status of the last packet, or babble where more bytes came than fit.
+    /// What came of it: the status of the last packet, or babble where that is success and more bytes came than fit.
     pub status: UsbStatus,
 }
 

@@ -101,9 +101,9 @@ impl Up {
 
     /// What an interrupt request for so many bytes is given of the packets behind the first `from`, which stay: the
     /// fewest packets, at least one, of which the last has a status other than success or is shorter than the largest
-    /// packet, or which have as many bytes as are wanted (USB 2.0, 5.7.3). Bytes beyond those are dropped, and are
-    /// babble. None where there are no such packets. For a request that waits at the front each packet is looked at
-    /// once.
+    /// packet, or which have as many bytes as are wanted (USB 2.0, 5.7.3); where the largest packet has 0 bytes, one.
+    /// Bytes beyond those that are wanted are dropped, and success is babble then. None where there are no such
+    /// packets. For a request that waits at the front each packet is looked at once.
     pub fn filling(&mut self, from: usize, wanted: u32) -> Option<Filling>
         requires { from ≤ length self.old.held }
         ensures same { self.new ≡ self.old }

@@ -1,5 +1,5 @@
 -- What `Lives` is seen as: the requests of the present client, and those that a former client left with the
--- host, each in order of acceptance. A client comes only once nothing is left of the former.
+-- host, each in order of acceptance. A client's requests are taken in only once nothing is left of the former's.
 use Rattle.std.specs.Prelude.{◌≡◌, ◌⊎◌, ◌++◌, ◌-◌, ℕ, List, [], length, filter, nat_lt, if◌then◌else◌}
 use Rattle.std.specs.List.{remove}
 use Rattle.unlink_race.specs.declared.live.Live.{Live}

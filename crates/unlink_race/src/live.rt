@@ -87,7 +87,7 @@ impl LiveKind {
     }
 }
 
-/// A request in flight: a submit that was accepted and hasn't ended.
+/// A request in flight: a submit that was accepted and hasn't ended, or that a client which is gone left with the host.
 #[derive(Drop)]
 pub struct Live {
     /// The submit's number, which its answer has.

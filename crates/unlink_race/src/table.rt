@@ -144,7 +144,7 @@ impl Table {
             .is_some()
     }
 
-    /// Whether a request flies with this id.
+    /// Whether a wire or route request has this id.
     pub fn has_id(&self, id: u64) -> bool
         ensures { result ≡ list_any (has_id id) self.now }
     {
@@ -166,7 +166,7 @@ impl Table {
         self.place_found(By::Seqnum, u64::from(seqnum))
     }
 
-    /// Where the first request that flies with this id stands.
+    /// Where the first wire or route request with this id stands.
     pub fn place_of_id(&self, id: u64) -> Option<usize>
         ensures { result ≡ position (has_id id) self.now }
     {

@@ -7,7 +7,7 @@ ghost use Rattle.usb_base.specs.Reason.{number_of, name_of};
 /// host's, and the last two those of a USB/IP server.
 #[derive(Clone, Copy, Debug, PartialEq, Eq)]
 pub enum Reason {
-    /// The packet's first two bytes are no USB/IP version 1.1.1, and no URB packet.
+    /// The packet begins neither with USB/IP's version 1.1.1 (a list or import packet) nor with 00 00 (a URB packet).
     Version,
     /// The code of a list or import packet isn't one of this way.
     OpCode,
@@ -23,9 +23,9 @@ pub enum Reason {
     TooLong,
     /// The number of isochronous packets is above 1,024, and doesn't mean none.
     Packets,
-    /// A URB request came before an import.
+    /// A URB request came of a client that hasn't imported the device.
     NotImported,
-    /// A list or import request came after an import.
+    /// A list or import request came of a client that has imported the device.
     AlreadyImported,
     /// The number of a submit is that of one in flight.
     DuplicateSeq,

@@ -80,10 +80,10 @@ impl ReceiveBuffer {
         self.end = self.front;
     }
 
-    /// Puts a piece at the end, where `awaited` bytes are to stand in all before any is taken: there is room for them
-    /// at once, and behind it none is moved again. Bytes are moved only to memory that is kept for later, where they
-    /// have no room else, and where others before them were dropped, no fewer than they are or such that there is no
-    /// room else. It takes no memory for an empty piece.
+    /// Puts a piece at the end, where `awaited` bytes are to stand in all before any is taken: room for all of them is
+    /// made at once, so that none is moved as the others come. What is there may be moved for that room: to the memory
+    /// that is kept for later (`move_to_spare`), to the front of its own (`settle`), or to more memory (`reserve`). It
+    /// takes no memory for an empty piece.
     pub fn receive(&mut self, piece: &[u8], awaited: usize) -> Result<(), Memory>
         ensures ok { OnOk result (self.new ≡ self.old ++ piece.now) }
         ensures err { OnErr result (self.new ≡ self.old) }
@@ -99,7 +99,7 @@ impl ReceiveBuffer {
     }
 
     /// Has the next bytes come straight into its memory, at most `limit` of them, and says how many did. There is room
-    /// for those that are awaited, as where a piece is put. `None` for want of memory: nothing was asked for any then.
+    /// for those that are awaited, as where a piece is put. `None` for want of memory: `incoming` wasn't asked then.
     pub fn receive_from<I: Incoming>(
         &mut self,
         limit: usize,
@@ -117,8 +117,8 @@ impl ReceiveBuffer {
         Some(count)
     }
 
-    /// Keeps the memory of an empty list for later, where that is long, and more than what it keeps so far. The other
-    /// list has that then. What stands in the memory of an empty list is room.
+    /// Keeps the memory of an empty list for later, where that is long, and more than what it keeps so far, which the
+    /// list gets for it. What stands in the memory of an empty list is room.
     pub fn keep_memory(&mut self, empty: &mut Bytes)
         ensures stands { self.new ≡ self.old }
         ensures empty { empty.new ≡ empty.old }
@@ -170,8 +170,8 @@ impl ReceiveBuffer {
         Ok(())
     }
 
-    /// Moves the bytes up to the room that a long list has before them, where that is worth it for so many more: a
-    /// stream's bytes begin anywhere behind it.
+    /// Moves the bytes to the front, behind the `ROOM` that a long list has before it, where that is worth it for so
+    /// many more (`is_movable`). Where there are none, the next ones come there.
     fn settle(&mut self, more: usize) -> Result<(), Memory>
         ensures { self.new ≡ self.old }
     {
@@ -187,7 +187,7 @@ impl ReceiveBuffer {
         Ok(())
     }
 
-    /// Whether the bytes are no more than those that were dropped before them, or have no room for so many behind them.
+    /// Whether the bytes are no more than there is room before them, or have no room for so many behind them.
     fn is_movable(&self, more: usize) -> bool {
         let room = self.block.capacity().saturating_sub(self.end);
         self.len() <= self.front || room < more

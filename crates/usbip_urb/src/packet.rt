@@ -94,7 +94,7 @@ pub struct Unlink {
 #[derive(Clone, Copy)]
 pub struct RetUnlink {
     pub head: Head,
-    /// -104 (ECONNRESET) where the submit was taken back, and 0 where it was answered before.
+    /// -104 (ECONNRESET) where this unlink took the submit back, and else 0.
     pub status: i32,
     /// Bytes that senders write as 0.
     pub pad: [u8; 24],

@@ -156,7 +156,7 @@ fn push_head(
     out.append(&start)
 }
 
-/// There is room for all of them before the first comes.
+/// Appends descriptors; room for all of them is made before the first comes.
 fn push_descs(descs: &[IsoDesc], out: &mut Bytes) -> Result<(), Memory>
     ensures { AppendsSome result out.old out.new (descs_bytes descs.now) }
 {

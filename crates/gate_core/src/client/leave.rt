@@ -96,7 +96,7 @@ impl Kept {
         ensures kept { IsKept self.old → self.old.imported ≡ false → IsKept self.new }
         ensures abandoned { self.new ≡ record self.old { lives = record { live = []; abandoned = self.old.lives.abandoned ++ filter goes_by_id self.old.lives.live } } }
     {
-        // Of live and abandoned requests there are one kind alone.
+        // There are live requests or abandoned ones, but never both.
         self.lives.one_is_empty();
         if self.lives.abandoned() == 0 {
             self.lives.abandon();

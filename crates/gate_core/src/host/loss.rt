@@ -21,8 +21,8 @@ use gate_parts::{Outputs, acknowledge, write_lost};
 use usb_base::{Bytes, Memory, Refusal};
 
 impl Kept {
-    /// Appends the answers of all requests in flight, whose device is lost. It gives the number of those that were
-    /// asked back, whose unlinks are answered.
+    /// Appends the answers of all live requests, whose device is lost. It gives the number of those that were asked
+    /// back, whose unlinks are answered.
     fn write_losses(&self, to_client: &mut Bytes) -> Result<u64, Memory>
         requires { IsKept self.now }
         ensures ok { OnOk result (to_client.new ≡ to_client.old ++ flat_map lost_bytes self.now.lives.live) }
@@ -87,7 +87,7 @@ impl Kept {
         Ok(())
     }
 
-    /// The device is gone, and the host waits for this packet of it to be acknowledged.
+    /// The device is gone: the host's packet with this id tells so, and is acknowledged where that is agreed.
     pub fn disconnect(&mut self, id: u64, out: &mut Outputs) -> Result<(), Memory>
         requires kept { IsKept self.old }
         requires id_fits { IdFits (wide_ids self.old.caps) id }
@@ -103,7 +103,7 @@ impl Kept {
         Ok(())
     }
 
-    /// Tells that an import stands no more.
+    /// Tells that an import stands no more, if one did.
     fn tell_loss(&self, notes: &mut Notes) -> Result<(), Memory>
         ensures ok { OnOk result (notes.new ≡ notes.old ++ when (self.now.imported && not self.now.lost) DeviceGone) }
         ensures err { OnErr result (notes.new ≡ notes.old) }

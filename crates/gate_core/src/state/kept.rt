@@ -24,7 +24,7 @@ pub struct Kept {
     pub caps: Caps,
     /// The present client has imported the device.
     pub imported: bool,
-    /// The device was lost after the last import.
+    /// The device was lost, and no import came after that.
     pub lost: bool,
     /// The present client was refused.
     pub client_over: bool,
@@ -34,7 +34,8 @@ pub struct Kept {
     pub streams: Streams,
     /// The ids of what started and stopped them.
     pub stream_ids: StreamIds,
-    /// The id of the last stop that a client's leaving sent, until the host has answered it: no import passes it.
+    /// The fence, the id of the last stop that a client's leaving sent, until the host has answered it or the device is
+    /// lost: no import passes it.
     pub fence: Option<u64>,
     /// The id that was drawn last.
     pub last: u64,

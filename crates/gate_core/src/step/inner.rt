@@ -43,8 +43,8 @@ impl Inner {
         })
     }
 
-    /// Long bodies leave a stream with the memory that they came in, and what is sent then has it. So each stream keeps
-    /// what the other side's bytes were sent from, once they are.
+    /// Long bodies leave a stream with the memory that they came in, which the list that is sent to the other side has
+    /// then. So each stream keeps the memory of that list, once it is sent and empty.
     pub fn keep_memory(&mut self, to_client: &mut Bytes, to_host: &mut Bytes)
         ensures stands { self.new ≡ self.old }
         ensures client { to_client.new ≡ to_client.old }

@@ -1,4 +1,4 @@
--- What a submit asks for, beside the bytes that it is written in.
+-- What a submit asks for: its transfer, and what its answer has of it.
 use Rattle.std.specs.Prelude.{ℕ, ◌+◌, ◌==◌, Bool, not, if◌then◌else◌, Some, None}
 use Rattle.usb_base.specs.Setup.{is_in_setup, setup_at}
 use Rattle.usb_base.specs.declared.transfer.Transfer.{Transfer}

@@ -57,7 +57,7 @@ agrees _ = None
 
 -- ---- of a past
 
--- the last of the two that came is of the first kind
+-- of the effects that start it and those that stop it, the last that came starts it
 abbrev pub turned : (Effect → Bool) → (Effect → Bool) → Effect → Bool → Bool
 turned starts stops e before = if starts e then true else (if stops e then false else before)
 
@@ -68,7 +68,7 @@ since starts stops ms = rfold (λ before m. turned starts stops m.what before) f
 abbrev pub imported : List Mark → Bool
 imported ms = since imports leaves ms
 
--- the device was lost after the last import
+-- the device was lost, and no import came after that
 abbrev pub lost : List Mark → Bool
 lost ms = since is_loss imports ms
 

@@ -17,7 +17,7 @@ use Rattle.gate_history.specs.step.Past.{past}
 pub record IsSound (st : State) : Type 0 where
   pub few : length st.live ≤ MAX_LIVE
   pub left : length st.abandoned ≤ MAX_LIVE
-  -- a client comes once nothing is left of the former, and only one that has imported has submits
+  -- a client imports once nothing is left of the former, and only one that has imported has submits
   pub apart : st.imported ≡ true → st.abandoned ≡ []
   pub gone : st.imported ≡ false → st.live ≡ []
   -- each submit stands before the next item

@@ -51,7 +51,7 @@ lower_at byte ups = if is_address byte then slice_set ups (endpoint_index byte) 
 abbrev pub hold : ℕ → List StreamPacket → List (Option Up) → List (Option Up)
 hold ep packets ups = slice_set ups (endpoint_index ep) (option_map (λ (up : Up). record up { held = packets }) (stream_at ups ep))
 
--- one of an interface whose transfers end with the route, which no route is where the client is gone
+-- a stream ends with a route that touches its interface; no route means that the client is gone, with which each ends
 abbrev pub is_ended : Option Route → Up → Bool
 is_ended route up = option_map_or (λ r. touches r up.row.interface) route true
 

@@ -49,7 +49,7 @@ pub data Effect : Type 0 where
   Arrives : (ep : ℕ) → Fill → Effect
   -- the host tells of the stream of an endpoint, by the id of what started or stopped it
   StreamTold : (id ep : ℕ) → UsbStatus → Effect
-  -- the device is gone, and the host waits for this to be acknowledged
+  -- the device is gone: the packet with this id tells so, and is acknowledged where that is agreed
   Disconnects : (id : ℕ) → Effect
   -- a side ends
   Ends : Side → Effect

@@ -44,7 +44,7 @@ pub fn import_reply(facts: &Facts, connect: &Connect) -> OpPacket
     }
 }
 
-/// The reply to an import that fails. Clients take any status other than 0 so.
+/// The reply to an import that fails. To clients any status other than 0 says so.
 pub fn failed_import() -> OpPacket
     ensures value { result ≡ failed_import }
     ensures writable { IsWritable result }

@@ -61,7 +61,7 @@ pub fn write_filling(
     }
 }
 
-/// The bytes of these packets fill it.
+/// Appends the answer of an interrupt request that these packets fill.
 fn push_transferred(
     alloc: Global,
     live: &Live,
@@ -78,7 +78,7 @@ fn push_transferred(
     Ok(())
 }
 
-/// These packets fill it, one for each descriptor.
+/// Appends the answer of an isochronous request that these packets fill, one for each descriptor.
 fn push_pieces(
     alloc: Global,
     live: &Live,
@@ -96,7 +96,7 @@ fn push_pieces(
     Ok(())
 }
 
-/// The fields of its answer in front of the body.
+/// Appends the fields of a request's answer in front of the body.
 fn push_front(
     alloc: Global,
     live: &Live,

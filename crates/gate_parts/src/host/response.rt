@@ -213,8 +213,8 @@ fn route_gets(route: &Route) -> bool
     matches!(route, Route::GetConfig | Route::GetAlt(_))
 }
 
-/// What came of a request's transfer by its answer, whose data are moved. A status gives a byte where the request asks
-/// for its value and for any bytes; memory is wanting for that byte alone.
+/// What came of a request's transfer by its answer, whose data are moved. A status of success gives a byte where the
+/// request asks for its value and for at least one byte; memory is wanting for that byte alone.
 pub fn told_outcome(alloc: Global, live: &Live, response: Response) -> Result<Outcome, Memory>
     ensures ok { IfOk result (λ o. (r : Request) (v : Verdict) → r.transfer.wanted ≡ live.now.wanted → gets_value v ≡ row_gets live.now.kind → o ≡ told_outcome r v (response_view response)) }
     ensures err { OnErr result ((row_gets live.now.kind ≡ true) × (0 < live.now.wanted) × (has_succeeded (response_view response) ≡ true)) }

@@ -98,11 +98,11 @@ pub struct SentIds {
     pub stream_ids: StreamIds,
     /// The id that was drawn last.
     pub last: u64,
-    /// The id of the last stop, where the client is gone.
+    /// The fence where the client is gone: the id of the last stop that was sent now, or else the fence of before.
     pub fence: Option<u64>,
 }
 
-/// The id that no import passes, once the host has told of this one.
+/// The fence, an id that no import passes, once the host has told of the packet with this id.
 pub fn lifted(id: u64, fence: Option<u64>) -> Option<u64>
     ensures { result ≡ lifted id fence }
 {

@@ -70,7 +70,7 @@ impl Streams {
         self.ups[ep.index()] = Some(up);
     }
 
-    /// That of an endpoint goes up, unless it is.
+    /// That of an endpoint goes up, unless it is up already.
     pub fn raise(&mut self, alloc: Global, ep: EpAddr, row: EpRow)
         ensures { self.new ≡ raise (record { ep = ep; row = row; held = [] }) self.old }
     {

@@ -67,8 +67,8 @@ pub fn write_outcome(
     write_ret_submit(answer, out)
 }
 
-/// Appends the answer of the unlink with this number: -104 (ECONNRESET) where it won, and 0 where its submit was
-/// answered before. For want of memory `out` stands.
+/// Appends the answer of the unlink with this number: the status is -104 (ECONNRESET) where it won, and else 0. For
+/// want of memory `out` stands.
 pub fn write_ret_unlink(seqnum: u32, status: i32, out: &mut Bytes) -> Result<(), Memory>
     ensures ok { OnOk result (out.new ≡ out.old ++ spelling (ret_unlink seqnum status)) }
     ensures err { OnErr result (out.new ≡ out.old) }

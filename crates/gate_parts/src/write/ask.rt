@@ -159,7 +159,7 @@ pub fn write_hello(alloc: Global, out: &mut Bytes) -> Result<(), Memory>
     write_control(&hello, 0, Caps::empty(), out)
 }
 
-/// Appends the cancel of a transfer on the wire, and nothing for any other request.
+/// Appends the cancel of a transfer on the wire that wasn't asked back, and nothing for any other request.
 pub fn write_cancel_of(live: &Live, caps: Caps, to_host: &mut Bytes) -> Result<(), Memory>
     requires { IdFits (wide_ids caps) live.now.id }
     ensures ok { OnOk result (to_host.new ≡ to_host.old ++ cancel_bytes caps live.now) }

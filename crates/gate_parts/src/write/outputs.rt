@@ -36,7 +36,7 @@ impl Outputs {
         }
     }
 
-    /// Exchanges what is sent with these lists: so an event appends to what stood in them, and they have it behind it.
+    /// Exchanges what is sent with these lists: before an event, which so appends to what stood in them, and after it.
     pub fn exchange(&mut self, to_client: &mut Bytes, to_host: &mut Bytes)
         ensures outputs { self.new ≡ record self.old { to_client = to_client.old; to_host = to_host.old } }
         ensures client { to_client.new ≡ self.old.to_client }
