@@ -41,8 +41,8 @@ when b x = if b then x ∷ [] else []
 abbrev pub deeds_of : State → Mark → List Deed
 deeds_of st m =
     import_deeds m.what ++ submit_deeds m.what ++ unlink_deeds m.what ++ arrive_deeds m.what ++ answer_deeds st m.what
-    ++ when (is_loss m.what && st.imported && not st.lost) Gone
-    ++ when (leaves m.what && not st.client_over) ClientGone
+    ++ when (is_loss m.what && st.sides.imported && not st.sides.lost) Gone
+    ++ when (leaves m.what && not st.sides.client_over) ClientGone
 
 -- ---- the host
 

@@ -49,11 +49,11 @@ Early w j = record {
 abbrev pub Meets : {S : Type 0} → World S → Shared → Type 0
 Meets w j = record {
   host : w.host.guest.first ≡ false → w.host.guest.caps ≡ both_caps;
-  gate : list_any is_greeting j.back ≡ false → w.gate.agreed ≡ both_caps;
+  gate : list_any is_greeting j.back ≡ false → w.gate.sides.agreed ≡ both_caps;
   -- behind the gateway's hello the host has told of the device, unless that was unplugged
   announced : w.host.guest.first ≡ false → w.host.unplugged ≡ false → is_announced w j ≡ true;
   behind : is_some w.gate.facts.connect ≡ true → (list_any is_greeting j.back ≡ false) × (list_any is_plug j.back ≡ false) × (w.host.guest.first ≡ false);
   once : PlugOnce j.back;
   plugged : list_any is_plug j.back ≡ true → w.host.guest.first ≡ false;
-  no_session : w.gate.imported ≡ true → w.gate.lost ≡ false → is_some w.gate.facts.connect ≡ true;
+  no_session : w.gate.sides.imported ≡ true → w.gate.sides.lost ≡ false → is_some w.gate.facts.connect ≡ true;
 }

@@ -37,11 +37,11 @@ Queued w j = record {
 abbrev pub Sides : State → Bool → Type 0
 Sides g away = record {
   -- the host is never refused, and its wire has no end
-  reads : g.host_over ≡ false;
+  reads : g.sides.host_over ≡ false;
   -- a client that was refused has left
-  refused : g.client_over ≡ true → g.imported ≡ false;
-  gone : away ≡ true → g.lost ≡ true;
-  seen : g.imported ≡ true → g.lost ≡ away;
+  refused : g.sides.client_over ≡ true → g.sides.imported ≡ false;
+  gone : away ≡ true → g.sides.lost ≡ true;
+  seen : g.sides.imported ≡ true → g.sides.lost ≡ away;
 }
 
 -- nothing runs at a host that is unplugged, and the farewell is the last that it sends
@@ -66,15 +66,15 @@ pub record Related {S : Type 0} (m : Meaning S) (w : World S) (j : Shared) : Typ
   pub asked : w.host.guest.first ≡ false → AllByRecursion (λ (p : ℕ × RedirPacket). IsAsking p.1) w.to_host
   pub meets : Meets w j
   -- what the host owes is what waits for it, until the device is lost
-  pub debts : w.gate.lost ≡ false → debts_of (submits w.gate) ++ debts_of w.gate.abandoned ≡ j.debts
-  pub controls : w.gate.lost ≡ false → Controls w.gate.stream_ids w.to_host j.back
-  pub fenced : w.gate.lost ≡ false → Fenced w.gate.fence j.fenced w.to_host j.back
-  pub alone : w.gate.imported ≡ true → (w.gate.abandoned ≡ []) × (w.gate.fence ≡ None)
-  pub session : w.gate.lost ≡ false → is_announced w j ≡ true → Session m w j
+  pub debts : w.gate.sides.lost ≡ false → debts_of (submits w.gate) ++ debts_of w.gate.abandoned ≡ j.debts
+  pub controls : w.gate.sides.lost ≡ false → Controls w.gate.stream_ids w.to_host j.back
+  pub fenced : w.gate.sides.lost ≡ false → Fenced w.gate.fence j.fenced w.to_host j.back
+  pub alone : w.gate.sides.imported ≡ true → (w.gate.abandoned ≡ []) × (w.gate.fence ≡ None)
+  pub session : w.gate.sides.lost ≡ false → is_announced w j ≡ true → Session m w j
   pub ups : UpsFit w.gate.streams
   -- without a client no stream is up
-  pub down : w.gate.imported ≡ false → w.gate.streams ≡ no_streams
+  pub down : w.gate.sides.imported ≡ false → w.gate.streams ≡ no_streams
   -- the loss: nothing comes any more
-  pub lost : w.gate.lost ≡ true → (j.back ≡ []) × (w.host.unplugged ≡ true) × (w.gate.facts.connect ≡ None) × (w.gate.live ≡ []) × ((ep : ℕ) → stream_of w.gate.streams ep ≡ None)
+  pub lost : w.gate.sides.lost ≡ true → (j.back ≡ []) × (w.host.unplugged ≡ true) × (w.gate.facts.connect ≡ None) × (w.gate.live ≡ []) × ((ep : ℕ) → stream_of w.gate.streams ep ≡ None)
   pub sides : Sides w.gate j.gone
   pub farewell : Farewell w.host j.back

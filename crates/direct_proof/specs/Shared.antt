@@ -49,9 +49,9 @@ view w j = record {
   gadget = w.host.gadget;
   live = map live_of w.gate.live;
   queue = map at_device (j.held ++ j.coming);
-  ran = if w.gate.imported then map ran_of (runs_in j.back) else [];
+  ran = if w.gate.sides.imported then map ran_of (runs_in j.back) else [];
   streams = w.gate.streams;
   way = λ ep. way_of (stream_of w.gate.streams ep) ep j.back;
-  imported = w.gate.imported;
+  imported = w.gate.sides.imported;
   gone = j.gone;
 }

@@ -107,7 +107,7 @@ meets-client first (o ∷ os) (y ∷ ys) xs h k = meets-client first (o ∷ os) 
 -- each has the header that the gateway's move reads it with
 abbrev pub Heads : State → List Found → Type 0
 Heads st [] = Unit {0}
-Heads st (i ∷ is) = (i.1.0 ≡ sent_header st.agreed (bare i.1)) × Heads (step st (told_item i)) is
+Heads st (i ∷ is) = (i.1.0 ≡ sent_header st.sides.agreed (bare i.1)) × Heads (step st (told_item i)) is
 
 met-heads : (first : ℕ) (is : List Found) (xs : List Item) → Each (IsBehind ToGuest) is → HasMet first xs → Heads (run first xs) is
 met-heads first [] xs h k = tt

@@ -24,7 +24,7 @@ host-hears m s = refl
 gateway-hears : {S : Type 0} (m : Meaning S) (s : S) → (run as_items m s (GateReads 0 ∷ HostReads ∷ [])).world.to_gate ≡ tells m s
 gateway-hears m s = refl
 
-both-agree : {S : Type 0} (m : Meaning S) (s : S) → (run as_items m s (GateReads 0 ∷ [])).world.gate.agreed ≡ both_caps
+both-agree : {S : Type 0} (m : Meaning S) (s : S) → (run as_items m s (GateReads 0 ∷ [])).world.gate.sides.agreed ≡ both_caps
 both-agree m s = refl
 
 -- nothing is there to be read

@@ -28,8 +28,8 @@ use Rattle.direct_run.proofs.Flowing.{flows-first, flows-piece, flows-end, GetsT
 gate-sends : SentCanBeRead
 gate-sends = λ first events are.
     let xs = arrivals events in
-    subst (Each (CanBeRead ByGate (state_of first (history first events)).agreed)) (sym (all-run to_host first xs))
-    (subst (λ (st : State). Each (CanBeRead ByGate st.agreed) (all_given to_host first xs)) (sym (state-run first xs)) (goes first xs (comes events are).0).read)
+    subst (Each (CanBeRead ByGate (state_of first (history first events)).sides.agreed)) (sym (all-run to_host first xs))
+    (subst (λ (st : State). Each (CanBeRead ByGate st.sides.agreed) (all_given to_host first xs)) (sym (state-run first xs)) (goes first xs (comes events are).0).read)
 
 -- ---- what the next piece on a wire brings
 

@@ -71,9 +71,9 @@ pub to-host-are : {S : Type 0} (m : Meaning S) (s : S) (c : Course) → Flows m 
 to-host-are m s c f h = ap (λ (b : List ℕ). sent_packet_bytes no_caps (0, gateway_hello) ++ b) (met-bytes (read_by_gate c) c f.meets) ∙ sym (to-host-bytes (sent_by_gate c) h)
 
 -- what the gateway sent can be read with the capabilities of both
-pub later-sent : (old : List Found) (c : Course) → Meets first_id old (arrivals c.events) → Each (CanBeRead ToHost (state_of first_id (history first_id c.events)).agreed) (sent_by_gate c) → Each (CanBeRead ToHost both_caps) (sent_by_gate c)
+pub later-sent : (old : List Found) (c : Course) → Meets first_id old (arrivals c.events) → Each (CanBeRead ToHost (state_of first_id (history first_id c.events)).sides.agreed) (sent_by_gate c) → Each (CanBeRead ToHost both_caps) (sent_by_gate c)
 later-sent [] c k h = subst (Each (CanBeRead ToHost both_caps)) (sym (all-run to_host first_id (arrivals c.events) ∙ k.none)) tt
-later-sent (o ∷ os) c k h = subst (λ (caps : Caps). Each (CanBeRead ToHost caps) (sent_by_gate c)) (ap (λ (st : State). st.agreed) (state-run first_id (arrivals c.events)) ∙ k.agreed) h
+later-sent (o ∷ os) c k h = subst (λ (caps : Caps). Each (CanBeRead ToHost caps) (sent_by_gate c)) (ap (λ (st : State). st.sides.agreed) (state-run first_id (arrivals c.events)) ∙ k.agreed) h
 
 -- ---- what a piece brings
 

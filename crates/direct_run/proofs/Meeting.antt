@@ -16,7 +16,7 @@ use Rattle.redir_host.specs.write.Output.{host_hello}
 use Rattle.gate_history.specs.declared.item.Item.{Item}
 use Rattle.gate_history.specs.declared.item.Item.TheVariants.{Asked, ClientWrong, ClientLeft, Told, HostWrong, HostLeft}
 use Rattle.gate_history.specs.step.Marks.{Mark, Agrees}
-use Rattle.gate_history.specs.state.Sides.{agreed as agreed_of, agrees, host_over as host_over_of}
+use Rattle.gate_history.specs.state.Sides.{sides, agrees, host_over as host_over_of}
 use Rattle.gate_history.specs.state.Ups.{Up}
 use Rattle.gate_history.specs.write.Packets.{asked_packets}
 use Rattle.gate_history.specs.state.State.{State}
@@ -45,8 +45,8 @@ IsClients HostLeft = ⊥
 
 pub record IsFresh (st : State) : Type 0 where
   pub quiet : IsQuiet st
-  pub host_there : st.host_over ≡ false
-  pub agreed : st.agreed ≡ no_caps
+  pub host_there : st.sides.host_over ≡ false
+  pub agreed : st.sides.agreed ≡ no_caps
 
 untold : (x : Item) → IsClients x → IsUntold x
 untold (Told place header packet) h = h
@@ -66,7 +66,7 @@ pub record IsUnmet (first : ℕ) (xs : List Item) : Type 0 where
 
 -- the hello was read
 pub record HasMet (first : ℕ) (xs : List Item) : Type 0 where
-  pub agreed : (run first xs).agreed ≡ both_caps
+  pub agreed : (run first xs).sides.agreed ≡ both_caps
   pub bytes : all_given host_bytes_of first xs ≡ flat_map (sent_packet_bytes both_caps) (all_given to_host first xs)
 
 pub unmet-first : (first : ℕ) → IsUnmet first []
@@ -81,17 +81,17 @@ client-items P asked wrong left (ClientWrong place reason) client = wrong place 
 client-items P asked wrong left ClientLeft client = left
 client-items P asked wrong left _ client = absurd client
 
-pub client-agreed : (first : ℕ) (xs : List Item) (x : Item) → IsClients x → (run first (x ∷ xs)).agreed ≡ (run first xs).agreed
+pub client-agreed : (first : ℕ) (xs : List Item) (x : Item) → IsClients x → (run first (x ∷ xs)).sides.agreed ≡ (run first xs).sides.agreed
 client-agreed first xs x client =
-    ap (λ (st : State). st.agreed) (sym (state-run first (x ∷ xs)))
-    ∙ client-items (λ (y : Item). agreed_of (past first (y ∷ xs)) ≡ agreed_of (past first xs)) (asked-agreed first xs) (wrong-agreed first xs) (left-agreed first xs) x client
-    ∙ ap (λ (st : State). st.agreed) (state-run first xs)
+    ap (λ (st : State). st.sides.agreed) (sym (state-run first (x ∷ xs)))
+    ∙ client-items (λ (y : Item). (sides (past first (y ∷ xs))).agreed ≡ (sides (past first xs)).agreed) (asked-agreed first xs) (wrong-agreed first xs) (left-agreed first xs) x client
+    ∙ ap (λ (st : State). st.sides.agreed) (state-run first xs)
 
-client-host : (first : ℕ) (xs : List Item) (x : Item) → IsClients x → (run first (x ∷ xs)).host_over ≡ (run first xs).host_over
+client-host : (first : ℕ) (xs : List Item) (x : Item) → IsClients x → (run first (x ∷ xs)).sides.host_over ≡ (run first xs).sides.host_over
 client-host first xs x client =
-    ap (λ (st : State). st.host_over) (sym (state-run first (x ∷ xs)))
+    ap (λ (st : State). st.sides.host_over) (sym (state-run first (x ∷ xs)))
     ∙ client-items (λ (y : Item). host_over_of (past first (y ∷ xs)) ≡ host_over_of (past first xs)) (asked-host first xs) (wrong-host first xs) (left-host first xs) x client
-    ∙ ap (λ (st : State). st.host_over) (state-run first xs)
+    ∙ ap (λ (st : State). st.sides.host_over) (state-run first xs)
 
 -- ---- one item more
 
@@ -110,16 +110,16 @@ unmet-more first xs x client u =
         agreed = client-agreed first xs x client ∙ u.fresh.agreed;
       };
       none = (λ i. u.none i ++ cond left [] (to_host st (same i))) ∙ elim left as (λ (b : Bool). cond b [] (to_host st m) ≡ []) [ true ↦ refl | false ↦ silent ];
-      no_bytes = (λ i. u.no_bytes i ++ cond left [] (flat_map (sent_packet_bytes st.agreed) (to_host st (same i))))
-          ∙ elim left as (λ (b : Bool). cond b [] (flat_map (sent_packet_bytes st.agreed) (to_host st m)) ≡ []) [ true ↦ refl | false ↦ ap (flat_map (sent_packet_bytes st.agreed)) silent ];
+      no_bytes = (λ i. u.no_bytes i ++ cond left [] (flat_map (sent_packet_bytes st.sides.agreed) (to_host st (same i))))
+          ∙ elim left as (λ (b : Bool). cond b [] (flat_map (sent_packet_bytes st.sides.agreed) (to_host st m)) ≡ []) [ true ↦ refl | false ↦ ap (flat_map (sent_packet_bytes st.sides.agreed)) silent ];
     }
 
-pub met-more : (first : ℕ) (xs : List Item) (x : Item) → (run first (x ∷ xs)).agreed ≡ (run first xs).agreed → HasMet first xs → HasMet first (x ∷ xs)
+pub met-more : (first : ℕ) (xs : List Item) (x : Item) → (run first (x ∷ xs)).sides.agreed ≡ (run first xs).sides.agreed → HasMet first xs → HasMet first (x ∷ xs)
 met-more first xs x same h =
     let st = run first xs in
     let m = mark_of st x in
     let one : given host_bytes_of st x ≡ flat_map (sent_packet_bytes both_caps) (given to_host st x) =
-    elim (is_left_out st x) as (λ (b : Bool). cond b [] (flat_map (sent_packet_bytes st.agreed) (to_host st m)) ≡ flat_map (sent_packet_bytes both_caps) (cond b [] (to_host st m)))
+    elim (is_left_out st x) as (λ (b : Bool). cond b [] (flat_map (sent_packet_bytes st.sides.agreed) (to_host st m)) ≡ flat_map (sent_packet_bytes both_caps) (cond b [] (to_host st m)))
     [ true ↦ refl | false ↦ ap (λ (caps : Caps). flat_map (sent_packet_bytes caps) (to_host st m)) h.agreed ] in
     record {
       agreed = same ∙ h.agreed;
@@ -133,9 +133,9 @@ met-hello first xs place h u =
     let m = mark_of st x in
     let silent : to_host st m ≡ [] = none-sent st (Agrees both_caps) u.fresh.quiet.live (ap (λ (ups : List (Option Up)). asked_packets ups (Agrees both_caps)) u.fresh.quiet.streams) refl in
     let none : all_given to_host first (x ∷ xs) ≡ [] = (λ i. u.none i ++ cond (u.fresh.host_there i) [] (silent i)) in
-    let no_bytes : all_given host_bytes_of first (x ∷ xs) ≡ [] = (λ i. u.no_bytes i ++ cond (u.fresh.host_there i) [] (flat_map (sent_packet_bytes st.agreed) (silent i))) in
+    let no_bytes : all_given host_bytes_of first (x ∷ xs) ≡ [] = (λ i. u.no_bytes i ++ cond (u.fresh.host_there i) [] (flat_map (sent_packet_bytes st.sides.agreed) (silent i))) in
     record {
-      agreed = ap (λ (b : Bool). (cond b st (with_mark st m)).agreed) u.fresh.host_there;
+      agreed = ap (λ (b : Bool). (cond b st (with_mark st m)).sides.agreed) u.fresh.host_there;
       bytes = no_bytes ∙ ap (flat_map (sent_packet_bytes both_caps)) (sym none);
     }
 
@@ -147,8 +147,8 @@ told-agrees st place h (Plain plain.Disconnect) none = refl
 told-agrees st place h (Carrying d) none = data-agrees st place h d
 told-agrees st place h p none = response-agrees st place h (response_of p)
 
-pub told-agreed : (first : ℕ) (xs : List Item) (place : ℕ) (h : Header) (p : RedirPacket) → is_hello p ≡ false → (run first (Told place h p ∷ xs)).agreed ≡ (run first xs).agreed
+pub told-agreed : (first : ℕ) (xs : List Item) (place : ℕ) (h : Header) (p : RedirPacket) → is_hello p ≡ false → (run first (Told place h p ∷ xs)).sides.agreed ≡ (run first xs).sides.agreed
 told-agreed first xs place h p none =
     let st = run first xs in
-    elim st.host_over as (λ (b : Bool). (cond b st (with_mark st (mark_of st (Told place h p)))).agreed ≡ st.agreed)
-    [ true ↦ refl | false ↦ ap (λ (o : Option Caps). unwrap_or o st.agreed) (told-agrees st place h p none) ]
+    elim st.sides.host_over as (λ (b : Bool). (cond b st (with_mark st (mark_of st (Told place h p)))).sides.agreed ≡ st.sides.agreed)
+    [ true ↦ refl | false ↦ ap (λ (o : Option Caps). unwrap_or o st.sides.agreed) (told-agrees st place h p none) ]

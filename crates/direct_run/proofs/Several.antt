@@ -106,7 +106,7 @@ pub told-moves : {S T : Type 0} (t : Telling T) (m : Meaning S) (w : World S) (i
 told-moves t m w [] later h = none-more t (record w { to_gate = later })
 told-moves {S = S} {T = T} t m w (i ∷ is) later h =
     let v : World S = record w { to_gate = bares is ++ later } in
-    let read : gate_move t v (Told i.0 (sent_header w.gate.agreed (bare i.1)) i.1.1) ≡ gate_one t v (told_item i) = ap (λ (x : Header). gate_move t v (Told i.0 x i.1.1)) (sym h.0) ∙ one-is t v (told_item i) in
+    let read : gate_move t v (Told i.0 (sent_header w.gate.sides.agreed (bare i.1)) i.1.1) ≡ gate_one t v (told_item i) = ap (λ (x : Header). gate_move t v (Told i.0 x i.1.1)) (sym h.0) ∙ one-is t v (told_item i) in
     ap (λ (y : Made S T). then_made y (made_by t m y.world (map (λ (j : Found). GateReads j.0) is))) read
     ∙ ap (then_made (gate_one t v (told_item i))) (told-moves t m (gate_one t v (told_item i)).world is later h.1)
     ∙ one-more t (record w { to_gate = later }) (told_item i) (map told_item is)

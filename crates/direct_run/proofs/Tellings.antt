@@ -67,7 +67,7 @@ module _ {S T U V : Type 0} (f : List T → List V) (g : List U → List V) (t :
       where
         go : (ps : List (ℕ × RedirPacket)) → Alike f g (gate_reads t w place ps) (gate_reads u w place ps)
         go [] = quiet-alike w
-        go (p ∷ ps) = gate-alike (record w { to_gate = ps }) (Told place (sent_header w.gate.agreed p) p.1)
+        go (p ∷ ps) = gate-alike (record w { to_gate = ps }) (Told place (sent_header w.gate.sides.agreed p) p.1)
     move-alike w (Performs ep) = record { world = refl; outs = refl; told = a.performs w.submits ep (told_performed m w.host ep) }
     move-alike w (Offers ep) = record { world = refl; outs = refl; told = a.offers ep (told_offered m w.host ep) }
     move-alike w Unplugs = record { world = refl; outs = refl; told = a.cancels [] [] }

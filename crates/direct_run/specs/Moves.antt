@@ -90,7 +90,7 @@ gate_move t w x = if is_left_out w.gate x then quiet w else gate_made t w (mark_
 -- the next packet, as it is read at this place of the host's stream
 abbrev pub gate_reads : {S T : Type 0} → Telling T → World S → ℕ → List (ℕ × RedirPacket) → Made S T
 gate_reads t w place [] = quiet w
-gate_reads t w place (p ∷ ps) = gate_move t (record w { to_gate = ps }) (Told place (sent_header w.gate.agreed p) p.1)
+gate_reads t w place (p ∷ ps) = gate_move t (record w { to_gate = ps }) (Told place (sent_header w.gate.sides.agreed p) p.1)
 
 -- ---- the host
 

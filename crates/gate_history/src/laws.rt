@@ -98,7 +98,7 @@ pub fn states_are_sound()
 pub fn ids_fly_once()
     ensures once { (first : ℕ) (items : List Item) → Once (in_flight (past first items)) }
     ensures fresh { (first : ℕ) (items : List Item) (item : Item) → HasFewPackets item
-        → AreFresh (greatest (wide_ids (state_of first (past first items)).agreed)) (in_flight (past first items))
+        → AreFresh (greatest (wide_ids (state_of first (past first items)).sides.agreed)) (in_flight (past first items))
         (mark_of (state_of first (past first items)) item).drawn }
     ensures drawn { (first : ℕ) (events : List PastEvent) → AreBytes (flat_map piece_bytes events) → DrawFresh first (arrivals events) }
     ensures next { (m : ℕ) (flying : List ℕ) (last id : ℕ)

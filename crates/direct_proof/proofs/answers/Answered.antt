@@ -41,13 +41,13 @@ abbrev pub with_back : Shared → List Tagged → Shared
 with_back j bs = record j { back = bs }
 
 abbrev pub answer_item : State → ℕ → Coming → GateItem
-answer_item st place c = Told place (sent_header st.agreed (on_wire (Answered c))) (on_wire (Answered c)).1
+answer_item st place c = Told place (sent_header st.sides.agreed (on_wire (Answered c))) (on_wire (Answered c)).1
 
 abbrev pub answer_mark : State → ℕ → Coming → Mark
 answer_mark st place c = mark_as st (Answers c.id (seen_of c.load c.configuration c.outcome)) (told_by (answer_item st place c))
 
 pub reads-moved : {S : Type 0} (m : Meaning S) (w : World S) (place k : ℕ) (c : Coming) (bs : List Tagged) →
-    w.to_gate ≡ map on_wire (Answered c ∷ bs) → w.gate.host_over ≡ false → IsComing c →
+    w.to_gate ≡ map on_wire (Answered c ∷ bs) → w.gate.sides.host_over ≡ false → IsComing c →
     find (has_id c.id) (submits w.gate ++ w.gate.abandoned) ≡ Some (one k c.load.request c.load.verdict c.id) →
     move as_deeds m w (GateReads place) ≡ gate_made as_deeds (record w { to_gate = map on_wire bs }) (answer_mark w.gate place c)
 reads-moved m w place k c bs wire open_ is found =
@@ -55,7 +55,7 @@ reads-moved m w place k c bs wire open_ is found =
     ∙ (λ i. cond (open_ i) (quiet (record w { to_gate = map on_wire bs })) (gate_made as_deeds (record w { to_gate = map on_wire bs }) (mark_as w.gate (answer-means w.gate place k c.id c.load.request c.load.verdict c.configuration c.outcome is.load.verdict is.outcome is.status found i) (told_by (answer_item w.gate place c)))))
 
 pub reads-answer : {S : Type 0} (m : Meaning S) (w : World S) (j : Shared) (place k : ℕ) (c : Coming) (bs : List Tagged) (p : Pending) →
-    w.to_gate ≡ map on_wire (Answered c ∷ bs) → w.gate.host_over ≡ false → w.gate.imported ≡ true → IsComing c →
+    w.to_gate ≡ map on_wire (Answered c ∷ bs) → w.gate.sides.host_over ≡ false → w.gate.sides.imported ≡ true → IsComing c →
     find (has_id c.id) (submits w.gate ++ w.gate.abandoned) ≡ Some (one k c.load.request c.load.verdict c.id) →
     filter (pending_has c.id) w.gate.live ≡ p ∷ [] → load_of p.submit ≡ c.load → AreOne c.id (number c.load) w.gate.live → is_waiting c.load.verdict ≡ false →
     IsDeed m w (with_back j (Answered c ∷ bs)) (move as_deeds m w (GateReads place)) (with_back j bs) (Answer (number c.load))

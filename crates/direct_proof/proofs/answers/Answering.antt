@@ -74,18 +74,18 @@ answer_packet configuration r v o = answer_by configuration (form_by r v) (queue
 
 pub answer-means : (st : State) (place k id : ℕ) (r : Request) (v : Verdict) (configuration : ℕ) (o : Outcome) → FitsVerdict v r.transfer → IsOutcome (normal_by r v) o → IsNamed o.status →
     find (has_id id) (submits st ++ st.abandoned) ≡ Some (one k r v id) →
-    meaning st (Told place (sent_header st.agreed (id, answer_packet configuration r v o)) (answer_packet configuration r v o)) ≡ Answers id (seen_by r v configuration o)
+    meaning st (Told place (sent_header st.sides.agreed (id, answer_packet configuration r v o)) (answer_packet configuration r v o)) ≡ Answers id (seen_by r v configuration o)
 answer-means st place k id r (Now status) configuration o fits is named found = absurd fits
 answer-means st place k id r (IsoOut row) configuration o fits is named found = absurd fits
 answer-means st place k id r (Stream row) configuration o fits is named found = absurd fits
 answer-means st place k id r (Wire Control) configuration o fits is named found =
-    data-means st place k (sent_header st.agreed (id, answer_packet configuration r (Wire Control) o)) r (Wire Control) 8 _ found refl (few-done o.done r.transfer.wanted is.done)
+    data-means st place k (sent_header st.sides.agreed (id, answer_packet configuration r (Wire Control) o)) r (Wire Control) 8 _ found refl (few-done o.done r.transfer.wanted is.done)
     ∙ ap (Answers id) (read-as o named)
 answer-means st place k id r (Wire Bulk) configuration o fits is named found =
-    data-means st place k (sent_header st.agreed (id, answer_packet configuration r (Wire Bulk) o)) r (Wire Bulk) 2 _ found refl (few-done o.done r.transfer.wanted is.done)
+    data-means st place k (sent_header st.sides.agreed (id, answer_packet configuration r (Wire Bulk) o)) r (Wire Bulk) 2 _ found refl (few-done o.done r.transfer.wanted is.done)
     ∙ ap (Answers id) (read-as o named)
 answer-means st place k id r (Wire InterruptOut) configuration o fits is named found =
-    let h = sent_header st.agreed (id, answer_packet configuration r (Wire InterruptOut) o) in
+    let h = sent_header st.sides.agreed (id, answer_packet configuration r (Wire InterruptOut) o) in
     ap (λ (b : Bool). cond b (by_arrival st r.transfer.ep Interrupt (status_byte o.status) o.body) (by_response st place h (cond b None (Some (Data r.transfer.ep 2 (outcome (status_byte o.status) o.done o.body)))))) fits.2
     ∙ data-means st place k h r (Wire InterruptOut) 2 (outcome (status_byte o.status) o.done o.body) found refl (few-done o.done r.transfer.wanted is.done)
     ∙ ap (Answers id) (read-as o named)
@@ -95,7 +95,7 @@ answer-means st place k id r (Routed x) configuration o fits is named found = ro
     is-it b value z e = cc
 
     header : Route → Header
-    header y = sent_header st.agreed (id, answer_packet configuration r (Routed y) o)
+    header y = sent_header st.sides.agreed (id, answer_packet configuration r (Routed y) o)
 
     by_status : (y : Route) (value : ℕ) → find (has_id id) (submits st ++ st.abandoned) ≡ Some (one k r (Routed y) id) → IsSeen r (Routed y) configuration o (answer_packet configuration r (Routed y) o) →
         Some (Status (status_byte o.status) value) ≡ response_of (answer_packet configuration r (Routed y) o) → (h : Header) → h.id ≡ id → (h.kind == answer_kind (Routed y)) ≡ true →

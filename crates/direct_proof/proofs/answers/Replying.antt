@@ -39,10 +39,10 @@ use Rattle.direct_proof.proofs.shared.Debts.{load-waits, filter-append, debts-le
 use Rattle.direct_proof.proofs.shared.Keeps.{Keeps, keeps-quiet, keeps-deed}
 
 -- what is on the wire back is of a device that isn't lost
-pub still-there : {S : Type 0} (m : Meaning S) (w : World S) (j : Shared) (b : Tagged) (bs : List Tagged) → Related m w (with_back j (b ∷ bs)) → w.gate.lost ≡ false
-still-there m w j b bs rel = go w.gate.lost refl
+pub still-there : {S : Type 0} (m : Meaning S) (w : World S) (j : Shared) (b : Tagged) (bs : List Tagged) → Related m w (with_back j (b ∷ bs)) → w.gate.sides.lost ≡ false
+still-there m w j b bs rel = go w.gate.sides.lost refl
   where
-    go : (x : Bool) → w.gate.lost ≡ x → x ≡ false
+    go : (x : Bool) → w.gate.sides.lost ≡ x → x ≡ false
     go true h = absurd (let none : b ∷ bs ≡ [] = (rel.lost h).0 in cc)
     go false h = refl
 
@@ -65,7 +65,7 @@ module _ {S : Type 0} (m : Meaning S) (w : World S) (j : Shared) (place : ℕ) (
   abbrev fact : Option Fact
   fact = fact_of (on_wire (Answered c)).1
 
-  there : st.lost ≡ false
+  there : st.sides.lost ≡ false
   there = still-there m w j (Answered c) bs rel
 
   came : IsComing c
@@ -127,7 +127,7 @@ module _ {S : Type 0} (m : Meaning S) (w : World S) (j : Shared) (place : ℕ) (
     session = λ h a. session-read m w j (Answered c) bs (rel.session there (ap (λ (b : Bool). b || list_any is_plug bs) (sym known) ∙ a));
     ups = rel.ups;
     down = rel.down;
-    lost = λ h. absurd (both_ways st.lost there h);
+    lost = λ h. absurd (both_ways st.sides.lost there h);
     sides = rel.sides;
     farewell = farewell-read w.host (Answered c) bs rel.farewell;
   }
@@ -136,12 +136,12 @@ module _ {S : Type 0} (m : Meaning S) (w : World S) (j : Shared) (place : ℕ) (
   later = answered_shared
 
   pub keep-answer : Keeps m w (with_back j (Answered c ∷ bs)) (move as_deeds m w (GateReads place))
-  keep-answer = go st.imported refl
+  keep-answer = go st.sides.imported refl
     where
       related : Related m made.world answered_shared
       related = subst (λ (x : World S). Related m x answered_shared) (sym world) answer-related
 
-      go : (b : Bool) → st.imported ≡ b → Keeps m w (with_back j (Answered c ∷ bs)) (move as_deeds m w (GateReads place))
+      go : (b : Bool) → st.sides.imported ≡ b → Keeps m w (with_back j (Answered c ∷ bs)) (move as_deeds m w (GateReads place))
       go true inside = keeps-deed m w (with_back j (Answered c ∷ bs)) answered_shared (move as_deeds m w (GateReads place)) (Answer (number c.load))
           (record { deeds = r.deeds; outs = r.outs; same = r.same; allowed = r.allowed })
           (subst (λ (x : Made S Deed). Related m x.world answered_shared) (sym answer-moved) related)

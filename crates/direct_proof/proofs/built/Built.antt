@@ -80,12 +80,12 @@ module _ {S : Type 0} (m : Meaning S) (laws : IsGadget m) (w : World S) (j : Sha
 
     -- one that may be refused
     streams : (v : Verdict) → verdict_of w.gate (request_of s) ≡ v → MovesStreams v → Keeps m w j (move as_deeds m w (ByClient (Asked place (Urb (urb.Submit s)))))
-    streams v e moves = go w.gate.imported refl (has_number w.gate s.head.seqnum) refl
+    streams v e moves = go w.gate.sides.imported refl (has_number w.gate s.head.seqnum) refl
       where
-        go : (a : Bool) → w.gate.imported ≡ a → (b : Bool) → has_number w.gate s.head.seqnum ≡ b → Keeps m w j (move as_deeds m w (ByClient (Asked place (Urb (urb.Submit s)))))
+        go : (a : Bool) → w.gate.sides.imported ≡ a → (b : Bool) → has_number w.gate s.head.seqnum ≡ b → Keeps m w j (move as_deeds m w (ByClient (Asked place (Urb (urb.Submit s)))))
         go true inside false new = keep-stream m laws w j (ByClient (Asked place (Urb (urb.Submit s)))) (inside, record { read = read; new = new; verdict = v; verdict-is = e; moves = moves }) run rel
         go true inside true taken = keep-race m laws w j (ByClient (Asked place (Urb (urb.Submit s)))) (record { read = read; new = λ a b. absurd (both_ways (has_number w.gate s.head.seqnum) b taken) }) run rel
-        go false out b n = keep-race m laws w j (ByClient (Asked place (Urb (urb.Submit s)))) (record { read = read; new = λ a b. absurd (both_ways w.gate.imported out a) }) run rel
+        go false out b n = keep-race m laws w j (ByClient (Asked place (Urb (urb.Submit s)))) (record { read = read; new = λ a b. absurd (both_ways w.gate.sides.imported out a) }) run rel
 
     keep-any-submit : Keeps m w j (move as_deeds m w (ByClient (Asked place (Urb (urb.Submit s)))))
     keep-any-submit = go (verdict_of w.gate (request_of s)) refl

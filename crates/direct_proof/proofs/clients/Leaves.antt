@@ -23,7 +23,7 @@ pub record ClientGoes (st : State) (e : Effect) : Type 0 where
   pub no_import : imports e ≡ false
   pub silent : replies st e ≡ []
   pub asked : asked_packets st.streams e ≡ stops (is_ended None) st.streams
-  pub no_word : acknowledgements st.agreed e ≡ []
+  pub no_word : acknowledgements st.sides.agreed e ≡ []
   pub no_deed : import_deeds e ++ submit_deeds e ++ unlink_deeds e ++ arrive_deeds e ≡ []
   pub no_note : flat_map named (came_notes e ++ submit_notes e) ≡ []
   pub unnamed : flat_map named (refusal_notes (refused_at e)) ≡ []

@@ -41,14 +41,14 @@ module _ {S : Type 0} (m : Meaning S) (w : World S) (j : Shared) (rel : Related 
   sound = run-sound w.gate run
 
   -- one that hasn't imported leaves nothing
-  keep-outside : (e : Effect) → ClientGoes st e → st.imported ≡ false → Keeps m w j (gate_made as_deeds w (mark_as st e None))
-  keep-outside e l out = go st.client_over refl
+  keep-outside : (e : Effect) → ClientGoes st e → st.sides.imported ≡ false → Keeps m w j (gate_made as_deeds w (mark_as st e None))
+  keep-outside e l out = go st.sides.client_over refl
     where
       downs : st.streams ≡ no_streams
       downs = rel.down out
 
       over : Bool
-      over = turned refuses_client ends_client e st.client_over
+      over = turned refuses_client ends_client e st.sides.client_over
 
       new : World S
       new = counted_world w w.submits over
@@ -70,13 +70,13 @@ module _ {S : Type 0} (m : Meaning S) (w : World S) (j : Shared) (rel : Related 
         to_host = ((λ k. w.to_host ++ (map cancel (filter (cancels e) (sound.gone out k)) ++ zip (stopped (downs k)) (stops (is_ended None) (downs k)))) ∙ append-nil w.to_host) i;
       }
 
-      made : gate_made as_deeds w (mark_as st e None) ≡ record { world = new; outs = []; told = when (not st.client_over) ClientGone }
-      made = leaving-made w e l ∙ (λ i. record { world = same i; outs = []; told = when (not st.client_over) ClientGone })
+      made : gate_made as_deeds w (mark_as st e None) ≡ record { world = new; outs = []; told = when (not st.sides.client_over) ClientGone }
+      made = leaving-made w e l ∙ (λ i. record { world = same i; outs = []; told = when (not st.sides.client_over) ClientGone })
 
       related : Related m new j
       related = counted-related m w j w.submits over rel rel.ids (λ h. out)
 
-      go : (b : Bool) → st.client_over ≡ b → Keeps m w j (gate_made as_deeds w (mark_as st e None))
+      go : (b : Bool) → st.sides.client_over ≡ b → Keeps m w j (gate_made as_deeds w (mark_as st e None))
       go true over = keeps-quiet m w j j (gate_made as_deeds w (mark_as st e None)) new (made ∙ (λ i. record { world = new; outs = []; told = when (not (over i)) ClientGone })) related refl
       go false on = keeps-deed m w j j (gate_made as_deeds w (mark_as st e None)) ClientGone (record {
         deeds = ap (λ (x : Made S Deed). x.told) made ∙ ap (λ (b : Bool). when (not b) ClientGone) on;
@@ -87,17 +87,17 @@ module _ {S : Type 0} (m : Meaning S) (w : World S) (j : Shared) (rel : Related 
           (subst (λ (x : Made S Deed). Related m x.world j) (sym made) related)
 
   -- one that was refused has left
-  still-on : st.imported ≡ true → st.client_over ≡ false
-  still-on inside = go st.client_over refl
+  still-on : st.sides.imported ≡ true → st.sides.client_over ≡ false
+  still-on inside = go st.sides.client_over refl
     where
-      go : (b : Bool) → st.client_over ≡ b → b ≡ false
-      go true h = absurd (both_ways st.imported (rel.sides.refused h) inside)
+      go : (b : Bool) → st.sides.client_over ≡ b → b ≡ false
+      go true h = absurd (both_ways st.sides.imported (rel.sides.refused h) inside)
       go false h = refl
 
   keep-parting : (e : Effect) → ClientGoes st e → Keeps m w j (gate_made as_deeds w (mark_as st e None))
-  keep-parting e l = go st.imported refl
+  keep-parting e l = go st.sides.imported refl
     where
-      go : (b : Bool) → st.imported ≡ b → Keeps m w j (gate_made as_deeds w (mark_as st e None))
+      go : (b : Bool) → st.sides.imported ≡ b → Keeps m w j (gate_made as_deeds w (mark_as st e None))
       go true inside = keep-gone m w j rel run e l inside (still-on inside)
       go false out = keep-outside e l out
 
@@ -105,16 +105,16 @@ module _ {S : Type 0} (m : Meaning S) (w : World S) (j : Shared) (rel : Related 
   keep-end = keep-parting (Ends Client) (end-leaves st)
 
   pub keep-wrong : (place : ℕ) (why : Reason) → Keeps m w j (move as_deeds m w (ByClient (ClientWrong place why)))
-  keep-wrong place why = go st.client_over refl
+  keep-wrong place why = go st.sides.client_over refl
     where
-      go : (b : Bool) → st.client_over ≡ b → Keeps m w j (move as_deeds m w (ByClient (ClientWrong place why)))
+      go : (b : Bool) → st.sides.client_over ≡ b → Keeps m w j (move as_deeds m w (ByClient (ClientWrong place why)))
       go true over = keeps-quiet m w j j (move as_deeds m w (ByClient (ClientWrong place why))) w (ap (λ (b : Bool). cond b (quiet w) (gate_made as_deeds w (mark_of st (ClientWrong place why)))) over) rel refl
       go false on = subst (Keeps m w j) (sym (ap (λ (b : Bool). cond b (quiet w) (gate_made as_deeds w (mark_of st (ClientWrong place why)))) on)) (keep-parting (refused Client place why) (refusal-leaves st place why))
 
   -- a request that may not be made
   pub keep-refused : (place at : ℕ) (packet : ClientPacket) (why : Reason) → meaning st (Asked place packet) ≡ refused Client at why → Keeps m w j (move as_deeds m w (ByClient (Asked place packet)))
-  keep-refused place at packet why means = go st.client_over refl
+  keep-refused place at packet why means = go st.sides.client_over refl
     where
-      go : (b : Bool) → st.client_over ≡ b → Keeps m w j (move as_deeds m w (ByClient (Asked place packet)))
+      go : (b : Bool) → st.sides.client_over ≡ b → Keeps m w j (move as_deeds m w (ByClient (Asked place packet)))
       go true over = keeps-quiet m w j j (move as_deeds m w (ByClient (Asked place packet))) w (ap (λ (b : Bool). cond b (quiet w) (gate_made as_deeds w (mark_of st (Asked place packet)))) over) rel refl
       go false on = subst (Keeps m w j) (sym (λ i. cond (on i) (quiet w) (gate_made as_deeds w (mark_as st (means i) None)))) (keep-parting (refused Client at why) (refusal-leaves st at why))

@@ -79,8 +79,8 @@ more-lack xs ys rs h k = flat_map-append request_in xs ys ∙ (λ i. h i ++ k i)
 pub mark-requests : (st : State) (m : Mark) → flat_map request_in (deeds_of st m) ≡ map request (opened m.what)
 mark-requests st m =
     let e = m.what in
-    let lost : Bool = is_loss e && st.imported && not st.lost in
-    let left : Bool = leaves e && not st.client_over in
+    let lost : Bool = is_loss e && st.sides.imported && not st.sides.lost in
+    let left : Bool = leaves e && not st.sides.client_over in
     let rs = map request (opened e) in
     let a : flat_map request_in (import_deeds e ++ submit_deeds e) ≡ rs = flat_map-append request_in (import_deeds e) (submit_deeds e) ∙ (λ i. lacks-import e i ++ has-submits (opened e) i) in
     let b = more-lack (import_deeds e ++ submit_deeds e) (unlink_deeds e) rs a (lacks-unlink e) in

@@ -51,8 +51,8 @@ beside xs ys ns ms h k = map-append deed_item xs ys ∙ (λ i. h i ++ k i) ∙ s
 pub told-deeds : (st : State) (m : Mark) → map deed_item (deeds_of st m) ≡ flat_map item_of (notes_of st m)
 told-deeds st m =
     let e = m.what in
-    let lost : Bool = is_loss m.what && st.imported && not st.lost in
-    let left : Bool = leaves m.what && not st.client_over in
+    let lost : Bool = is_loss m.what && st.sides.imported && not st.sides.lost in
+    let left : Bool = leaves m.what && not st.sides.client_over in
     let d = beside (import_deeds e ++ submit_deeds e ++ unlink_deeds e ++ arrive_deeds e) (answer_deeds st e) (came_notes e ++ submit_notes e) (answer_notes st e) (tells e) (answers-told st e) in
     let f = beside (import_deeds e ++ submit_deeds e ++ unlink_deeds e ++ arrive_deeds e ++ answer_deeds st e) (when_deed lost Gone) (came_notes e ++ submit_notes e ++ answer_notes st e) (when lost note.DeviceGone) d (gone-told lost) in
     let g = beside (import_deeds e ++ submit_deeds e ++ unlink_deeds e ++ arrive_deeds e ++ answer_deeds st e ++ when_deed lost Gone) (when_deed left ClientGone) (came_notes e ++ submit_notes e ++ answer_notes st e ++ when lost note.DeviceGone) (when left note.ClientGone) f (left-told left) in

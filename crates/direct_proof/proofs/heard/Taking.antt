@@ -59,7 +59,7 @@ keep-cancel {S = S} m w j id ps rel wire first = go w.host.unplugged refl
       same = ap (cancelled_by d (number e.load)) found.0
           ∙ (λ i. record d {
             queue = (found.1 ∙ ap (map at_device) held.outside) i;
-            ran = (ap (λ (o : Outcome). joins_ran d (record { load = e.load; outcome = o } ∷ [])) (sym (wire-seen e.load.request e.load.verdict 0 (ended Cancelled) t.wire)) ∙ ran-answer w.gate.imported j.back c) i;
+            ran = (ap (λ (o : Outcome). joins_ran d (record { load = e.load; outcome = o } ∷ [])) (sym (wire-seen e.load.request e.load.verdict 0 (ended Cancelled) t.wire)) ∙ ran-answer w.gate.sides.imported j.back c) i;
             way = λ ep. sym (way-answer (stream_of w.gate.streams ep) ep j.back c) i;
           })
           ∙ ap (λ (x : Made S Deed). view x.world later) (sym moved);

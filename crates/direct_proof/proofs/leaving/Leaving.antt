@@ -16,5 +16,5 @@ use Rattle.direct_proof.proofs.leaving.LeftKept.{keep-left}
 use Rattle.direct_proof.proofs.leaving.Stopping.{run-stopping}
 use Rattle.direct_proof.proofs.shared.Keeps.{Keeps}
 
-pub keep-gone : {S : Type 0} (m : Meaning S) (w : World S) (j : Shared) → Related m w j → IsRun w.gate → (e : Effect) → ClientGoes w.gate e → w.gate.imported ≡ true → w.gate.client_over ≡ false → Keeps m w j (gate_made as_deeds w (mark_as w.gate e None))
-keep-gone m w j rel run e l inside there = subst (Keeps m w j) (sym (leaving-made w e l)) (keep-left m w j rel (run-stopping w.gate run rel.ups.count_is) inside (cancels e) (turned refuses_client ends_client e w.gate.client_over) there)
+pub keep-gone : {S : Type 0} (m : Meaning S) (w : World S) (j : Shared) → Related m w j → IsRun w.gate → (e : Effect) → ClientGoes w.gate e → w.gate.sides.imported ≡ true → w.gate.sides.client_over ≡ false → Keeps m w j (gate_made as_deeds w (mark_as w.gate e None))
+keep-gone m w j rel run e l inside there = subst (Keeps m w j) (sym (leaving-made w e l)) (keep-left m w j rel (run-stopping w.gate run rel.ups.count_is) inside (cancels e) (turned refuses_client ends_client e w.gate.sides.client_over) there)

@@ -55,7 +55,7 @@ left_world w test over = record w {
 }
 
 abbrev pub left_made : {S : Type 0} → World S → (Pending → Bool) → Bool → Made S Deed
-left_made w test over = record { world = left_world w test over; outs = []; told = when (not w.gate.client_over) ClientGone }
+left_made w test over = record { world = left_world w test over; outs = []; told = when (not w.gate.sides.client_over) ClientGone }
 
 none-both : (xs ys : List Note) → flat_map named xs ≡ [] → flat_map named ys ≡ [] → flat_map named (xs ++ ys) ≡ []
 none-both xs ys h k = flat_map-append named xs ys ∙ (λ i. h i ++ k i)
@@ -76,7 +76,7 @@ module _ {S : Type 0} (w : World S) (e : Effect) (l : ClientGoes w.gate e) where
   mark = mark_as w.gate e None
 
   abbrev pub over_after : Bool
-  over_after = turned refuses_client ends_client e w.gate.client_over
+  over_after = turned refuses_client ends_client e w.gate.sides.client_over
 
   drawn : drawn_by w.gate e ≡ leave_ids w.gate
   drawn = ap (λ (ps : List RedirPacket). next_ids w.gate (length ps)) l.asked
@@ -90,27 +90,27 @@ module _ {S : Type 0} (w : World S) (e : Effect) (l : ClientGoes w.gate e) where
   noted : flat_map named (notes_of w.gate (mark_as w.gate e None)) ≡ []
   noted =
       let first : List Note = came_notes e ++ submit_notes e in
-      let lost : List Note = notes.when (is_loss e && w.gate.imported && not w.gate.lost) note.DeviceGone in
-      let gone : List Note = notes.when (leaves e && not w.gate.client_over) note.ClientGone in
+      let lost : List Note = notes.when (is_loss e && w.gate.sides.imported && not w.gate.sides.lost) note.DeviceGone in
+      let gone : List Note = notes.when (leaves e && not w.gate.sides.client_over) note.ClientGone in
       none-both (first ++ answer_notes w.gate e ++ lost ++ gone) (refusal_notes (refused_at e))
       (none-both (first ++ answer_notes w.gate e ++ lost) gone
       (none-both (first ++ answer_notes w.gate e) lost
       (none-both first (answer_notes w.gate e) l.no_note (ap (flat_map named) (leaving-noted w.gate e l.gone)))
-      (no-gone (is_loss e && w.gate.imported && not w.gate.lost)))
-      (no-left (leaves e && not w.gate.client_over)))
+      (no-gone (is_loss e && w.gate.sides.imported && not w.gate.sides.lost)))
+      (no-left (leaves e && not w.gate.sides.client_over)))
       l.unnamed
 
-  pub leaving-made : gate_made as_deeds w (mark_as w.gate e None) ≡ left_made w (cancels e) (turned refuses_client ends_client e w.gate.client_over)
+  pub leaving-made : gate_made as_deeds w (mark_as w.gate e None) ≡ left_made w (cancels e) (turned refuses_client ends_client e w.gate.sides.client_over)
   leaving-made = λ i. record {
     world = record w {
       gate = record w.gate {
         items = suc w.gate.items;
         facts = cond (l.keeps i) no_facts (tell w.gate.facts None);
-        agreed = unwrap_or (l.no_caps i) w.gate.agreed;
-        imported = cond (l.no_import i) true (cond (l.gone i) false w.gate.imported);
-        lost = cond (l.keeps i) true (cond (l.no_import i) false w.gate.lost);
-        client_over = turned refuses_client ends_client e w.gate.client_over;
-        host_over = cond (l.open_host i) true w.gate.host_over;
+        agreed = unwrap_or (l.no_caps i) w.gate.sides.agreed;
+        imported = cond (l.no_import i) true (cond (l.gone i) false w.gate.sides.imported);
+        lost = cond (l.keeps i) true (cond (l.no_import i) false w.gate.sides.lost);
+        client_over = turned refuses_client ends_client e w.gate.sides.client_over;
+        host_over = cond (l.open_host i) true w.gate.sides.host_over;
         live = leaving-left w.gate e l.gone i;
         abandoned = cond (l.gone i) (w.gate.abandoned ++ filter (λ s. goes_by_id s.verdict) (submits w.gate)) (cond (is_loss e) [] (filter (λ s. not (is_answered e s)) w.gate.abandoned));
         streams = cond (l.gone i || is_loss e) no_streams (moved_streams e w.gate.streams);
@@ -123,5 +123,5 @@ module _ {S : Type 0} (w : World S) (e : Effect) (l : ClientGoes w.gate e) where
       submits = (ap (λ (ns : List Submitted). w.submits ++ ns) noted ∙ append-nil w.submits) i;
     };
     outs = l.silent i ++ leaving-answered w.gate e l.gone i;
-    told = ((l.no_deed i ++ map (λ (p : Pending). Answer p.submit.request.seqnum) (none-answered i)) ++ when (l.keeps i && w.gate.imported && not w.gate.lost) Gone) ++ when (l.gone i && not w.gate.client_over) ClientGone;
+    told = ((l.no_deed i ++ map (λ (p : Pending). Answer p.submit.request.seqnum) (none-answered i)) ++ when (l.keeps i && w.gate.sides.imported && not w.gate.sides.lost) Gone) ++ when (l.gone i && not w.gate.sides.client_over) ClientGone;
   }

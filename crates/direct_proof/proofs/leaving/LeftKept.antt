@@ -53,7 +53,7 @@ use Rattle.direct_proof.proofs.submits.Verdicts.{live-debts}
 use Rattle.direct_proof.proofs.streams.Keeping.{Does, keeps-made}
 use Rattle.direct_proof.proofs.leaving.Last.{IsLast, NoneIs, LastIs}
 
-module _ {S : Type 0} (m : Meaning S) (w : World S) (j : Shared) (rel : Related m w j) (gate : IsStopping w.gate) (inside : w.gate.imported ≡ true) (test : Pending → Bool) (over : Bool) where
+module _ {S : Type 0} (m : Meaning S) (w : World S) (j : Shared) (rel : Related m w j) (gate : IsStopping w.gate) (inside : w.gate.sides.imported ≡ true) (test : Pending → Bool) (over : Bool) where
   abbrev cs : List (ℕ × RedirPacket)
   cs = map cancel (filter test w.gate.live)
 
@@ -101,19 +101,19 @@ module _ {S : Type 0} (m : Meaning S) (w : World S) (j : Shared) (rel : Related 
       (Each-append (λ (p : ℕ × RedirPacket). IsAsking p.1) cs zs (cancels-asking (filter test w.gate.live)) (stops-asking every_up (leave_ids w.gate) w.gate.streams))
 
   -- nothing is sent for one that lost its device
-  none-sent : w.gate.lost ≡ true → cs ++ zs ≡ []
+  none-sent : w.gate.sides.lost ≡ true → cs ++ zs ≡ []
   none-sent h =
       let l = rel.lost h in
       (λ i. ap (λ (xs : List Pending). map cancel (filter test xs)) l.3 i
       ++ ap (λ (qs : List RedirPacket). zip (next_ids w.gate (length qs)) qs) (none-stopped w.gate.streams rel.ups l.4) i)
 
   new-before : (fenced : Bool) → w.host.guest.first ≡ true → Early (left_world w test over) (later fenced)
-  new-before fenced h = go w.gate.lost refl
+  new-before fenced h = go w.gate.sides.lost refl
     where
       early : Early w j
       early = rel.before h
 
-      go : (b : Bool) → w.gate.lost ≡ b → Early (left_world w test over) (later fenced)
+      go : (b : Bool) → w.gate.sides.lost ≡ b → Early (left_world w test over) (later fenced)
       go true off = record { back = early.back; wire = ap (λ (l : List (ℕ × RedirPacket)). w.to_host ++ l) (none-sent off) ∙ append-nil w.to_host ∙ early.wire; held = ap (map asked_all) early.held; half = early.half; running = early.running }
       go false on = absurd (both_ways w.host.guest.first (rel.meets.behind (rel.meets.no_session inside on)).2 h)
 
@@ -130,7 +130,7 @@ module _ {S : Type 0} (m : Meaning S) (w : World S) (j : Shared) (rel : Related 
 
   -- how the fence is, and what is kept of streams with it
   record Fences (fenced : Bool) : Type 0 where
-    fence-is : w.gate.lost ≡ false → Fenced (last_or w.gate.fence (leave_ids w.gate)) fenced (w.to_host ++ (cs ++ zs)) j.back
+    fence-is : w.gate.sides.lost ≡ false → Fenced (last_or w.gate.fence (leave_ids w.gate)) fenced (w.to_host ++ (cs ++ zs)) j.back
     clean-is : Session m w j → Clean (last_or w.gate.fence (leave_ids w.gate)) (down_in no_streams) (any_change (map asked_all j.held ++ map asked_all j.coming) || fenced) j.back
     quits-is : Session m w j → (ep : ℕ) → Quits (last_or w.gate.fence (leave_ids w.gate)) ep (runs w.host ep) (w.to_host ++ (cs ++ zs))
     trails-is : Session m w j → Trails (last_or w.gate.fence (leave_ids w.gate)) (down_in no_streams) (w.to_host ++ (cs ++ zs))
@@ -153,7 +153,7 @@ module _ {S : Type 0} (m : Meaning S) (w : World S) (j : Shared) (rel : Related 
     runs_at_in = rel.runs_at_in;
     before = new-before fenced;
     asked = new-asked;
-    meets = meets-client w j false w.gate.lost (λ h. absurd (true≢false (sym h))) rel.meets;
+    meets = meets-client w j false w.gate.sides.lost (λ h. absurd (true≢false (sym h))) rel.meets;
     debts = λ h. ap (λ (l : List Submission). debts_of (l ++ filter by_id (submits w.gate))) (rel.alone inside).0 ∙ debts-again (submits w.gate) ∙ live-debts m w j rel inside h;
     controls = λ h. subst (λ (l : List (ℕ × RedirPacket)). Controls (stream_ids_after (leave_stops w.gate) w.gate.stream_ids) l j.back) (sym wire) (left-controls w.gate rel.ups gate ps j.back (controls-more w.gate.stream_ids w.to_host cs j.back quiet-cs (rel.controls h)));
     fenced = f.fence-is;
@@ -182,7 +182,7 @@ module _ {S : Type 0} (m : Meaning S) (w : World S) (j : Shared) (rel : Related 
 
   -- ---- the device
 
-  gone : w.gate.client_over ≡ false → (fenced : Bool) → Does m (view w j) (when (not w.gate.client_over) ClientGone) (view (left_world w test over) (later fenced)) []
+  gone : w.gate.sides.client_over ≡ false → (fenced : Bool) → Does m (view w j) (when (not w.gate.sides.client_over) ClientGone) (view (left_world w test over) (later fenced)) []
   gone there fenced = subst (λ (b : Bool). Does m (view w j) (when (not b) ClientGone) (view (left_world w test over) (later fenced)) []) (sym there) (record {
     same = (λ i. cond (inside i) went (view w j)) ∙ (λ i. record went {
       queue = (map-map asked_waiting at_device (j.held ++ j.coming) ∙ sym (map-map at_device asked_all (j.held ++ j.coming)) ∙ ap (map at_device) joined) i;
@@ -252,10 +252,10 @@ module _ {S : Type 0} (m : Meaning S) (w : World S) (j : Shared) (rel : Related 
       fence : last_or w.gate.fence (leave_ids w.gate) ≡ Some z.0
       fence = ap (λ (f : Option ℕ). last_or f (leave_ids w.gate)) no_fence ∙ same
 
-  keep-by : w.gate.client_over ≡ false → (fenced : Bool) → Fences fenced → Keeps m w j (left_made w test over)
-  keep-by there fenced f = keeps-made m w j (later fenced) (left_made w test over) (left_world w test over) [] (when (not w.gate.client_over) ClientGone) refl (related fenced f) (gone there fenced)
+  keep-by : w.gate.sides.client_over ≡ false → (fenced : Bool) → Fences fenced → Keeps m w j (left_made w test over)
+  keep-by there fenced f = keeps-made m w j (later fenced) (left_made w test over) (left_world w test over) [] (when (not w.gate.sides.client_over) ClientGone) refl (related fenced f) (gone there fenced)
 
-  pub keep-left : w.gate.client_over ≡ false → Keeps m w j (left_made w test over)
+  pub keep-left : w.gate.sides.client_over ≡ false → Keeps m w j (left_made w test over)
   keep-left there = go (last-stop w.gate rel.ups gate ps j.back)
     where
       go : IsLast (λ id. holds (flying w.gate) id ≡ false) None (leave_stops w.gate) (last_or None (leave_ids w.gate)) → Keeps m w j (left_made w test over)

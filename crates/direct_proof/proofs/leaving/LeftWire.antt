@@ -37,7 +37,7 @@ use Rattle.direct_proof.proofs.leaving.Last.{IsLast, last-is}
 -- what is true of every gateway: its laws. A stream that is up keeps no stop
 pub record IsStopping (st : State) : Type 0 where
   pub long : AreLong st.stream_ids
-  pub fresh : AreFresh (greatest (wide_ids st.agreed)) (flying st) (leave_ids st)
+  pub fresh : AreFresh (greatest (wide_ids st.sides.agreed)) (flying st) (leave_ids st)
   pub unstopped : (i : ℕ) → is_some (get_or st.streams i None) ≡ true → get_or st.stream_ids.stopped i None ≡ None
 
 abbrev pub every_up : Up → Bool
@@ -91,7 +91,7 @@ module _ (st : State) (fits : UpsFit st.streams) (gate : IsStopping st) (ps : Li
   each-stop = each-stops every_up (leave_ids st) st.streams (ups-in st.streams fits)
 
   same-length : length (leave_ids st) ≡ length (stops every_up st.streams)
-  same-length = length-draws (greatest (wide_ids st.agreed)) (flying st) st.last (length (stops every_up st.streams))
+  same-length = length-draws (greatest (wide_ids st.sides.agreed)) (flying st) st.last (length (stops every_up st.streams))
 
   stands : Stand 0 st.streams st.stream_ids
   stands = record {

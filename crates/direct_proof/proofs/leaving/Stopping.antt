@@ -20,8 +20,8 @@ run-stopping st r places =
       long = long;
       fresh =
           let a = few-flying st sound long in
-          let b = many (wide_ids st.agreed) in
+          let b = many (wide_ids st.sides.agreed) in
           let c = few-stops (is_ended None) st.streams in
-          draws-fresh (greatest (wide_ids st.agreed)) (flying st) st.last (length (stops (is_ended None) st.streams)) (omega (arith, a, b, c, places));
+          draws-fresh (greatest (wide_ids st.sides.agreed)) (flying st) st.last (length (stops (is_ended None) st.streams)) (omega (arith, a, b, c, places));
       unstopped = (run-unstopped st r).fresh;
     }

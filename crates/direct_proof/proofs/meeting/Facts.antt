@@ -53,7 +53,7 @@ module _ {S : Type 0} (m : Meaning S) (w : World S) (j : Shared) (place : ℕ) (
   abbrev pub fact_world : World S
   fact_world = told_world (record w { to_gate = map on_wire bs }) caps (fact_of (on_wire b).1)
 
-  there : st.lost ≡ false
+  there : st.sides.lost ≡ false
   there = still-there m w j b bs rel
 
   runs-same : runs_in (b ∷ bs) ≡ runs_in bs
@@ -85,7 +85,7 @@ module _ {S : Type 0} (m : Meaning S) (w : World S) (j : Shared) (place : ℕ) (
     session = λ h a. session-read m w j b bs (rel.session there (on.announced a));
     ups = rel.ups;
     down = rel.down;
-    lost = λ h. absurd (both_ways st.lost there h);
+    lost = λ h. absurd (both_ways st.sides.lost there h);
     sides = rel.sides;
     farewell = farewell-read w.host b bs rel.farewell;
   }
@@ -93,7 +93,7 @@ module _ {S : Type 0} (m : Meaning S) (w : World S) (j : Shared) (place : ℕ) (
   pub keep-told : Keeps m w (with_back j (b ∷ bs)) (move as_deeds m w (GateReads place))
   keep-told = keeps-quiet m w (with_back j (b ∷ bs)) (with_back j bs) (move as_deeds m w (GateReads place)) fact_world moved related
       (λ i. record (view w (with_back j (b ∷ bs))) {
-        ran = cond w.gate.imported (map ran_of (runs-same i)) [];
+        ran = cond w.gate.sides.imported (map ran_of (runs-same i)) [];
         way = λ ep. ways (stream_of st.streams ep) ep i;
       })
     where
@@ -102,25 +102,25 @@ module _ {S : Type 0} (m : Meaning S) (w : World S) (j : Shared) (place : ℕ) (
       ways (Some up) ep = ap (λ l. l ++ packets_in up.row.kind ep bs) (on.no_packet up.row.kind ep)
 
 -- the gateway reads on
-fact-moved : {S : Type 0} (m : Meaning S) (w : World S) (j : Shared) (place : ℕ) (b : Tagged) (bs : List Tagged) → Related m w (with_back j (b ∷ bs)) → meaning w.gate (Told place (sent_header w.gate.agreed (on_wire b)) (on_wire b).1) ≡ Idle →
-    move as_deeds m w (GateReads place) ≡ quiet (told_world (record w { to_gate = map on_wire bs }) w.gate.agreed (fact_of (on_wire b).1))
+fact-moved : {S : Type 0} (m : Meaning S) (w : World S) (j : Shared) (place : ℕ) (b : Tagged) (bs : List Tagged) → Related m w (with_back j (b ∷ bs)) → meaning w.gate (Told place (sent_header w.gate.sides.agreed (on_wire b)) (on_wire b).1) ≡ Idle →
+    move as_deeds m w (GateReads place) ≡ quiet (told_world (record w { to_gate = map on_wire bs }) w.gate.sides.agreed (fact_of (on_wire b).1))
 fact-moved m w j place b bs rel idle = ap (gate_reads as_deeds w place) rel.answers
     ∙ (λ i. cond (rel.sides.reads i) (quiet (record w { to_gate = map on_wire bs })) (gate_made as_deeds (record w { to_gate = map on_wire bs }) (mark_as w.gate (idle i) (fact_of (on_wire b).1))))
     ∙ idle-made (record w { to_gate = map on_wire bs }) (fact_of (on_wire b).1)
 
 pub keep-table : {S : Type 0} (m : Meaning S) (w : World S) (j : Shared) (place : ℕ) (t : EpTable) (bs : List Tagged) → Related m w (with_back j (ToldTable t ∷ bs)) → Keeps m w (with_back j (ToldTable t ∷ bs)) (move as_deeds m w (GateReads place))
-keep-table m w j place t bs rel = keep-told m w j place (ToldTable t) bs w.gate.agreed rel
+keep-table m w j place t bs rel = keep-told m w j place (ToldTable t) bs w.gate.sides.agreed rel
     (record { no_ran = refl; no_packet = λ kind ep. refl; gate = rel.meets.gate; before = λ h. absurd (true≢false (sym (early-greets (ToldTable t) bs (rel.before h).back))); behind = rel.meets.behind; known = λ h. h; announced = λ a. a; tells = λ a. a; plugged = rel.meets.plugged })
     (fact-moved m w j place (ToldTable t) bs rel refl)
 
 pub keep-faces : {S : Type 0} (m : Meaning S) (w : World S) (j : Shared) (place : ℕ) (t : InterfaceInfo) (bs : List Tagged) → Related m w (with_back j (ToldFaces t ∷ bs)) → Keeps m w (with_back j (ToldFaces t ∷ bs)) (move as_deeds m w (GateReads place))
-keep-faces m w j place t bs rel = keep-told m w j place (ToldFaces t) bs w.gate.agreed rel
+keep-faces m w j place t bs rel = keep-told m w j place (ToldFaces t) bs w.gate.sides.agreed rel
     (record { no_ran = refl; no_packet = λ kind ep. refl; gate = rel.meets.gate; before = λ h. absurd (true≢false (sym (early-greets (ToldFaces t) bs (rel.before h).back))); behind = rel.meets.behind; known = λ h. h; announced = λ a. a; tells = λ a. a; plugged = rel.meets.plugged })
     (fact-moved m w j place (ToldFaces t) bs rel refl)
 
 -- the device's coming
 pub keep-plugged : {S : Type 0} (m : Meaning S) (w : World S) (j : Shared) (place : ℕ) (c : Connect) (bs : List Tagged) → Related m w (with_back j (Plugged c ∷ bs)) → Keeps m w (with_back j (Plugged c ∷ bs)) (move as_deeds m w (GateReads place))
-keep-plugged m w j place c bs rel = keep-told m w j place (Plugged c) bs w.gate.agreed rel
+keep-plugged m w j place c bs rel = keep-told m w j place (Plugged c) bs w.gate.sides.agreed rel
     (record {
       no_ran = refl;
       no_packet = λ kind ep. refl;

@@ -56,13 +56,13 @@ replied-made {S = S} w reply = λ i. record {
     live : live_after st (Replies reply) ≡ st.live
     live = asks-none (Replies reply) (λ s. refl) (filter (λ p. is_none (ends (Replies reply) p.submit)) (present st (Replies reply))) ∙ filter-all (present st (Replies reply)) ∙ append-nil st.live
 
-pub keep-list : {S : Type 0} (m : Meaning S) (w : World S) (j : Shared) (place status : ℕ) → Related m w j → IsSound w.gate → w.gate.imported ≡ false → Keeps m w j (move as_deeds m w (ByClient (Asked place (Op (op.ReqDevlist status)))))
-keep-list {S = S} m w j place status rel sound out = go w.gate.client_over refl
+pub keep-list : {S : Type 0} (m : Meaning S) (w : World S) (j : Shared) (place status : ℕ) → Related m w j → IsSound w.gate → w.gate.sides.imported ≡ false → Keeps m w j (move as_deeds m w (ByClient (Asked place (Op (op.ReqDevlist status)))))
+keep-list {S = S} m w j place status rel sound out = go w.gate.sides.client_over refl
   where
     made : Made S Deed
     made = move as_deeds m w (ByClient (Asked place (Op (op.ReqDevlist status))))
 
-    go : (b : Bool) → w.gate.client_over ≡ b → Keeps m w j made
+    go : (b : Bool) → w.gate.sides.client_over ≡ b → Keeps m w j made
     go true over = keeps-quiet m w j j made w (ap (λ (b : Bool). cond b (quiet w) (gate_made as_deeds w (mark_of w.gate (Asked place (Op (op.ReqDevlist status)))))) over) rel refl
     go false on = keeps-replied m w j j made (replied_world w) (list_reply w.gate.facts)
         ((λ i. cond (on i) (quiet w) (gate_made as_deeds w (mark_as w.gate (cond (out i) (refused Client place AlreadyImported) (Replies (list_reply w.gate.facts))) None))) ∙ replied-made w (list_reply w.gate.facts))
@@ -94,8 +94,8 @@ count-all : {X : Type 0} (xs : List X) → count (λ x. true) xs ≡ 0 → xs �
 count-all [] h = refl
 count-all (x ∷ xs) h = absurd (omega (arith, h))
 
-pub keep-import : {S : Type 0} (m : Meaning S) (w : World S) (j : Shared) (place status : ℕ) (busid : List ℕ) → Related m w j → IsSound w.gate → w.gate.imported ≡ false → Keeps m w j (move as_deeds m w (ByClient (Asked place (Op (op.ReqImport status busid)))))
-keep-import {S = S} m w j place status busid rel sound out = go w.gate.client_over refl
+pub keep-import : {S : Type 0} (m : Meaning S) (w : World S) (j : Shared) (place status : ℕ) (busid : List ℕ) → Related m w j → IsSound w.gate → w.gate.sides.imported ≡ false → Keeps m w j (move as_deeds m w (ByClient (Asked place (Op (op.ReqImport status busid)))))
+keep-import {S = S} m w j place status busid rel sound out = go w.gate.sides.client_over refl
   where
     st : State
     st = w.gate
@@ -103,10 +103,10 @@ keep-import {S = S} m w j place status busid rel sound out = go w.gate.client_ov
     made : Made S Deed
     made = move as_deeds m w (ByClient (Asked place (Op (op.ReqImport status busid))))
 
-    moved : st.client_over ≡ false → (o : Option Connect) → importable st busid ≡ o → made ≡ gate_made as_deeds w (mark_as st (imported_as st o) None)
+    moved : st.sides.client_over ≡ false → (o : Option Connect) → importable st busid ≡ o → made ≡ gate_made as_deeds w (mark_as st (imported_as st o) None)
     moved on o e = λ i. cond (on i) (quiet w) (gate_made as_deeds w (mark_as st (cond (out i) (refused Client place AlreadyImported) (imported_as st (e i))) None))
 
-    fails : st.client_over ≡ false → importable st busid ≡ None → Keeps m w j made
+    fails : st.sides.client_over ≡ false → importable st busid ≡ None → Keeps m w j made
     fails on e = keeps-replied m w j j made (replied_world w) failed_import (moved on None e ∙ replied-made w failed_import) (replied-related m w j rel) refl
 
     none-is : {X : Type 0} (xs : List X) → is_empty xs ≡ true → xs ≡ []
@@ -117,7 +117,7 @@ keep-import {S = S} m w j place status busid rel sound out = go w.gate.client_ov
     no-fence None h = refl
     no-fence (Some x) h = absurd (true≢false (sym h))
 
-    succeeds : st.client_over ≡ false → (c : Connect) → (is_exported busid && is_empty st.abandoned && is_none st.fence) ≡ true → st.facts.connect ≡ Some c → importable st busid ≡ Some c → Keeps m w j made
+    succeeds : st.sides.client_over ≡ false → (c : Connect) → (is_exported busid && is_empty st.abandoned && is_none st.fence) ≡ true → st.facts.connect ≡ Some c → importable st busid ≡ Some c → Keeps m w j made
     succeeds on c may known e = keeps-import
       where
         parts : (is_empty st.abandoned ≡ true) × (is_none st.fence ≡ true)
@@ -126,10 +126,10 @@ keep-import {S = S} m w j place status busid rel sound out = go w.gate.client_ov
         empty : st.abandoned ≡ []
         empty = none-is st.abandoned parts.0
 
-        there : st.lost ≡ false
-        there = by st.lost refl
+        there : st.sides.lost ≡ false
+        there = by st.sides.lost refl
           where
-            by : (b : Bool) → st.lost ≡ b → b ≡ false
+            by : (b : Bool) → st.sides.lost ≡ b → b ≡ false
             by true h = absurd (let bad : Some c ≡ None = sym known ∙ (rel.lost h).2 in cc)
             by false h = refl
 
@@ -172,7 +172,7 @@ keep-import {S = S} m w j place status busid rel sound out = go w.gate.client_ov
           lost = λ h. absurd (true≢false (sym h));
           sides = record {
             reads = rel.sides.reads;
-            refused = λ h. absurd (both_ways st.client_over on h);
+            refused = λ h. absurd (both_ways st.sides.client_over on h);
             gone = λ h. absurd (both_ways j.gone ungone h);
             seen = λ h. sym ungone;
           };
@@ -188,7 +188,7 @@ keep-import {S = S} m w j place status busid rel sound out = go w.gate.client_ov
           outs = refl;
         })
 
-    go : (b : Bool) → st.client_over ≡ b → Keeps m w j made
+    go : (b : Bool) → st.sides.client_over ≡ b → Keeps m w j made
     go true over = keeps-quiet m w j j made w (ap (λ (b : Bool). cond b (quiet w) (gate_made as_deeds w (mark_of st (Asked place (Op (op.ReqImport status busid)))))) over) rel refl
     go false on = by (is_exported busid && is_empty st.abandoned && is_none st.fence) refl st.facts.connect refl
       where

@@ -53,7 +53,7 @@ module _ {S : Type 0} (m : Meaning S) (w : World S) (j : Shared) (place : ℕ) (
   effect = Disconnects 0
 
   abbrev acks : List (ℕ × RedirPacket)
-  acks = acknowledgements st.agreed effect
+  acks = acknowledgements st.sides.agreed effect
 
   abbrev lost_world : World S
   lost_world = record w {
@@ -62,7 +62,7 @@ module _ {S : Type 0} (m : Meaning S) (w : World S) (j : Shared) (place : ℕ) (
     to_gate = [];
   }
 
-  there : st.lost ≡ false
+  there : st.sides.lost ≡ false
   there = still-there m w j Bye [] rel
 
   off : w.host.unplugged ≡ true
@@ -83,7 +83,7 @@ module _ {S : Type 0} (m : Meaning S) (w : World S) (j : Shared) (place : ℕ) (
       go true h = absurd (early (rel.before h).back)
       go false h = refl
 
-  made-is : move as_deeds m w (GateReads place) ≡ record { world = lost_world; outs = map Urb (map (λ (p : Pending). lost_answer p.submit.request p.unlinker) st.live); told = when st.imported Gone }
+  made-is : move as_deeds m w (GateReads place) ≡ record { world = lost_world; outs = map Urb (map (λ (p : Pending). lost_answer p.submit.request p.unlinker) st.live); told = when st.sides.imported Gone }
   made-is = ap (gate_reads as_deeds w place) rel.answers
       ∙ (λ i. cond (rel.sides.reads i) (quiet (record w { to_gate = [] })) (gate_made as_deeds (record w { to_gate = [] }) (mark_as st effect None)))
       ∙ (λ i. record {
@@ -91,12 +91,12 @@ module _ {S : Type 0} (m : Meaning S) (w : World S) (j : Shared) (place : ℕ) (
           gate = record st { items = suc st.items; facts = no_facts; lost = true; live = map (ask effect) (filter-none (present st effect) i); abandoned = []; streams = no_streams; fence = None };
           to_host = w.to_host ++ ((none-cancelled effect stays-uncancelled st.live i ++ []) ++ acks);
           to_gate = [];
-          submits = (ap (λ (ps : List Pending). w.submits ++ flat_map named (((map (λ (p : Pending). note.Answered p.submit.request.seqnum) ps ++ notes.when (st.imported && not st.lost) note.DeviceGone) ++ []) ++ [])) (filter-none (present st effect)) ∙ unnamed (st.imported && not st.lost)) i;
+          submits = (ap (λ (ps : List Pending). w.submits ++ flat_map named (((map (λ (p : Pending). note.Answered p.submit.request.seqnum) ps ++ notes.when (st.sides.imported && not st.sides.lost) note.DeviceGone) ++ []) ++ [])) (filter-none (present st effect)) ∙ unnamed (st.sides.imported && not st.sides.lost)) i;
         };
         outs = map Urb (told (st.live ++ []) i);
-        told = (ap (λ (ps : List Pending). (map (λ (p : Pending). Answer p.submit.request.seqnum) ps ++ when (st.imported && not st.lost) Gone) ++ []) (filter-none (present st effect)) ∙ append-nil (when (st.imported && not st.lost) Gone)) i;
+        told = (ap (λ (ps : List Pending). (map (λ (p : Pending). Answer p.submit.request.seqnum) ps ++ when (st.sides.imported && not st.sides.lost) Gone) ++ []) (filter-none (present st effect)) ∙ append-nil (when (st.sides.imported && not st.sides.lost) Gone)) i;
       })
-      ∙ (λ i. record { world = lost_world; outs = map Urb (map (λ (p : Pending). lost_answer p.submit.request p.unlinker) (append-nil st.live i)); told = when ((ap (λ (b : Bool). st.imported && not b) there ∙ and-true st.imported) i) Gone })
+      ∙ (λ i. record { world = lost_world; outs = map Urb (map (λ (p : Pending). lost_answer p.submit.request p.unlinker) (append-nil st.live i)); told = when ((ap (λ (b : Bool). st.sides.imported && not b) there ∙ and-true st.sides.imported) i) Gone })
     where
       unnamed : (b : Bool) → w.submits ++ flat_map named ((notes.when b note.DeviceGone ++ []) ++ []) ≡ w.submits
       unnamed true = append-nil w.submits
@@ -118,15 +118,15 @@ module _ {S : Type 0} (m : Meaning S) (w : World S) (j : Shared) (place : ℕ) (
   abbrev lost_shared : Bool → Shared
   lost_shared gone = record j { back = []; gone = gone }
 
-  related : (gone : Bool) → (st.imported ≡ true → gone ≡ true) → Related m lost_world (lost_shared gone)
+  related : (gone : Bool) → (st.sides.imported ≡ true → gone ≡ true) → Related m lost_world (lost_shared gone)
   related gone is = record {
     line = record {
       held = rel.line.held;
       half = rel.line.half;
-      coming = ap (λ (l : List InLine). half_line j.half ++ l) (lines-append w.to_host acks ∙ ap (λ (l : List InLine). lines w.to_host ++ l) (acked (has st.agreed DISCONNECT_ACK)).0 ∙ append-nil (lines w.to_host)) ∙ rel.line.coming;
+      coming = ap (λ (l : List InLine). half_line j.half ++ l) (lines-append w.to_host acks ∙ ap (λ (l : List InLine). lines w.to_host ++ l) (acked (has st.sides.agreed DISCONNECT_ACK)).0 ∙ append-nil (lines w.to_host)) ∙ rel.line.coming;
       loads = rel.line.loads;
-      streams_in = Each-append (λ (p : ℕ × RedirPacket). StreamIsIn (stream_endpoint p.1)) w.to_host acks rel.line.streams_in (stream_ids_stay (has st.agreed DISCONNECT_ACK));
-      cancels = fits-nil j.half j.held w.to_host acks j.coming rel.line.coming rel.line.cancels (acked (has st.agreed DISCONNECT_ACK)).2;
+      streams_in = Each-append (λ (p : ℕ × RedirPacket). StreamIsIn (stream_endpoint p.1)) w.to_host acks rel.line.streams_in (stream_ids_stay (has st.sides.agreed DISCONNECT_ACK));
+      cancels = fits-nil j.half j.held w.to_host acks j.coming rel.line.coming rel.line.cancels (acked (has st.sides.agreed DISCONNECT_ACK)).2;
       behind = rel.line.behind;
     };
     answers = refl;
@@ -135,7 +135,7 @@ module _ {S : Type 0} (m : Meaning S) (w : World S) (j : Shared) (place : ℕ) (
     real = rel.real;
     runs_at_in = rel.runs_at_in;
     before = λ h. absurd (both_ways w.host.guest.first met h);
-    asked = λ h. Each-append (λ (p : ℕ × RedirPacket). IsAsking p.1) w.to_host acks (rel.asked h) (acked (has st.agreed DISCONNECT_ACK)).1;
+    asked = λ h. Each-append (λ (p : ℕ × RedirPacket). IsAsking p.1) w.to_host acks (rel.asked h) (acked (has st.sides.agreed DISCONNECT_ACK)).1;
     meets = record {
       host = rel.meets.host;
       gate = rel.meets.gate;
@@ -167,18 +167,18 @@ module _ {S : Type 0} (m : Meaning S) (w : World S) (j : Shared) (place : ℕ) (
   }
 
   pub keep-bye : Keeps m w (with_back j (Bye ∷ [])) (move as_deeds m w (GateReads place))
-  keep-bye = go st.imported refl
+  keep-bye = go st.sides.imported refl
     where
       no-ways : (ep : ℕ) → way_of (stream_of no_streams ep) ep [] ≡ []
       no-ways ep = ap (λ o. way_of o ep []) (all-down ep)
 
-      go : (b : Bool) → st.imported ≡ b → Keeps m w (with_back j (Bye ∷ [])) (move as_deeds m w (GateReads place))
+      go : (b : Bool) → st.sides.imported ≡ b → Keeps m w (with_back j (Bye ∷ [])) (move as_deeds m w (GateReads place))
       go true inside = keeps-deed m w (with_back j (Bye ∷ [])) (lost_shared true) (move as_deeds m w (GateReads place)) Gone (record {
         deeds = ap (λ (x : Made S Deed). x.told) made-is ∙ ap (λ (b : Bool). when b Gone) inside;
         outs = ap (λ (x : Made S Deed). x.outs) made-is ∙ ap (map Urb) (same-answers st.live);
         same = (λ i. record (view w (with_back j (Bye ∷ []))) {
           live = [];
-          ran = cond st.imported [] [];
+          ran = cond st.sides.imported [] [];
           streams = no_streams;
           way = λ ep. sym (no-ways ep) i;
           gone = true;
@@ -196,7 +196,7 @@ module _ {S : Type 0} (m : Meaning S) (w : World S) (j : Shared) (place : ℕ) (
               one s (Some x) = refl
       go false out = keeps-quiet m w (with_back j (Bye ∷ [])) (lost_shared j.gone) (move as_deeds m w (GateReads place)) lost_world
           (made-is ∙ (λ i. record { world = lost_world; outs = map Urb (map (λ (p : Pending). lost_answer p.submit.request p.unlinker) (sound.gone out i)); told = when (out i) Gone }))
-          (related j.gone (λ h. absurd (both_ways st.imported out h)))
+          (related j.gone (λ h. absurd (both_ways st.sides.imported out h)))
           (λ i. record (view w (with_back j (Bye ∷ []))) {
             live = ap (map live_of) (sound.gone out) i;
             streams = rel.down out i;

@@ -113,14 +113,14 @@ keep-hello {S = S} m w j rel fresh = go w.host.unplugged refl
         (ap (host_reads as_deeds m w) early.wire ∙ ap (host_takes as_deeds (record w { to_host = [] })) (ap (λ (b : Bool). cond b (host_quiet g) (greets m g)) off))
         (after [] (λ h. refl) refl tt tt refl refl refl (subst PlugOnce (sym (append-nil j.back)) rel.meets.once) (λ k. absurd (both_ways w.host.unplugged k off)) (λ a. absurd (unknown (ap (λ bs. is_some w.gate.facts.connect || list_any is_plug bs) (sym (append-nil j.back)) ∙ a))))
         (λ i. record (view w j) {
-          ran = cond w.gate.imported (map ran_of (runs_in (sym (append-nil j.back) i))) [];
+          ran = cond w.gate.sides.imported (map ran_of (runs_in (sym (append-nil j.back) i))) [];
           way = λ ep. way_of (stream_of w.gate.streams ep) ep (sym (append-nil j.back) i);
         })
     go false on = keeps-quiet m w j (record j { back = j.back ++ cs }) (move as_deeds m w HostReads) (record w { to_host = []; host = g; to_gate = w.to_gate ++ map on_wire cs })
         (ap (host_reads as_deeds m w) early.wire ∙ ap (host_takes as_deeds (record w { to_host = [] })) (ap (λ (b : Bool). cond b (host_quiet g) (greets m g)) on))
         (after cs (λ h. absurd (both_ways w.host.unplugged on h)) refl (tt, (tt, (tt, tt))) (tt, (tt, (tt, tt))) refl refl refl (order j.back early.back) (λ k. refl) (λ a. session))
         (λ i. record (view w j) {
-          ran = cond w.gate.imported (map ran_of (sym (runs_in-append j.back cs ∙ append-nil (runs_in j.back)) i)) [];
+          ran = cond w.gate.sides.imported (map ran_of (sym (runs_in-append j.back cs ∙ append-nil (runs_in j.back)) i)) [];
           way = λ ep. sym (ways (stream_of w.gate.streams ep) ep) i;
         })
       where

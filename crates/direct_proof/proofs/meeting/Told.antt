@@ -23,7 +23,7 @@ use Rattle.direct_proof.specs.Deeds.{as_deeds}
 abbrev pub told_world : {S : Type 0} → World S → Caps → Option Fact → World S
 told_world w caps fact = record w { gate = record w.gate { items = suc w.gate.items; facts = tell w.gate.facts fact; agreed = caps } }
 
-pub idle-made : {S : Type 0} (w : World S) (fact : Option Fact) → gate_made as_deeds w (mark_as w.gate Idle fact) ≡ quiet (told_world w w.gate.agreed fact)
+pub idle-made : {S : Type 0} (w : World S) (fact : Option Fact) → gate_made as_deeds w (mark_as w.gate Idle fact) ≡ quiet (told_world w w.gate.sides.agreed fact)
 idle-made {S = S} w fact = λ i. record {
   world = record w {
     gate = record st { items = suc st.items; facts = tell st.facts fact; live = live i; abandoned = filter-all st.abandoned i };

@@ -124,13 +124,13 @@ module _ {S : Type 0} (m : Meaning S) (w : World S) (j : Shared) (rel : Related 
       go true f = keeps-quiet m w j (gone_shared []) (move as_deeds m w Unplugs) (gone_world []) (made true f)
           (related [] refl refl refl tt tt refl (λ x. refl) (λ fence p. tt) (subst ByeLast (sym (append-nil j.back)) rel.farewell.bye_last) (λ h. refl))
           (λ i. record (view w j) {
-            ran = cond w.gate.imported (map ran_of (runs_in (sym (append-nil j.back) i))) [];
+            ran = cond w.gate.sides.imported (map ran_of (runs_in (sym (append-nil j.back) i))) [];
             way = λ ep. way_of (stream_of w.gate.streams ep) ep (sym (append-nil j.back) i);
           })
       go false f = keeps-quiet m w j (gone_shared (Bye ∷ [])) (move as_deeds m w Unplugs) (gone_world (Bye ∷ [])) (made false f)
           (related (Bye ∷ []) refl refl refl (tt, tt) (tt, tt) refl (λ x. refl) (λ fence p. ((λ h. absurd (true≢false (sym h))), tt)) (bye-behind j.back (rel.farewell.bye on)) (λ h. absurd (both_ways w.host.guest.first f h)))
           (λ i. record (view w j) {
-            ran = cond w.gate.imported (map ran_of (sym (runs_in-append j.back (Bye ∷ []) ∙ append-nil (runs_in j.back)) i)) [];
+            ran = cond w.gate.sides.imported (map ran_of (sym (runs_in-append j.back (Bye ∷ []) ∙ append-nil (runs_in j.back)) i)) [];
             way = λ ep. sym (ways (Bye ∷ []) (λ kind k. refl) (stream_of w.gate.streams ep) ep) i;
           })
 

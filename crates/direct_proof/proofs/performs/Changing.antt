@@ -248,7 +248,7 @@ module _ {S : Type 0} (m : Meaning S) (laws : IsGadget m) (w : World S) (j : Sha
         gadget = done.0;
         queue = (filter-map (λ (y : Waiting). not (is_flushed (Some r) success table y)) at_device (f.rest ++ j.coming) ∙ ap (map at_device) all-left) i;
         ran = (ap (λ (l : List Ran). joins_ran d (l ++ ran_of c ∷ [])) (ap (map (λ (y : Waiting). cancelled y.load)) (filter-map (is_flushed (Some r) success table) at_device (f.rest ++ j.coming)) ∙ ap (λ (l : List Entry). map (λ (y : Waiting). cancelled y.load) (map at_device l)) all-gone
-            ∙ flushed-ran f.rest (each_front (λ (x : Entry). IsLoad x.load) f.rest j.coming rest-loads)) ∙ more w.gate.imported) i;
+            ∙ flushed-ran f.rest (each_front (λ (x : Entry). IsLoad x.load) f.rest j.coming rest-loads)) ∙ more w.gate.sides.imported) i;
         way = λ k. sym (ways (stream_of w.gate.streams k) k) i;
       })
     where

@@ -149,7 +149,7 @@ device-performs {S = S} m w j ep q f done plain ready =
     ∙ (λ i. record d {
       gadget = done.0;
       queue = filter-all (map at_device (f.rest ++ j.coming)) i;
-      ran = (ap (λ (l : List Waiting). joins_ran d (map (λ (y : Waiting). cancelled y.load) l ++ ran_of c ∷ [])) (filter-none (map at_device (f.rest ++ j.coming))) ∙ ran-answer w.gate.imported j.back c) i;
+      ran = (ap (λ (l : List Waiting). joins_ran d (map (λ (y : Waiting). cancelled y.load) l ++ ran_of c ∷ [])) (filter-none (map at_device (f.rest ++ j.coming))) ∙ ran-answer w.gate.sides.imported j.back c) i;
       way = λ e. sym (way-answer (stream_of w.gate.streams e) e j.back c) i;
     })
   where

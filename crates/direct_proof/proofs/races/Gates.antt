@@ -47,7 +47,7 @@ move-run {S = S} m w (GateReads place) r = go w.to_gate
   where
     go : (ps : List (ℕ × RedirPacket)) → IsRun (gate_reads as_deeds w place ps).world.gate
     go [] = r
-    go (p ∷ ps) = stepped (record w { to_gate = ps }) (Told place (sent_header w.gate.agreed p) p.1) r
+    go (p ∷ ps) = stepped (record w { to_gate = ps }) (Told place (sent_header w.gate.sides.agreed p) p.1) r
 move-run m w (Performs ep) r = r
 move-run m w (Offers ep) r = r
 move-run m w Unplugs r = r
@@ -70,10 +70,10 @@ run-fresh st r x few = subst (λ (s : State). Each (IsDrawn s) (mark_of s x).dra
     was : State
     was = state_of first_id (past first_id r.0)
 
-    fresh : AreFresh (greatest (wide_ids was.agreed)) (in_flight (past first_id r.0)) (mark_of was x).drawn
+    fresh : AreFresh (greatest (wide_ids was.sides.agreed)) (in_flight (past first_id r.0)) (mark_of was x).drawn
     fresh = item-fresh first_id r.0 x few
 
-    each-of : (ids : List ℕ) → Each (Fits (greatest (wide_ids was.agreed))) ids → Each (λ (id : ℕ). holds (in_flight (past first_id r.0)) id ≡ false) ids → Each (IsDrawn was) ids
+    each-of : (ids : List ℕ) → Each (Fits (greatest (wide_ids was.sides.agreed))) ids → Each (λ (id : ℕ). holds (in_flight (past first_id r.0)) id ≡ false) ids → Each (IsDrawn was) ids
     each-of [] h k = tt
     each-of (id ∷ ids) h k = ((not-zero id h.0.low, ap (λ (fs : List ℕ). holds fs id) (flying-is first_id (past first_id r.0)) ∙ k.0), each-of ids h.1 k.1)
 

@@ -46,7 +46,7 @@ IsRaceVerdict st _ = Unit {0}
 -- one of a client that hasn't imported is refused, and so is one with a number that is taken
 pub record IsRaceSubmit (st : State) (s : UrbSubmit) : Type 0 where
   pub read : IsClientPacket (Urb (urb.Submit s))
-  pub new : st.imported ≡ true → has_number st s.head.seqnum ≡ false → IsRaceVerdict st (verdict_of st (request_of s))
+  pub new : st.sides.imported ≡ true → has_number st s.head.seqnum ≡ false → IsRaceVerdict st (verdict_of st (request_of s))
 
 -- ---- what is read
 

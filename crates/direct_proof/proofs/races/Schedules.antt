@@ -68,23 +68,23 @@ keep-reads {S = S} m w j place rel sound reply = go j.back refl
 -- ---- a client's requests, where they may be made and where not
 
 keep-asked-back : {S : Type 0} (m : Meaning S) (w : World S) (j : Shared) (place : ℕ) (u : UrbUnlink) → Related m w j → IsRun w.gate → Keeps m w j (move as_deeds m w (ByClient (Asked place (Urb (urb.Unlink u)))))
-keep-asked-back {S = S} m w j place u rel run = go w.gate.imported refl
+keep-asked-back {S = S} m w j place u rel run = go w.gate.sides.imported refl
   where
-    go : (b : Bool) → w.gate.imported ≡ b → Keeps m w j (move as_deeds m w (ByClient (Asked place (Urb (urb.Unlink u)))))
+    go : (b : Bool) → w.gate.sides.imported ≡ b → Keeps m w j (move as_deeds m w (ByClient (Asked place (Urb (urb.Unlink u)))))
     go true h = keep-unlink m w j place u rel (run-sound w.gate run) h
     go false h = keep-refused m w j rel run place place (Urb (urb.Unlink u)) NotImported (ap (λ (b : Bool). cond (not b) (refused Client place NotImported) (Unlinks u.head.seqnum u.target)) h)
 
 keep-imports : {S : Type 0} (m : Meaning S) (w : World S) (j : Shared) (place status : ℕ) (busid : List ℕ) → Related m w j → IsRun w.gate → Keeps m w j (move as_deeds m w (ByClient (Asked place (Op (op.ReqImport status busid)))))
-keep-imports {S = S} m w j place status busid rel run = go w.gate.imported refl
+keep-imports {S = S} m w j place status busid rel run = go w.gate.sides.imported refl
   where
-    go : (b : Bool) → w.gate.imported ≡ b → Keeps m w j (move as_deeds m w (ByClient (Asked place (Op (op.ReqImport status busid)))))
+    go : (b : Bool) → w.gate.sides.imported ≡ b → Keeps m w j (move as_deeds m w (ByClient (Asked place (Op (op.ReqImport status busid)))))
     go true h = keep-refused m w j rel run place place (Op (op.ReqImport status busid)) AlreadyImported (ap (λ (b : Bool). cond b (refused Client place AlreadyImported) (imported_as w.gate (importable w.gate busid))) h)
     go false h = keep-import m w j place status busid rel (run-sound w.gate run) h
 
 keep-lists : {S : Type 0} (m : Meaning S) (w : World S) (j : Shared) (place status : ℕ) → Related m w j → IsRun w.gate → Keeps m w j (move as_deeds m w (ByClient (Asked place (Op (op.ReqDevlist status)))))
-keep-lists {S = S} m w j place status rel run = go w.gate.imported refl
+keep-lists {S = S} m w j place status rel run = go w.gate.sides.imported refl
   where
-    go : (b : Bool) → w.gate.imported ≡ b → Keeps m w j (move as_deeds m w (ByClient (Asked place (Op (op.ReqDevlist status)))))
+    go : (b : Bool) → w.gate.sides.imported ≡ b → Keeps m w j (move as_deeds m w (ByClient (Asked place (Op (op.ReqDevlist status)))))
     go true h = keep-refused m w j rel run place place (Op (op.ReqDevlist status)) AlreadyImported (ap (λ (b : Bool). cond b (refused Client place AlreadyImported) (Replies (list_reply w.gate.facts))) h)
     go false h = keep-list m w j place status rel (run-sound w.gate run) h
 

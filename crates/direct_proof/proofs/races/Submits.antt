@@ -80,8 +80,8 @@ wire-behind st r pipe is transfer = go (change_waits st) refl
 
     by : (c : Bool) → change_waits st ≡ c → c ≡ true → (setup : Option Setup) → r.transfer.setup ≡ setup → is_control r.transfer.ep ≡ true
     by c e t (Some s) k = sym transfer.has_setup ∙ ap is_some k
-    by c e t None k = absurd (never st.lost (nat_le MAX_LIVE (length st.live))
-        (ap (λ (v : Verdict). cond st.lost (Now ESHUTDOWN) (cond (nat_le MAX_LIVE (length st.live)) (Now EBUSY) v)) (sym same) ∙ is))
+    by c e t None k = absurd (never st.sides.lost (nat_le MAX_LIVE (length st.live))
+        (ap (λ (v : Verdict). cond st.sides.lost (Now ESHUTDOWN) (cond (nat_le MAX_LIVE (length st.live)) (Now EBUSY) v)) (sym same) ∙ is))
       where
         same : by_transfer (situation st r) r r.transfer.setup ≡ Now ENOENT
         same = ap (by_transfer (situation st r) r) k ∙ ap (λ (b : Bool). cond b (Now ENOENT) (by_endpoint (situation st r) r)) (e ∙ t)
@@ -91,7 +91,7 @@ wire-behind st r pipe is transfer = go (change_waits st) refl
     go true e = inr (by true e refl r.transfer.setup refl)
 
 -- the id of its answer is one of the two that would be drawn next
-pub simple-submit : (st : State) → IsRun st → (place : ℕ) (s : UrbSubmit) → IsClientPacket (Urb (urb.Submit s)) → st.imported ≡ true → has_number st s.head.seqnum ≡ false → (v : Verdict) → verdict_of st (request_of s) ≡ v → goes_by_id v ≡ true → IsRaceVerdict st v →
+pub simple-submit : (st : State) → IsRun st → (place : ℕ) (s : UrbSubmit) → IsClientPacket (Urb (urb.Submit s)) → st.sides.imported ≡ true → has_number st s.head.seqnum ≡ false → (v : Verdict) → verdict_of st (request_of s) ≡ v → goes_by_id v ≡ true → IsRaceVerdict st v →
     IsSimpleSubmit st s v
 simple-submit st run place s read inside new v same by_id ends = go v same (submit-load st s v read same by_id) ends
   where
@@ -143,7 +143,7 @@ there-iso true other row e = absurd (cc)
 there-iso false other row e = refl
 
 -- of a client that has imported, with a number that is free
-keep-taken : {S : Type 0} (m : Meaning S) → IsGadget m → (w : World S) (j : Shared) (place : ℕ) (s : UrbSubmit) → Related m w j → IsRun w.gate → IsClientPacket (Urb (urb.Submit s)) → w.gate.imported ≡ true → has_number w.gate s.head.seqnum ≡ false → IsRaceVerdict w.gate (verdict_of w.gate (request_of s)) →
+keep-taken : {S : Type 0} (m : Meaning S) → IsGadget m → (w : World S) (j : Shared) (place : ℕ) (s : UrbSubmit) → Related m w j → IsRun w.gate → IsClientPacket (Urb (urb.Submit s)) → w.gate.sides.imported ≡ true → has_number w.gate s.head.seqnum ≡ false → IsRaceVerdict w.gate (verdict_of w.gate (request_of s)) →
     Keeps m w j (move as_deeds m w (ByClient (Asked place (Urb (urb.Submit s)))))
 keep-taken {S = S} m laws w j place s rel run read inside new fits = go (verdict_of st r) refl fits
   where
@@ -157,10 +157,10 @@ keep-taken {S = S} m laws w j place s rel run read inside new fits = go (verdict
     up = stream_at st.streams r.transfer.ep
 
     wired : (v : Verdict) → verdict_of st r ≡ v → goes_by_id v ≡ true → IsRaceVerdict st v → Keeps m w j (move as_deeds m w (ByClient (Asked place (Urb (urb.Submit s)))))
-    wired v e by_id k = keep-simple m w j rel (run-sound st run) inside (there-by st.lost _ v e by_id) place s v (simple-submit st run place s read inside new v e by_id k)
+    wired v e by_id k = keep-simple m w j rel (run-sound st run) inside (there-by st.sides.lost _ v e by_id) place s v (simple-submit st run place s read inside new v e by_id k)
 
     -- the device attached directly answers it so, too
-    same-now : (status : ℤ) → verdict_of st r ≡ Now status → (b : Bool) → st.lost ≡ b → made_of m (view w j) r ≡ Now status
+    same-now : (status : ℤ) → verdict_of st r ≡ Now status → (b : Bool) → st.sides.lost ≡ b → made_of m (view w j) r ≡ Now status
     same-now status e true off =
         (λ i. by_stream up (verdict (record (direct_situation m (view w j) r) { lost = (sym (rel.sides.seen inside) ∙ off) i }) r))
         ∙ kept-now up ESHUTDOWN
@@ -169,23 +169,23 @@ keep-taken {S = S} m laws w j place s rel run read inside new fits = go (verdict
     same-now status e false there = same-verdict m w j rel inside there r (addressed s read.0).index ∙ ap (by_stream up) e ∙ kept-now up status
 
     go : (v : Verdict) → verdict_of st r ≡ v → IsRaceVerdict st v → Keeps m w j (move as_deeds m w (ByClient (Asked place (Urb (urb.Submit s)))))
-    go (Now status) e k = keep-now m w j place s status rel (run-before st run) inside new e (same-now status e st.lost refl)
+    go (Now status) e k = keep-now m w j place s status rel (run-before st run) inside new e (same-now status e st.sides.lost refl)
     go (Wire pipe) e k = wired (Wire pipe) e refl k
     go (Routed x) e k = wired (Routed x) e refl k
-    go (IsoOut row) e k = absurd (no-iso m laws w j rel inside (there-iso st.lost _ row e) s read.0 row e)
+    go (IsoOut row) e k = absurd (no-iso m laws w j rel inside (there-iso st.sides.lost _ row e) s read.0 row e)
     go (Stream row) e k = absurd k
 
 pub keep-submit : {S : Type 0} (m : Meaning S) → IsGadget m → (w : World S) (j : Shared) (place : ℕ) (s : UrbSubmit) → Related m w j → IsRun w.gate → IsRaceSubmit w.gate s → Keeps m w j (move as_deeds m w (ByClient (Asked place (Urb (urb.Submit s)))))
-keep-submit {S = S} m laws w j place s rel run is = go w.gate.imported (has_number w.gate s.head.seqnum) refl refl
+keep-submit {S = S} m laws w j place s rel run is = go w.gate.sides.imported (has_number w.gate s.head.seqnum) refl refl
   where
     st : State
     st = w.gate
 
-    means : (a b : Bool) → st.imported ≡ a → has_number st s.head.seqnum ≡ b →
+    means : (a b : Bool) → st.sides.imported ≡ a → has_number st s.head.seqnum ≡ b →
         meaning st (Asked place (Urb (urb.Submit s))) ≡ cond (not a) (refused Client place NotImported) (cond b (refused Client (place + 4) DuplicateSeq) (accepts st (request_of s) (verdict_of st (request_of s))))
     means a b h k = λ i. cond (not (h i)) (refused Client place NotImported) (cond (k i) (refused Client (place + 4) DuplicateSeq) (accepts st (request_of s) (verdict_of st (request_of s))))
 
-    go : (a b : Bool) → st.imported ≡ a → has_number st s.head.seqnum ≡ b → Keeps m w j (move as_deeds m w (ByClient (Asked place (Urb (urb.Submit s)))))
+    go : (a b : Bool) → st.sides.imported ≡ a → has_number st s.head.seqnum ≡ b → Keeps m w j (move as_deeds m w (ByClient (Asked place (Urb (urb.Submit s)))))
     go true true h k = keep-refused m w j rel run place (place + 4) (Urb (urb.Submit s)) DuplicateSeq (means true true h k)
     go true false h k = keep-taken m laws w j place s rel run is.read h k (is.new h k)
     go false b h k = keep-refused m w j rel run place place (Urb (urb.Submit s)) NotImported (means false b h k)

@@ -20,7 +20,7 @@ replied_world w = record w { gate = record w.gate { items = suc w.gate.items } }
 abbrev pub counted_world : {S : Type 0} → World S → List Submitted → Bool → World S
 counted_world w names over = record w { gate = record w.gate { items = suc w.gate.items; client_over = over }; submits = names }
 
-pub counted-related : {S : Type 0} (m : Meaning S) (w : World S) (j : Shared) (names : List Submitted) (over : Bool) → Related m w j → Ids j.debts names (j.held ++ j.coming) (runs_in j.back) → (over ≡ true → w.gate.imported ≡ false) → Related m (counted_world w names over) j
+pub counted-related : {S : Type 0} (m : Meaning S) (w : World S) (j : Shared) (names : List Submitted) (over : Bool) → Related m w j → Ids j.debts names (j.held ++ j.coming) (runs_in j.back) → (over ≡ true → w.gate.sides.imported ≡ false) → Related m (counted_world w names over) j
 counted-related m w j names over rel ids refused = record {
   line = rel.line;
   answers = rel.answers;
@@ -49,7 +49,7 @@ counted-related m w j names over rel ids refused = record {
 }
 
 pub replied-related : {S : Type 0} (m : Meaning S) (w : World S) (j : Shared) → Related m w j → Related m (replied_world w) j
-replied-related m w j rel = counted-related m w j w.submits w.gate.client_over rel rel.ids rel.sides.refused
+replied-related m w j rel = counted-related m w j w.submits w.gate.sides.client_over rel rel.ids rel.sides.refused
 
 -- one that goes by no id has a number, and no entry
 pub ids-named : (ds : List Debt) (names : List Submitted) (es : List Entry) (ran : List Coming) (n : ℕ) → Each (λ (d : Debt). (d.id == 0) ≡ false) ds → Ids ds names es ran → Ids ds (names ++ record { seqnum = n; id = 0 } ∷ []) es ran

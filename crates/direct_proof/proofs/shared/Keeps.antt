@@ -61,16 +61,16 @@ pub keeps-replied : {S : Type 0} (m : Meaning S) (w : World S) (j later : Shared
 keeps-replied {S = S} m w j later made w' reply is rel same = subst (Keeps m w j) (sym is) (record { later = later; related = rel; same = same; legal = tt; outs = refl })
 
 -- while the host is there, the device isn't lost
-pub not-lost : {S : Type 0} (m : Meaning S) (w : World S) (j : Shared) → Related m w j → w.host.unplugged ≡ false → w.gate.lost ≡ false
-not-lost m w j rel there = go w.gate.lost refl
+pub not-lost : {S : Type 0} (m : Meaning S) (w : World S) (j : Shared) → Related m w j → w.host.unplugged ≡ false → w.gate.sides.lost ≡ false
+not-lost m w j rel there = go w.gate.sides.lost refl
   where
-    go : (b : Bool) → w.gate.lost ≡ b → b ≡ false
+    go : (b : Bool) → w.gate.sides.lost ≡ b → b ≡ false
     go true h = absurd (both_ways w.host.unplugged there (rel.lost h).1)
     go false h = refl
 
-pub not-gone : {S : Type 0} (m : Meaning S) (w : World S) (j : Shared) → Related m w j → w.gate.lost ≡ false → j.gone ≡ false
+pub not-gone : {S : Type 0} (m : Meaning S) (w : World S) (j : Shared) → Related m w j → w.gate.sides.lost ≡ false → j.gone ≡ false
 not-gone m w j rel there = go j.gone refl
   where
     go : (b : Bool) → j.gone ≡ b → b ≡ false
-    go true h = absurd (both_ways w.gate.lost there (rel.sides.gone h))
+    go true h = absurd (both_ways w.gate.sides.lost there (rel.sides.gone h))
     go false h = refl

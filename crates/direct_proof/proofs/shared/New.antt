@@ -7,7 +7,7 @@ use Rattle.gate_history.specs.state.State.{State, flying}
 use Rattle.direct_proof.specs.Requests.{Debt}
 
 abbrev pub next_id : State → ℕ
-next_id st = draw (greatest (wide_ids st.agreed)) (flying st) st.last
+next_id st = draw (greatest (wide_ids st.sides.agreed)) (flying st) st.last
 
 -- no debt has this id
 abbrev pub IsNew : ℕ → List Debt → Type 0

@@ -33,9 +33,9 @@ pub record Begun (since : List UrbPacket) (st : State) (packets : List ClientPac
   pub ops : List OpPacket
   pub urbs : List UrbPacket
   pub are : packets ≡ map Op ops ++ map Urb urbs
-  pub none : st.imported ≡ false → st.client_over ≡ false → urbs ≡ []
+  pub none : st.sides.imported ≡ false → st.sides.client_over ≡ false → urbs ≡ []
   pub given : urbs ≡ cond (list_any is_import ops) since []
-  pub inside : st.imported ≡ true → list_any is_import ops ≡ true
+  pub inside : st.sides.imported ≡ true → list_any is_import ops ≡ true
 
 no-urbs : (xs : List OpPacket) → flat_map urb_in (map Op xs) ≡ []
 no-urbs [] = refl
@@ -59,7 +59,7 @@ module _ {S : Type 0} (n : Meaning S) (d : Direct S) (since : List UrbPacket) (s
   out : to_client st m ≡ (map Op r.ops ++ map Urb r.urbs) ++ map Urb told
   out = ap (λ (l : List ClientPacket). l ++ map Urb told) r.said
 
-  none-told : st.imported ≡ false → told ≡ []
+  none-told : st.sides.imported ≡ false → told ≡ []
   none-told h = λ i. flat_map (λ p. answers_at p.submit p.unlinker (ends m.what p.submit)) (sound.gone h i ++ map fresh ((r.behind h).1 i))
 
   urbs-out : flat_map urb_in (to_client st m) ≡ r.urbs ++ told
@@ -88,24 +88,24 @@ module _ {S : Type 0} (n : Meaning S) (d : Direct S) (since : List UrbPacket) (s
   no-ops : r.ops ≡ [] → imports m.what ≡ false
   no-ops h = sym r.success ∙ ap (list_any is_import) h
 
-  begun-inside : st.imported ≡ true → Begun later (with_mark st m) (packets ++ to_client st m)
+  begun-inside : st.sides.imported ≡ true → Begun later (with_mark st m) (packets ++ to_client st m)
   begun-inside h = record {
     ops = b.ops;
     urbs = b.urbs ++ (r.urbs ++ told);
     are = (λ i. b.are i ++ (out ∙ ap (λ (l : List OpPacket). (map Op l ++ map Urb r.urbs) ++ map Urb told) (r.before h) ∙ sym (map-append Urb r.urbs told)) i)
         ∙ append_assoc (map Op b.ops) (map Urb b.urbs) (map Urb (r.urbs ++ told))
         ∙ ap (λ (l : List ClientPacket). map Op b.ops ++ l) (sym (map-append Urb b.urbs (r.urbs ++ told)));
-    none = λ i o. absurd (refused-over (imports m.what) (ends_client m.what) (refuses_client m.what) st.client_over r.ends (ap (λ (x : Bool). cond (imports m.what) true (cond (leaves m.what) false x)) (sym h) ∙ i) o);
+    none = λ i o. absurd (refused-over (imports m.what) (ends_client m.what) (refuses_client m.what) st.sides.client_over r.ends (ap (λ (x : Bool). cond (imports m.what) true (cond (leaves m.what) false x)) (sym h) ∙ i) o);
     given = (λ i. (b.given ∙ chosen (list_any is_import b.ops) since [] (b.inside h)) i ++ (sym urbs-out ∙ k) i)
         ∙ sym (mark-since st m n d since (no-ops (r.before h)))
         ∙ sym (chosen (list_any is_import b.ops) later [] (b.inside h));
     inside = λ i. b.inside h;
   }
 
-  none-out : st.imported ≡ false → all_answers n d (deeds_of st m) ≡ []
+  none-out : st.sides.imported ≡ false → all_answers n d (deeds_of st m) ≡ []
   none-out h = sym k ∙ urbs-out ∙ (λ i. (r.behind h).0 i ++ none-told h i)
 
-  begun-outside : st.imported ≡ false → b.urbs ≡ [] → Begun later (with_mark st m) (packets ++ to_client st m)
+  begun-outside : st.sides.imported ≡ false → b.urbs ≡ [] → Begun later (with_mark st m) (packets ++ to_client st m)
   begun-outside h nothing = record {
     ops = b.ops ++ r.ops;
     urbs = [];
@@ -116,7 +116,7 @@ module _ {S : Type 0} (n : Meaning S) (d : Direct S) (since : List UrbPacket) (s
     inside = λ i. list_any-append is_import b.ops r.ops ∙ or_right (list_any is_import b.ops) (list_any is_import r.ops) (r.success ∙ comes (imports m.what) refl i);
   }
     where
-      comes : (x : Bool) → imports m.what ≡ x → (with_mark st m).imported ≡ true → imports m.what ≡ true
+      comes : (x : Bool) → imports m.what ≡ x → (with_mark st m).sides.imported ≡ true → imports m.what ≡ true
       comes true e i = e
       comes false e i = absurd (not-in (imports m.what) (leaves m.what) e (ap (λ (z : Bool). cond (imports m.what) true (cond (leaves m.what) false z)) (sym h) ∙ i))
 
@@ -134,7 +134,7 @@ module _ {S : Type 0} (n : Meaning S) (d : Direct S) (since : List UrbPacket) (s
           same : list_any is_import (b.ops ++ r.ops) ≡ list_any is_import b.ops
           same = list_any-append is_import b.ops r.ops ∙ or-none (list_any is_import b.ops) (list_any is_import r.ops) (r.success ∙ e)
 
-  begun-over : st.imported ≡ false → st.client_over ≡ true → Begun later (with_mark st m) (packets ++ to_client st m)
+  begun-over : st.sides.imported ≡ false → st.sides.client_over ≡ true → Begun later (with_mark st m) (packets ++ to_client st m)
   begun-over h over = record {
     ops = b.ops;
     urbs = b.urbs;
@@ -145,9 +145,9 @@ module _ {S : Type 0} (n : Meaning S) (d : Direct S) (since : List UrbPacket) (s
   }
 
   pub begun-mark : Begun later (with_mark st m) (packets ++ to_client st m)
-  begun-mark = go st.imported st.client_over refl refl
+  begun-mark = go st.sides.imported st.sides.client_over refl refl
     where
-      go : (i o : Bool) → st.imported ≡ i → st.client_over ≡ o → Begun later (with_mark st m) (packets ++ to_client st m)
+      go : (i o : Bool) → st.sides.imported ≡ i → st.sides.client_over ≡ o → Begun later (with_mark st m) (packets ++ to_client st m)
       go true o h z = begun-inside h
       go false true h z = begun-over h z
       go false false h z = begun-outside h (b.none h z)

@@ -68,7 +68,7 @@ begun-move {S = S} m d since w packets sound b (GateReads place) k = go w.to_gat
   where
     go : (ps : List (ℕ × RedirPacket)) → flat_map urb_in (gate_reads as_deeds w place ps).outs ≡ all_answers m d (gate_reads as_deeds w place ps).told → Begun (since_import m d since (gate_reads as_deeds w place ps).told) (gate_reads as_deeds w place ps).world.gate (packets ++ (gate_reads as_deeds w place ps).outs)
     go [] z = still since w.gate packets b
-    go (p ∷ ps) z = begun-item m d since (record w { to_gate = ps }) packets sound b (Told place (sent_header w.gate.agreed p) p.1) tt z
+    go (p ∷ ps) z = begun-item m d since (record w { to_gate = ps }) packets sound b (Told place (sent_header w.gate.sides.agreed p) p.1) tt z
 begun-move m d since w packets sound b (Performs ep) k = by-host m d since w packets sound b (move as_deeds m w (Performs ep)).told (host-plain (performed_item w.submits ep (told_performed m w.host ep))) k
 begun-move m d since w packets sound b (Offers ep) k = by-host m d since w packets sound b (move as_deeds m w (Offers ep)).told (host-plain (offered_item ep (told_offered m w.host ep))) k
 begun-move m d since w packets sound b Unplugs k = still since w.gate packets b

@@ -54,8 +54,8 @@ effect_refuses e = option_map_or (λ (r : Refusal). not (is_client r.side)) (ref
 mark-refuses : (st : State) (m : Mark) → refuses (notes_of st m) ≡ effect_refuses m.what
 mark-refuses st m =
     let e = m.what in
-    let lost : Bool = is_loss e && st.imported && not st.lost in
-    let left : Bool = leaves e && not st.client_over in
+    let lost : Bool = is_loss e && st.sides.imported && not st.sides.lost in
+    let left : Bool = leaves e && not st.sides.client_over in
     let d = none-of-both (came_notes e ++ submit_notes e) (answer_notes st e) (first-spares e) (answer-spares (filter (λ (p : Pending). is_by_answer (ends e p.submit)) (present st e))) in
     let f = none-of-both (came_notes e ++ submit_notes e ++ answer_notes st e) (when lost note.DeviceGone) d (gone-spares lost) in
     let g = none-of-both (came_notes e ++ submit_notes e ++ answer_notes st e ++ when lost note.DeviceGone) (when left note.ClientGone) f (left-spares left) in

@@ -47,10 +47,10 @@ pub record Replying (st : State) (e : Effect) : Type 0 where
   pub urbs : List UrbPacket
   pub said : replies st e ≡ map Op ops ++ map Urb urbs
   pub ends : ends_client e ≡ false
-  pub before : st.imported ≡ true → ops ≡ []
-  pub on : st.client_over ≡ true → ops ≡ []
+  pub before : st.sides.imported ≡ true → ops ≡ []
+  pub on : st.sides.client_over ≡ true → ops ≡ []
   pub success : list_any is_import ops ≡ imports e
-  pub behind : st.imported ≡ false → (urbs ≡ []) × (opened e ≡ [])
+  pub behind : st.sides.imported ≡ false → (urbs ≡ []) × (opened e ≡ [])
 
 -- it says nothing, and opens nothing
 silent : (st : State) (e : Effect) → replies st e ≡ [] → ends_client e ≡ false → opened e ≡ [] → imports e ≡ false → Replying st e
@@ -95,35 +95,35 @@ told-says st place h p = response-says st place h (response_of p)
 
 -- ---- the client's, while it isn't over
 
-module _ (st : State) (there : st.client_over ≡ false) where
-  not-over : {A : Type 0} → st.client_over ≡ true → A
+module _ (st : State) (there : st.sides.client_over ≡ false) where
+  not-over : {A : Type 0} → st.sides.client_over ≡ true → A
   not-over h = absurd (let bad : true ≡ false = sym h ∙ there in cc)
 
-  no-import : {A : Type 0} → st.imported ≡ false → st.imported ≡ true → A
+  no-import : {A : Type 0} → st.sides.imported ≡ false → st.sides.imported ≡ true → A
   no-import out h = absurd (let bad : true ≡ false = sym h ∙ out in cc)
 
-  import-says : st.imported ≡ false → (o : Option Connect) → Replying st (imported_as st o)
+  import-says : st.sides.imported ≡ false → (o : Option Connect) → Replying st (imported_as st o)
   import-says out None = record { ops = failed_import ∷ []; urbs = []; said = refl; ends = refl; before = no-import out; on = not-over; success = refl; behind = λ h. (refl, refl) }
   import-says out (Some c) = record { ops = import_reply st.facts c ∷ []; urbs = []; said = refl; ends = refl; before = no-import out; on = not-over; success = refl; behind = λ h. (refl, refl) }
 
   op-says : (place : ℕ) (p : OpPacket) → Replying st (asked_meaning st place (Op p))
   op-says place (op.ReqDevlist status) =
-      by-test st st.imported (refused Client place AlreadyImported) (Replies (list_reply st.facts)) (λ h. silent st (refused Client place AlreadyImported) refl refl refl refl)
+      by-test st st.sides.imported (refused Client place AlreadyImported) (Replies (list_reply st.facts)) (λ h. silent st (refused Client place AlreadyImported) refl refl refl refl)
       (λ out. record { ops = list_reply st.facts ∷ []; urbs = []; said = refl; ends = refl; before = no-import out; on = not-over; success = refl; behind = λ h. (refl, refl) })
   op-says place (op.ReqImport status busid) =
-      by-test st st.imported (refused Client place AlreadyImported) (imported_as st (importable st busid)) (λ h. silent st (refused Client place AlreadyImported) refl refl refl refl) (λ out. import-says out (importable st busid))
+      by-test st st.sides.imported (refused Client place AlreadyImported) (imported_as st (importable st busid)) (λ h. silent st (refused Client place AlreadyImported) refl refl refl refl) (λ out. import-says out (importable st busid))
   op-says place (op.RepDevlist status devices) = silent st _ refl refl refl refl
   op-says place (op.RepImport status device) = silent st _ refl refl refl refl
 
   -- behind an import
-  accepted-says : st.imported ≡ true → (s : Submission) (v : Verdict) → Replying st (accepted_as st s v)
+  accepted-says : st.sides.imported ≡ true → (s : Submission) (v : Verdict) → Replying st (accepted_as st s v)
   accepted-says inside s (Now status) = record { ops = []; urbs = []; said = refl; ends = refl; before = λ h. refl; on = λ h. refl; success = refl; behind = λ h. no-import h inside }
   accepted-says inside s _ = record { ops = []; urbs = []; said = refl; ends = refl; before = λ h. refl; on = λ h. refl; success = refl; behind = λ h. no-import h inside }
 
-  submit-says : st.imported ≡ true → (r : Request) (v : Verdict) → Replying st (accepts st r v)
+  submit-says : st.sides.imported ≡ true → (r : Request) (v : Verdict) → Replying st (accepts st r v)
   submit-says inside r v = let kept = by_stream (stream_at st.streams r.transfer.ep) v in accepted-says inside (submission st r kept (drawn_for st r kept)) kept
 
-  unlink-says : st.imported ≡ true → (by target : ℕ) → Replying st (Unlinks by target)
+  unlink-says : st.sides.imported ≡ true → (by target : ℕ) → Replying st (Unlinks by target)
   unlink-says inside by target = record { ops = []; urbs = cond won [] (late ∷ []); said = spread won; ends = refl; before = λ h. refl; on = λ h. refl; success = refl; behind = λ h. no-import h inside }
     where
       won : Bool
@@ -138,8 +138,8 @@ module _ (st : State) (there : st.client_over ≡ false) where
 
   urb-says : (place : ℕ) (p : UrbPacket) → Replying st (asked_meaning st place (Urb p))
   urb-says place (urb.Submit s) =
-      by-test st (not st.imported) _ _ (λ h. silent st _ refl refl refl refl) (λ h. by-test st (has_number st s.head.seqnum) _ _ (λ k. silent st _ refl refl refl refl) (λ k. submit-says (not-false st.imported h) (request_of s) (verdict_of st (request_of s))))
-  urb-says place (urb.Unlink u) = by-test st (not st.imported) _ _ (λ h. silent st _ refl refl refl refl) (λ h. unlink-says (not-false st.imported h) u.head.seqnum u.target)
+      by-test st (not st.sides.imported) _ _ (λ h. silent st _ refl refl refl refl) (λ h. by-test st (has_number st s.head.seqnum) _ _ (λ k. silent st _ refl refl refl refl) (λ k. submit-says (not-false st.sides.imported h) (request_of s) (verdict_of st (request_of s))))
+  urb-says place (urb.Unlink u) = by-test st (not st.sides.imported) _ _ (λ h. silent st _ refl refl refl refl) (λ h. unlink-says (not-false st.sides.imported h) u.head.seqnum u.target)
   urb-says place (urb.RetSubmit r) = silent st _ refl refl refl refl
   urb-says place (urb.RetUnlink r) = silent st _ refl refl refl refl
 

@@ -56,4 +56,4 @@ simulated {S = S} m laws s steps known = record {
 
     -- the host is read still
     still : host_over (history first_id (course m s steps).events) ≡ false
-    still = sym (ap (λ (st : State). st.host_over) h.follows.gate) ∙ ap (λ (w : World S). w.gate.host_over) (sym told.world) ∙ end.related.sides.reads
+    still = sym (ap (λ (st : State). st.sides.host_over) h.follows.gate) ∙ ap (λ (w : World S). w.gate.sides.host_over) (sym told.world) ∙ end.related.sides.reads

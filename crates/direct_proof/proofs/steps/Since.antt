@@ -94,17 +94,17 @@ import-one e h = absurd (cc)
 -- behind what comes first
 module _ (st : State) (m : Mark) where
   more-plain : (first : List Deed) → Each IsPlain first →
-      Each IsPlain (first ++ submit_deeds m.what ++ unlink_deeds m.what ++ arrive_deeds m.what ++ answer_deeds st m.what ++ when (is_loss m.what && st.imported && not st.lost) Gone ++ when (leaves m.what && not st.client_over) ClientGone)
+      Each IsPlain (first ++ submit_deeds m.what ++ unlink_deeds m.what ++ arrive_deeds m.what ++ answer_deeds st m.what ++ when (is_loss m.what && st.sides.imported && not st.sides.lost) Gone ++ when (leaves m.what && not st.sides.client_over) ClientGone)
   more-plain first h =
       let a = Each-append IsPlain first (submit_deeds m.what) h (submits-plain (opened m.what)) in
       let b = Each-append IsPlain (first ++ submit_deeds m.what) (unlink_deeds m.what) a (unlink-plain m.what) in
       let c = Each-append IsPlain (first ++ submit_deeds m.what ++ unlink_deeds m.what) (arrive_deeds m.what) b (arrive-plain m.what) in
       let f = Each-append IsPlain (first ++ submit_deeds m.what ++ unlink_deeds m.what ++ arrive_deeds m.what) (answer_deeds st m.what) c (answers-plain (filter (λ (p : Pending). is_by_answer (ends m.what p.submit)) (present st m.what))) in
-      let g = Each-append IsPlain (first ++ submit_deeds m.what ++ unlink_deeds m.what ++ arrive_deeds m.what ++ answer_deeds st m.what) (when (is_loss m.what && st.imported && not st.lost) Gone) f (gone-plain (is_loss m.what && st.imported && not st.lost)) in
-      Each-append IsPlain (first ++ submit_deeds m.what ++ unlink_deeds m.what ++ arrive_deeds m.what ++ answer_deeds st m.what ++ when (is_loss m.what && st.imported && not st.lost) Gone) (when (leaves m.what && not st.client_over) ClientGone) g (left-plain (leaves m.what && not st.client_over))
+      let g = Each-append IsPlain (first ++ submit_deeds m.what ++ unlink_deeds m.what ++ arrive_deeds m.what ++ answer_deeds st m.what) (when (is_loss m.what && st.sides.imported && not st.sides.lost) Gone) f (gone-plain (is_loss m.what && st.sides.imported && not st.sides.lost)) in
+      Each-append IsPlain (first ++ submit_deeds m.what ++ unlink_deeds m.what ++ arrive_deeds m.what ++ answer_deeds st m.what ++ when (is_loss m.what && st.sides.imported && not st.sides.lost) Gone) (when (leaves m.what && not st.sides.client_over) ClientGone) g (left-plain (leaves m.what && not st.sides.client_over))
 
   abbrev rest : List Deed → List Deed
-  rest first = first ++ submit_deeds m.what ++ unlink_deeds m.what ++ arrive_deeds m.what ++ answer_deeds st m.what ++ when (is_loss m.what && st.imported && not st.lost) Gone ++ when (leaves m.what && not st.client_over) ClientGone
+  rest first = first ++ submit_deeds m.what ++ unlink_deeds m.what ++ arrive_deeds m.what ++ answer_deeds st m.what ++ when (is_loss m.what && st.sides.imported && not st.sides.lost) Gone ++ when (leaves m.what && not st.sides.client_over) ClientGone
 
   pub mark-since : {S : Type 0} (n : Meaning S) (d : Direct S) (said : List UrbPacket) → imports m.what ≡ false → since_import n d said (deeds_of st m) ≡ said ++ all_answers n d (deeds_of st m)
   mark-since n d said h =

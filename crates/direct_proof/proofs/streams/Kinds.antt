@@ -54,7 +54,7 @@ ReadsStream [] = Unit {0}
 ReadsStream (p ∷ ps) = IsStreamPacket p.1
 
 abbrev pub IsStreamMove : {S : Type 0} → World S → Move → Type 0
-IsStreamMove w (ByClient (Asked place (Urb (urb.Submit s)))) = (w.gate.imported ≡ true) × IsStreamSubmit w.gate s
+IsStreamMove w (ByClient (Asked place (Urb (urb.Submit s)))) = (w.gate.sides.imported ≡ true) × IsStreamSubmit w.gate s
 IsStreamMove w HostReads = HearsSwitch w.to_host
 IsStreamMove w (GateReads place) = ReadsStream w.to_gate
 IsStreamMove w (Offers ep) = Unit {0}

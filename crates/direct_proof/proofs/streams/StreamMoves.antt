@@ -32,15 +32,15 @@ use Rattle.direct_proof.proofs.streams.gates.GateRuns.{run-gate, run-changing}
 use Rattle.direct_proof.proofs.streams.Told.{is-reply, never-both}
 
 -- a client that is over brings nothing
-keep-submit : {S : Type 0} (m : Meaning S) (w : World S) (j : Shared) (place : ℕ) (s : UrbSubmit) → w.gate.imported ≡ true → IsStreamSubmit w.gate s → IsRun w.gate → Related m w j → Keeps m w j (move as_deeds m w (ByClient (Asked place (Urb (urb.Submit s)))))
-keep-submit {S = S} m w j place s imported is run rel = by w.gate.client_over refl
+keep-submit : {S : Type 0} (m : Meaning S) (w : World S) (j : Shared) (place : ℕ) (s : UrbSubmit) → w.gate.sides.imported ≡ true → IsStreamSubmit w.gate s → IsRun w.gate → Related m w j → Keeps m w j (move as_deeds m w (ByClient (Asked place (Urb (urb.Submit s)))))
+keep-submit {S = S} m w j place s imported is run rel = by w.gate.sides.client_over refl
   where
-    go : w.gate.client_over ≡ false → (v : Verdict) → verdict_of w.gate (request_of s) ≡ v → MovesStreams v → Keeps m w j (move as_deeds m w (ByClient (Asked place (Urb (urb.Submit s)))))
+    go : w.gate.sides.client_over ≡ false → (v : Verdict) → verdict_of w.gate (request_of s) ≡ v → MovesStreams v → Keeps m w j (move as_deeds m w (ByClient (Asked place (Urb (urb.Submit s)))))
     go present (Stream row) e k = keep-stream-submit m w j place s row rel (run-gate w.gate run) imported present is.new e
     go present (Routed x) e k = keep-change m w j place s x k rel (run-changing w.gate x run rel.ups.count_is) imported present is.new e (submit-load w.gate s (Routed x) is.read e refl)
     go present _ e k = absurd k
 
-    by : (b : Bool) → w.gate.client_over ≡ b → Keeps m w j (move as_deeds m w (ByClient (Asked place (Urb (urb.Submit s)))))
+    by : (b : Bool) → w.gate.sides.client_over ≡ b → Keeps m w j (move as_deeds m w (ByClient (Asked place (Urb (urb.Submit s)))))
     by true over = keeps-quiet m w j j (move as_deeds m w (ByClient (Asked place (Urb (urb.Submit s))))) w (λ i. cond (over i) (quiet w) (gate_made as_deeds w (mark_of w.gate (Asked place (Urb (urb.Submit s)))))) rel refl
     by false present = go present is.verdict is.verdict-is is.moves
 

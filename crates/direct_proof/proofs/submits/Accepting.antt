@@ -57,7 +57,7 @@ use Rattle.gate_history.specs.state.Ups.{stream_at, stream_of}
 use Rattle.direct_device.specs.Acting.{Deed, Submit, act, answers, made_of}
 use Rattle.direct_proof.proofs.shared.Keeps.{Keeps, keeps-quiet, keeps-deed}
 
-module _ {S : Type 0} (m : Meaning S) (w : World S) (j : Shared) (rel : Related m w j) (sound : IsSound w.gate) (inside : w.gate.imported ≡ true) (there : w.gate.lost ≡ false) (place : ℕ) (s : UrbSubmit) (v : Verdict) (is : IsSimpleSubmit w.gate s v) where
+module _ {S : Type 0} (m : Meaning S) (w : World S) (j : Shared) (rel : Related m w j) (sound : IsSound w.gate) (inside : w.gate.sides.imported ≡ true) (there : w.gate.sides.lost ≡ false) (place : ℕ) (s : UrbSubmit) (v : Verdict) (is : IsSimpleSubmit w.gate s v) where
   abbrev st : State
   st = w.gate
 
@@ -190,13 +190,13 @@ module _ {S : Type 0} (m : Meaning S) (w : World S) (j : Shared) (rel : Related 
     };
     ups = rel.ups;
     down = rel.down;
-    lost = λ h. absurd (both_ways st.lost there h);
+    lost = λ h. absurd (both_ways st.sides.lost there h);
     sides = rel.sides;
     farewell = rel.farewell;
   }
 
   pub keep-simple : Keeps m w j (move as_deeds m w (ByClient (Asked place (Urb (urb.Submit s)))))
-  keep-simple = go st.client_over refl
+  keep-simple = go st.sides.client_over refl
     where
       d : Direct S
       d = view w j
@@ -211,7 +211,7 @@ module _ {S : Type 0} (m : Meaning S) (w : World S) (j : Shared) (rel : Related 
       device : (act m d (Submit r) ≡ record d { live = d.live ++ record { load = load; unlinker = None } ∷ []; queue = d.queue ++ record { load = load; asked = false } ∷ []; streams = st.streams }) × (answers m d (Submit r) ≡ [])
       device = device-simple m st d r v is.simple refl (live-untouched st.live is.simple.untouched) made-is (λ ep. way-again (stream_of st.streams ep) ep j.back)
 
-      go : (b : Bool) → st.client_over ≡ b → Keeps m w j (move as_deeds m w (ByClient (Asked place (Urb (urb.Submit s)))))
+      go : (b : Bool) → st.sides.client_over ≡ b → Keeps m w j (move as_deeds m w (ByClient (Asked place (Urb (urb.Submit s)))))
       go true over = keeps-quiet m w j j (move as_deeds m w (ByClient (Asked place (Urb (urb.Submit s))))) w (ap (λ (b : Bool). cond b (quiet w) (gate_made as_deeds w (mark_of st (Asked place (Urb (urb.Submit s)))))) over) rel refl
       go false on = keeps-deed m w j later (move as_deeds m w (ByClient (Asked place (Urb (urb.Submit s))))) (Submit r) (record {
         deeds = ap (λ (x : Made S Deed). x.told) moved ∙ simple-done st r v is.simple first;

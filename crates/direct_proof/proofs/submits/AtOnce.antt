@@ -58,7 +58,7 @@ module _ (st : State) (r : Request) (status : ℤ) (before : AreBefore st.items 
   abbrev what : Effect
   what = Opens answered_as
 
-  pub now-means : (place : ℕ) (s : UrbSubmit) → request_of s ≡ r → st.imported ≡ true → has_number st s.head.seqnum ≡ false → verdict_of st r ≡ Now status → meaning st (Asked place (Urb (urb.Submit s))) ≡ what
+  pub now-means : (place : ℕ) (s : UrbSubmit) → request_of s ≡ r → st.sides.imported ≡ true → has_number st s.head.seqnum ≡ false → verdict_of st r ≡ Now status → meaning st (Asked place (Urb (urb.Submit s))) ≡ what
   now-means place s same imported new is =
       (λ i. cond (not (imported i)) (refused Client place NotImported) (cond (new i) (refused Client (place + 4) DuplicateSeq) (accepts st (same i) (verdict_of st (same i)))))
       ∙ ap (accepts st r) is
@@ -113,9 +113,9 @@ module _ (st : State) (r : Request) (status : ℤ) (before : AreBefore st.items 
 -- ---- and the device
 
 -- it keeps what is shared
-pub keep-now : {S : Type 0} (m : Meaning S) (w : World S) (j : Shared) (place : ℕ) (s : UrbSubmit) (status : ℤ) → Related m w j → AreBefore w.gate.items w.gate.live → w.gate.imported ≡ true → has_number w.gate s.head.seqnum ≡ false →
+pub keep-now : {S : Type 0} (m : Meaning S) (w : World S) (j : Shared) (place : ℕ) (s : UrbSubmit) (status : ℤ) → Related m w j → AreBefore w.gate.items w.gate.live → w.gate.sides.imported ≡ true → has_number w.gate s.head.seqnum ≡ false →
     verdict_of w.gate (request_of s) ≡ Now status → made_of m (view w j) (request_of s) ≡ Now status → Keeps m w j (move as_deeds m w (ByClient (Asked place (Urb (urb.Submit s)))))
-keep-now {S = S} m w j place s status rel before inside new is made-is = go st.client_over refl
+keep-now {S = S} m w j place s status rel before inside new is made-is = go st.sides.client_over refl
   where
     st : State
     st = w.gate
@@ -144,7 +144,7 @@ keep-now {S = S} m w j place s status rel before inside new is made-is = go st.c
     says = ap (λ (v : Verdict). submit_answers d (record { request = r; verdict = v })) made-is
         ∙ ap (λ (l : List Live). map (λ (y : Live). without_packets y.load.request ESHUTDOWN) l ++ without_packets r status ∷ []) (filter-none d.live)
 
-    go : (b : Bool) → st.client_over ≡ b → Keeps m w j made
+    go : (b : Bool) → st.sides.client_over ≡ b → Keeps m w j made
     go true over = keeps-quiet m w j j made w (ap (λ (b : Bool). cond b (quiet w) (gate_made as_deeds w (mark_of st (Asked place (Urb (urb.Submit s)))))) over) rel refl
     go false on = keeps-deed m w j j made (Submit r) (record {
       deeds = ap (λ (x : Made S Deed). x.told) moved;
@@ -152,7 +152,7 @@ keep-now {S = S} m w j place s status rel before inside new is made-is = go st.c
       same = device ∙ ap (λ (x : Made S Deed). view x.world j) (sym moved);
       allowed = (inside, list_any-map (λ (l : Live). is_number r.seqnum l.load) live_of st.live ∙ sym (list_any-map (is_numbered r.seqnum) (λ (p : Pending). p.submit) st.live) ∙ new);
     })
-        (subst (λ (x : Made S Deed). Related m x.world j) (sym moved) (counted-related m w j (w.submits ++ record { seqnum = r.seqnum; id = 0 } ∷ []) st.client_over rel (ids-named j.debts w.submits (j.held ++ j.coming) (runs_in j.back) r.seqnum rel.real rel.ids) rel.sides.refused))
+        (subst (λ (x : Made S Deed). Related m x.world j) (sym moved) (counted-related m w j (w.submits ++ record { seqnum = r.seqnum; id = 0 } ∷ []) st.sides.client_over rel (ids-named j.debts w.submits (j.held ++ j.coming) (runs_in j.back) r.seqnum rel.real rel.ids) rel.sides.refused))
       where
         moved : made ≡ record { world = new_world; outs = Urb (without_packets r status) ∷ []; told = Submit r ∷ [] }
         moved = (λ i. cond (on i) (quiet w) (gate_made as_deeds w (mark_as st (now-means st r status before place s refl inside new is i) None))) ∙ now-made st r status before w refl

@@ -86,7 +86,7 @@ module _ (here : Situation) (r : Request) where
           unless (is_narrow here r here.row.kind && nat_lt MAX_NARROW r.transfer.wanted) EMSGSIZE _ (λ narrow.
           kind-shows still has here.row.kind refl))))))
 
-pub no-iso : {S : Type 0} (m : Meaning S) → IsGadget m → (w : World S) (j : Shared) → Related m w j → w.gate.imported ≡ true → w.gate.lost ≡ false → (s : UrbSubmit) → IsSubmit s → (row : EpRow) → verdict_of w.gate (request_of s) ≡ IsoOut row → ⊥
+pub no-iso : {S : Type 0} (m : Meaning S) → IsGadget m → (w : World S) (j : Shared) → Related m w j → w.gate.sides.imported ≡ true → w.gate.sides.lost ≡ false → (s : UrbSubmit) → IsSubmit s → (row : EpRow) → verdict_of w.gate (request_of s) ≡ IsoOut row → ⊥
 no-iso {S = S} m laws w j rel inside there s is row e = laws.no_iso_out w.host.gadget ep low same
   where
     st : State

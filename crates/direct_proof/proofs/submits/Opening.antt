@@ -46,7 +46,7 @@ module _ (st : State) (r : Request) (v : Verdict) (x : IsSimple st r v) (before 
   abbrev what : Effect
   what = Opens opened_as
 
-  pub simple-means : (place : ℕ) (s : UrbSubmit) → request_of s ≡ r → st.imported ≡ true → has_number st s.head.seqnum ≡ false → verdict_of st r ≡ v → meaning st (Asked place (Urb (urb.Submit s))) ≡ what
+  pub simple-means : (place : ℕ) (s : UrbSubmit) → request_of s ≡ r → st.sides.imported ≡ true → has_number st s.head.seqnum ≡ false → verdict_of st r ≡ v → meaning st (Asked place (Urb (urb.Submit s))) ≡ what
   simple-means place s same imported new is =
       (λ i. cond (not (imported i)) (refused Client place NotImported) (cond (new i) (refused Client (place + 4) DuplicateSeq) (accepts st (same i) (verdict_of st (same i)))))
       ∙ ap (accepts st r) is

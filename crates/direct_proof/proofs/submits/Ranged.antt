@@ -161,7 +161,7 @@ submit-load st s v read is by_id = record { transfer = transfer v is by_id; verd
     asks = is_request s read.0
 
     transfer : (u : Verdict) → verdict_of st r ≡ u → goes_by_id u ≡ true → IsTransfer (normal_by r u)
-    transfer (Wire pipe) e h = wire-transfer r at asks.directed (subst (λ (u : Verdict). IsCarried (wide_bulk st.agreed) u r) e (carried (situation st r) r asks)).data_there
+    transfer (Wire pipe) e h = wire-transfer r at asks.directed (subst (λ (u : Verdict). IsCarried (wide_bulk st.sides.agreed) u r) e (carried (situation st r) r asks)).data_there
     transfer (Routed x) e h = routed-transfer x
     transfer _ e h = absurd (cc)
 

@@ -182,4 +182,4 @@ simple-reset st r none = record {
 }
   where
     second : ℕ
-    second = draw (greatest (wide_ids st.agreed)) (flying st) (next_id st)
+    second = draw (greatest (wide_ids st.sides.agreed)) (flying st) (next_id st)

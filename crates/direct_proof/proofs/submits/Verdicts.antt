@@ -90,7 +90,7 @@ plain-debts ss h = mapped (filter (λ (s : Submission). goes_by_id s.verdict) ss
     mapped [] k = tt
     mapped (x ∷ xs) k = (k.0, mapped xs k.1)
 
-module _ {S : Type 0} (m : Meaning S) (w : World S) (j : Shared) (rel : Related m w j) (inside : w.gate.imported ≡ true) (there : w.gate.lost ≡ false) where
+module _ {S : Type 0} (m : Meaning S) (w : World S) (j : Shared) (rel : Related m w j) (inside : w.gate.sides.imported ≡ true) (there : w.gate.sides.lost ≡ false) where
   pub live-debts : debts_of (submits w.gate) ≡ j.debts
   live-debts = sym (append-nil (debts_of (submits w.gate))) ∙ ap (λ (l : List Submission). debts_of (submits w.gate) ++ debts_of l) (sym (rel.alone inside).0) ∙ rel.debts there
 
@@ -150,7 +150,7 @@ module _ {S : Type 0} (m : Meaning S) (w : World S) (j : Shared) (rel : Related 
   pub table-known : change_waits w.gate ≡ false → w.gate.facts.table ≡ table_of (ep_info_of both_caps (m.table w.host.gadget))
   table-known h = sym (told-none w.gate.facts j.back (nothing-stale h)) ∙ (rel.session there announced).table
 
-  pub wide : wide_bulk w.gate.agreed ≡ true
+  pub wide : wide_bulk w.gate.sides.agreed ≡ true
   wide = ap wide_bulk (rel.meets.gate (rel.meets.behind connected).0)
 
   -- ---- the verdict
@@ -180,4 +180,4 @@ module _ {S : Type 0} (m : Meaning S) (w : World S) (j : Shared) (rel : Related 
       rows h = sym (row-told (m.table w.host.gadget) r.transfer.ep address) ∙ ap (λ (t : EpTable). row_of t r.transfer.ep) (sym (table-known h))
 
       by_row : verdict (record (situation w.gate r) { row = row_of (m.table w.host.gadget) r.transfer.ep }) r ≡ verdict_of w.gate r
-      by_row = ap (λ (v : Verdict). cond w.gate.lost (Now ESHUTDOWN) (cond (nat_le MAX_LIVE (length w.gate.live)) (Now EBUSY) v)) (by_transfers (situation w.gate r) (row_of (m.table w.host.gadget) r.transfer.ep) r.transfer.setup rows)
+      by_row = ap (λ (v : Verdict). cond w.gate.sides.lost (Now ESHUTDOWN) (cond (nat_le MAX_LIVE (length w.gate.live)) (Now EBUSY) v)) (by_transfers (situation w.gate r) (row_of (m.table w.host.gadget) r.transfer.ep) r.transfer.setup rows)

@@ -50,8 +50,8 @@ use Rattle.direct_proof.proofs.unlinks.AskedBack.{what, still-asked, asked-of}
 
 -- ---- the move
 
-pub keep-unlink : {S : Type 0} (m : Meaning S) (w : World S) (j : Shared) (place : ℕ) (u : UrbUnlink) → Related m w j → IsSound w.gate → w.gate.imported ≡ true → Keeps m w j (move as_deeds m w (ByClient (Asked place (Urb (urb.Unlink u)))))
-keep-unlink {S = S} m w j place u rel sound inside = go w.gate.client_over refl
+pub keep-unlink : {S : Type 0} (m : Meaning S) (w : World S) (j : Shared) (place : ℕ) (u : UrbUnlink) → Related m w j → IsSound w.gate → w.gate.sides.imported ≡ true → Keeps m w j (move as_deeds m w (ByClient (Asked place (Urb (urb.Unlink u)))))
+keep-unlink {S = S} m w j place u rel sound inside = go w.gate.sides.client_over refl
   where
     st : State
     st = w.gate
@@ -84,16 +84,16 @@ keep-unlink {S = S} m w j place u rel sound inside = go w.gate.client_over refl
     split = map-append f j.held j.coming
 
     -- nothing is sent for one that lost its device
-    none-lost : st.lost ≡ true → qs ≡ []
+    none-lost : st.sides.lost ≡ true → qs ≡ []
     none-lost h = ap (λ (l : List Pending). map cancel (filter (cancels (what by target)) l)) (rel.lost h).3
 
     quiet-qs : Each IsQuiet qs
     quiet-qs = cancels-quiet (filter (cancels (what by target)) st.live)
 
     asked : CancelsFit (map f j.held ++ map f j.coming) qs []
-    asked = subst (λ (l : List Entry). CancelsFit l qs []) split (known st.lost refl)
+    asked = subst (λ (l : List Entry). CancelsFit l qs []) split (known st.sides.lost refl)
       where
-        known : (b : Bool) → st.lost ≡ b → CancelsFit (map f es) qs []
+        known : (b : Bool) → st.sides.lost ≡ b → CancelsFit (map f es) qs []
         known true h = subst (λ (l : List (ℕ × RedirPacket)). CancelsFit (map f es) l []) (sym (none-lost h)) tt
         known false h = cancels-fit (map f es) (filter (cancels (what by target)) st.live) (asked-of by target es st.live (entries-of j.debts w.submits es (runs_in j.back) (submits st) st.abandoned rel.ids (rel.debts h)))
 
@@ -102,12 +102,12 @@ keep-unlink {S = S} m w j place u rel sound inside = go w.gate.client_over refl
         ∙ rel.line.coming ∙ sym (line-ask f (λ e. refl) (λ e. refl) j.coming)
 
     before : w.host.guest.first ≡ true → Early (record w { to_host = w.to_host ++ qs }) later
-    before h = by_lost st.lost refl
+    before h = by_lost st.sides.lost refl
       where
         early : Early w j
         early = rel.before h
 
-        by_lost : (b : Bool) → st.lost ≡ b → Early (record w { to_host = w.to_host ++ qs }) later
+        by_lost : (b : Bool) → st.sides.lost ≡ b → Early (record w { to_host = w.to_host ++ qs }) later
         by_lost true off = record { back = early.back; wire = ap (λ (l : List (ℕ × RedirPacket)). w.to_host ++ l) (none-lost off) ∙ append-nil w.to_host ∙ early.wire; held = ap (map f) early.held; half = early.half; running = early.running }
         by_lost false on = absurd (both_ways w.host.guest.first (rel.meets.behind (rel.meets.no_session inside on)).2 h)
 
@@ -176,7 +176,7 @@ keep-unlink {S = S} m w j place u rel sound inside = go w.gate.client_over refl
             on false true k = omega (arith, k)
             on false false k = k
 
-    go : (b : Bool) → st.client_over ≡ b → Keeps m w j (move as_deeds m w (ByClient (Asked place (Urb (urb.Unlink u)))))
+    go : (b : Bool) → st.sides.client_over ≡ b → Keeps m w j (move as_deeds m w (ByClient (Asked place (Urb (urb.Unlink u)))))
     go true over = keeps-quiet m w j j (move as_deeds m w (ByClient (Asked place (Urb (urb.Unlink u))))) w (ap (λ (b : Bool). cond b (quiet w) (gate_made as_deeds w (mark_of st (Asked place (Urb (urb.Unlink u)))))) over) rel refl
     go false on = keeps-deed m w j later (move as_deeds m w (ByClient (Asked place (Urb (urb.Unlink u))))) (Unlink by target) (record {
       deeds = ap (λ (x : Made S Deed). x.told) moved ∙ unlink-done st by target;

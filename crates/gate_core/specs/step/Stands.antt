@@ -36,11 +36,7 @@ GateHasFailed g = g.failed ≡ true
 -- what is kept is that of this state
 pub record Holds (t : Kept) (st : State) : Type 0 where
   pub facts : t.facts ≡ st.facts
-  pub caps : t.caps ≡ st.agreed
-  pub imported : t.imported ≡ st.imported
-  pub lost : t.lost ≡ st.lost
-  pub client_over : t.client_over ≡ st.client_over
-  pub host_over : t.host_over ≡ st.host_over
+  pub sides : t.sides ≡ st.sides
   pub streams : t.streams ≡ st.streams
   pub stream_ids : t.stream_ids ≡ st.stream_ids
   pub fence : t.fence ≡ st.fence

@@ -28,7 +28,7 @@ impl Kept {
     ) -> Result<(), Memory>
         requires kept { IsKept self.old }
         ensures kept { IsKept self.new }
-        ensures ok { (st : State) (at : ℕ) → place ≡ capped at → Holds self.old st → st.client_over ≡ false
+        ensures ok { (st : State) (at : ℕ) → place ≡ capped at → Holds self.old st → st.sides.client_over ≡ false
             → OnOk result (Does st (mark_as st (asked_meaning st at (Op request.now)) None) self.old self.new out.old out.new) }
         ensures err { OnErr result (StopsShort self.old self.new out.old out.new) }
     {
@@ -42,11 +42,11 @@ impl Kept {
     fn answer_list(&mut self, place: u64, out: &mut Outputs) -> Result<(), Memory>
         requires kept { IsKept self.old }
         ensures kept { IsKept self.new }
-        ensures ok { (st : State) (at : ℕ) (status : ℕ) → place ≡ capped at → Holds self.old st → st.client_over ≡ false
+        ensures ok { (st : State) (at : ℕ) (status : ℕ) → place ≡ capped at → Holds self.old st → st.sides.client_over ≡ false
             → OnOk result (Does st (mark_as st (asked_meaning st at (Op (ReqDevlist status))) None) self.old self.new out.old out.new) }
         ensures err { OnErr result (StopsShort self.old self.new out.old out.new) }
     {
-        if self.imported {
+        if self.sides.imported {
             return self.refuse_client(client_refusal(place, Reason::AlreadyImported), out);
         }
         let reply = list_reply(self.alloc, &self.facts)?;
@@ -62,11 +62,11 @@ impl Kept {
     ) -> Result<(), Memory>
         requires kept { IsKept self.old }
         ensures kept { IsKept self.new }
-        ensures ok { (st : State) (at : ℕ) (status : ℕ) → place ≡ capped at → Holds self.old st → st.client_over ≡ false
+        ensures ok { (st : State) (at : ℕ) (status : ℕ) → place ≡ capped at → Holds self.old st → st.sides.client_over ≡ false
             → OnOk result (Does st (mark_as st (asked_meaning st at (Op (ReqImport status busid.now))) None) self.old self.new out.old out.new) }
         ensures err { OnErr result (StopsShort self.old self.new out.old out.new) }
     {
-        if self.imported {
+        if self.sides.imported {
             return self.refuse_client(client_refusal(place, Reason::AlreadyImported), out);
         }
         match self.importable(busid) {
@@ -99,8 +99,8 @@ impl Kept {
     {
         out.notes.push(Note::Imported)?;
         write_op(&import_reply(&self.facts, connect), &mut out.to_client)?;
-        self.imported = true;
-        self.lost = false;
+        self.sides.imported = true;
+        self.sides.lost = false;
         Ok(())
     }
 

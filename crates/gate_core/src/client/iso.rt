@@ -70,7 +70,7 @@ impl Kept {
             Some(_) => Ok(None),
             None => {
                 let id = self.draw(self.last);
-                write_start(ep, row, id, self.caps, to_host)?;
+                write_start(ep, row, id, self.sides.agreed, to_host)?;
                 Ok(Some(id))
             }
         }
@@ -107,7 +107,13 @@ impl Kept {
         for place in 0..request.descs.len() {
             let data = part(&request.descs, body, place);
             let id = self.draw(last);
-            write_iso_out(request.transfer.ep.byte(), data, id, self.caps, to_host)?;
+            write_iso_out(
+                request.transfer.ep.byte(),
+                data,
+                id,
+                self.sides.agreed,
+                to_host,
+            )?;
             last = id;
         }
         Ok(last)

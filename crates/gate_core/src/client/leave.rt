@@ -24,12 +24,12 @@ impl Kept {
     /// Appends the cancels of the transfers on the wire that weren't asked back, whose client is gone.
     fn write_cancels(&self, to_host: &mut Bytes) -> Result<(), Memory>
         requires { IsKept self.now }
-        ensures ok { OnOk result (to_host.new ≡ to_host.old ++ flat_map (cancel_bytes self.now.caps) self.now.lives.live) }
+        ensures ok { OnOk result (to_host.new ≡ to_host.old ++ flat_map (cancel_bytes self.now.sides.agreed) self.now.lives.live) }
         ensures err { OnErr result (Begins to_host.old to_host.new) }
         ensures wants { OnErr result (0 < length (filter is_cancelled_row self.now.lives.live)) }
     {
         for live in self.lives.iter() {
-            write_cancel_of(live, self.caps, to_host)?;
+            write_cancel_of(live, self.sides.agreed, to_host)?;
         }
         Ok(())
     }
@@ -46,7 +46,7 @@ impl Kept {
         let sent_ids = self.write_stops(None, &mut out.to_host)?;
         self.tell_gone(&mut out.notes)?;
         self.leave(sent_ids);
-        self.client_over = false;
+        self.sides.client_over = false;
         Ok(())
     }
 
@@ -55,7 +55,7 @@ impl Kept {
         requires kept { IsKept self.old }
         requires side { refusal.side ≡ Client }
         ensures kept { IsKept self.new }
-        ensures ok { (st : State) → Holds self.old st → st.client_over ≡ false → OnOk result (Does st (mark_as st (Refuses refusal) None) self.old self.new out.old out.new) }
+        ensures ok { (st : State) → Holds self.old st → st.sides.client_over ≡ false → OnOk result (Does st (mark_as st (Refuses refusal) None) self.old self.new out.old out.new) }
         ensures err { OnErr result (StopsShort self.old self.new out.old out.new) }
     {
         self.write_cancels(&mut out.to_host)?;
@@ -63,17 +63,17 @@ impl Kept {
         out.notes.push(Note::ClientGone)?;
         out.notes.push(Note::Refused(refusal))?;
         self.leave(sent_ids);
-        self.client_over = true;
+        self.sides.client_over = true;
         Ok(())
     }
 
     /// Tells that the client is gone; one that was refused was gone before its end.
     fn tell_gone(&self, notes: &mut Notes) -> Result<(), Memory>
-        ensures ok { OnOk result (notes.new ≡ notes.old ++ when (not self.now.client_over) ClientGone) }
+        ensures ok { OnOk result (notes.new ≡ notes.old ++ when (not self.now.sides.client_over) ClientGone) }
         ensures err { OnErr result (notes.new ≡ notes.old) }
-        ensures wants { OnErr result (not self.now.client_over ≡ true) }
+        ensures wants { OnErr result (not self.now.sides.client_over ≡ true) }
     {
-        if !self.client_over {
+        if !self.sides.client_over {
             notes.push(Note::ClientGone)?;
         }
         Ok(())
@@ -86,14 +86,14 @@ impl Kept {
         ensures left { HasLeft sent_ids self.old self.new }
     {
         self.dropped = self.dropped.saturating_add(self.lives.len() as u64);
-        self.imported = false;
+        self.sides.imported = false;
         self.abandon();
         self.forget_streams(sent_ids);
     }
 
     /// What the client has at the host is abandoned.
     pub fn abandon(&mut self)
-        ensures kept { IsKept self.old → self.old.imported ≡ false → IsKept self.new }
+        ensures kept { IsKept self.old → self.old.sides.imported ≡ false → IsKept self.new }
         ensures abandoned { self.new ≡ record self.old { lives = record { live = []; abandoned = self.old.lives.abandoned ++ filter goes_by_id self.old.lives.live } } }
     {
         // There are live requests or abandoned ones, but never both.

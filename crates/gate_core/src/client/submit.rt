@@ -45,11 +45,11 @@ impl Kept {
         requires kept { IsKept self.old }
         requires fits { IsSubmit submit }
         ensures kept { IsKept self.new }
-        ensures ok { (st : State) (at : ℕ) → place ≡ capped at → Holds self.old st → IsSound st → st.client_over ≡ false
+        ensures ok { (st : State) (at : ℕ) → place ≡ capped at → Holds self.old st → IsSound st → st.sides.client_over ≡ false
             → OnOk result (Does st (mark_as st (asked_meaning st at (Urb (SubmitPacket submit))) None) self.old self.new out.old out.new) }
         ensures err { OnErr result (StopsShort self.old self.new out.old out.new) }
     {
-        if !self.imported {
+        if !self.sides.imported {
             return self.refuse_client(client_refusal(place, Reason::NotImported), out);
         }
         if self.lives.has(submit.head.seqnum) {
@@ -70,13 +70,13 @@ impl Kept {
     fn verdict(&self, request: &Request) -> Verdict
         requires whole { IsRequest request.now }
         ensures value { (st : State) → Holds self.now st → result ≡ verdict_of st request.now }
-        ensures carried { IsCarried (wide_bulk self.now.caps) result request.now }
+        ensures carried { IsCarried (wide_bulk self.now.sides.agreed) result request.now }
         ensures answered { CanGo self.now request.now result }
     {
         let changing = self.lives.change_waits();
-        let wide = self.caps.contains(Caps::WIDE_BULK_LENGTH);
+        let wide = self.sides.agreed.contains(Caps::WIDE_BULK_LENGTH);
         let here = Situation {
-            lost: self.lost,
+            lost: self.sides.lost,
             live: self.lives.len(),
             changing,
             row: self.facts.table.row(request.transfer.ep),
@@ -110,7 +110,7 @@ impl Kept {
     fn send(&mut self, pipe: Pipe, request: Request, out: &mut Outputs) -> Result<(), Memory>
         requires kept { IsKept self.old }
         requires free { IsFree self.old request.seqnum }
-        requires sent { IsSent (wide_bulk self.old.caps) pipe request.transfer }
+        requires sent { IsSent (wide_bulk self.old.sides.agreed) pipe request.transfer }
         requires answered { CanAnswer request (kind_of (Wire pipe) request.transfer.ep) }
         ensures kept { IsKept self.new }
         ensures ok { (st : State) → Holds self.old st → IsSound st
@@ -133,7 +133,7 @@ impl Kept {
             kind: pipe.kind(),
         };
         let packet = wire_packet(pipe, transfer);
-        move_data(packet, id, Way::ToHost, self.caps, &mut out.to_host)?;
+        move_data(packet, id, Way::ToHost, self.sides.agreed, &mut out.to_host)?;
         let live = Live {
             seqnum,
             id,
@@ -186,15 +186,15 @@ impl Kept {
         requires some { 1 ≤ length (route_packets route.now) }
         ensures sent { OnOk result (to_host.new ≡ to_host.old ++ bytes_of self.now last (route_packets route.now)) }
         ensures id { IfOk result (λ id. id ≡ last_of last (ids_after self.now last (length (route_packets route.now)))) }
-        ensures fits { IfOk result (λ id. IdFits (wide_ids self.now.caps) id) }
+        ensures fits { IfOk result (λ id. IdFits (wide_ids self.now.sides.agreed) id) }
         ensures err { OnErr result (Begins to_host.old to_host.new) }
     {
         let first = self.draw(last);
-        write_route(route, first, self.caps, to_host)?;
+        write_route(route, first, self.sides.agreed, to_host)?;
         match route {
             Route::Reset => {
                 let second = self.draw(first);
-                write_route(&Route::GetConfig, second, self.caps, to_host)?;
+                write_route(&Route::GetConfig, second, self.sides.agreed, to_host)?;
                 Ok(second)
             }
             _ => Ok(first),
@@ -214,17 +214,17 @@ impl Kept {
     /// The first id after this one that is in flight nowhere.
     pub fn draw(&self, last: u64) -> u64
         requires { IsKept self.now }
-        ensures value { result ≡ draw (greatest (wide_ids self.now.caps)) (flying_in self.now) last }
-        ensures fits { IdFits (wide_ids self.now.caps) result }
+        ensures value { result ≡ draw (greatest (wide_ids self.now.sides.agreed)) (flying_in self.now) last }
+        ensures fits { IdFits (wide_ids self.now.sides.agreed) result }
     {
-        draw(&self.lives, &self.stream_ids, self.caps, last)
+        draw(&self.lives, &self.stream_ids, self.sides.agreed, last)
     }
 
     /// Takes a request in, the last of those in flight, for which this id was drawn last.
     pub fn open(&mut self, live: Live, last: u64)
         requires kept { IsKept self.old }
         requires free { IsFree self.old live.seqnum }
-        requires row { IsRow self.old.caps live }
+        requires row { IsRow self.old.sides.agreed live }
         ensures kept { IsKept self.new }
         ensures opened { HasOpened live last self.old self.new }
     {

@@ -27,11 +27,11 @@ impl Kept {
     pub fn unlink(&mut self, place: u64, unlink: &Unlink, out: &mut Outputs) -> Result<(), Memory>
         requires kept { IsKept self.old }
         ensures kept { IsKept self.new }
-        ensures ok { (st : State) (at : ℕ) → place ≡ capped at → Holds self.old st → IsSound st → st.client_over ≡ false
+        ensures ok { (st : State) (at : ℕ) → place ≡ capped at → Holds self.old st → IsSound st → st.sides.client_over ≡ false
             → OnOk result (Does st (mark_as st (asked_meaning st at (Urb (UnlinkPacket unlink.now))) None) self.old self.new out.old out.new) }
         ensures err { OnErr result (StopsShort self.old self.new out.old out.new) }
     {
-        if !self.imported {
+        if !self.sides.imported {
             return self.refuse_client(client_refusal(place, Reason::NotImported), out);
         }
         self.ask_back(unlink.head.seqnum, unlink.target, out)
@@ -52,7 +52,7 @@ impl Kept {
         match self.lives.held_at(at).asked_back() {
             AskedBack::Already(_) => write_ret_unlink(by, 0, &mut out.to_client),
             AskedBack::Cancel(id) => {
-                write_cancel(id, self.caps, &mut out.to_host)?;
+                write_cancel(id, self.sides.agreed, &mut out.to_host)?;
                 self.mark(at, by);
                 Ok(())
             }

@@ -53,7 +53,7 @@ impl Kept {
         self.facts = Facts::none();
         self.streams.clear();
         self.fence = None;
-        self.lost = true;
+        self.sides.lost = true;
     }
 
     /// The host has ended: its device is lost with it.
@@ -67,7 +67,7 @@ impl Kept {
         let unlinked = self.write_losses(&mut out.to_client)?;
         self.tell_loss(&mut out.notes)?;
         self.lose(unlinked);
-        self.host_over = true;
+        self.sides.host_over = true;
         Ok(())
     }
 
@@ -83,14 +83,14 @@ impl Kept {
         self.tell_loss(&mut out.notes)?;
         out.notes.push(Note::Refused(refusal))?;
         self.lose(unlinked);
-        self.host_over = true;
+        self.sides.host_over = true;
         Ok(())
     }
 
     /// The device is gone: the host's packet with this id tells so, and is acknowledged where that is agreed.
     pub fn disconnect(&mut self, id: u64, out: &mut Outputs) -> Result<(), Memory>
         requires kept { IsKept self.old }
-        requires id_fits { IdFits (wide_ids self.old.caps) id }
+        requires id_fits { IdFits (wide_ids self.old.sides.agreed) id }
         ensures kept { IsKept self.new }
         ensures ok { (st : State) → Holds self.old st → OnOk result (Does st (mark_as st (Disconnects id) None) self.old self.new out.old out.new) }
         ensures err { OnErr result (StopsShort self.old self.new out.old out.new) }
@@ -98,18 +98,18 @@ impl Kept {
     {
         let unlinked = self.write_losses(&mut out.to_client)?;
         self.tell_loss(&mut out.notes)?;
-        acknowledge(id, self.caps, &mut out.to_host)?;
+        acknowledge(id, self.sides.agreed, &mut out.to_host)?;
         self.lose(unlinked);
         Ok(())
     }
 
     /// Tells that an import stands no more, if one did.
     fn tell_loss(&self, notes: &mut Notes) -> Result<(), Memory>
-        ensures ok { OnOk result (notes.new ≡ notes.old ++ when (self.now.imported && not self.now.lost) DeviceGone) }
+        ensures ok { OnOk result (notes.new ≡ notes.old ++ when (self.now.sides.imported && not self.now.sides.lost) DeviceGone) }
         ensures err { OnErr result (notes.new ≡ notes.old) }
-        ensures wants { OnErr result ((self.now.imported && not self.now.lost) ≡ true) }
+        ensures wants { OnErr result ((self.now.sides.imported && not self.now.sides.lost) ≡ true) }
     {
-        if self.imported && !self.lost {
+        if self.sides.imported && !self.sides.lost {
             notes.push(Note::DeviceGone)?;
         }
         Ok(())

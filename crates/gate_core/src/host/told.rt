@@ -68,9 +68,9 @@ impl Kept {
         out: &mut Outputs,
     ) -> Result<(), Memory>
         requires kept { IsKept self.old }
-        requires fits { ToldFits self.old.caps header.now (Plain packet.now) }
+        requires fits { ToldFits self.old.sides.agreed header.now (Plain packet.now) }
         ensures kept { IsKept self.new }
-        ensures ok { (st : State) (at : ℕ) → place ≡ capped at → Holds self.old st → IsSound st → st.host_over ≡ false
+        ensures ok { (st : State) (at : ℕ) → place ≡ capped at → Holds self.old st → IsSound st → st.sides.host_over ≡ false
             → OnOk result (Does st (mark_as st (told_meaning st at header.now (Plain packet.now)) (fact_of (Plain packet.now))) self.old self.new out.old out.new) }
         ensures err { OnErr result (StopsShort self.old self.new out.old out.new) }
         ensures wants { (st : State) (at : ℕ) → place ≡ capped at → Holds self.old st → IsSound st → OnErr result (GivesSome st (mark_as st (told_meaning st at header.now (Plain packet.now)) (fact_of (Plain packet.now)))) }
@@ -92,11 +92,11 @@ impl Kept {
     /// The host's hello: what both sides have is agreed. Ids had 32 bits until then.
     fn agree(&mut self, hello: &Hello)
         requires kept { IsKept self.old }
-        requires narrow { wide_ids self.old.caps ≡ false }
+        requires narrow { wide_ids self.old.sides.agreed ≡ false }
         ensures kept { IsKept self.new }
-        ensures agreed { self.new ≡ record self.old { caps = agreed (caps_of hello.now) announced } }
+        ensures agreed { self.new ≡ record self.old { sides = record self.old.sides { agreed = agreed (caps_of hello.now) announced } } }
     {
-        self.caps = hello.caps().agreed(Caps::ANNOUNCED);
+        self.sides.agreed = hello.caps().agreed(Caps::ANNOUNCED);
     }
 
     /// The host tells of an endpoint's stream, by the id of what started or stopped it.
@@ -130,7 +130,7 @@ impl Kept {
         requires kept { IsKept self.old }
         requires fits { ResponseFits header.now.kind (response_of (Plain packet.now)) }
         ensures kept { IsKept self.new }
-        ensures ok { (st : State) (at : ℕ) → place ≡ capped at → Holds self.old st → IsSound st → st.host_over ≡ false
+        ensures ok { (st : State) (at : ℕ) → place ≡ capped at → Holds self.old st → IsSound st → st.sides.host_over ≡ false
             → OnOk result (Does st (mark_as st (by_response st at header.now (response_of (Plain packet.now))) (fact_of (Plain packet.now))) self.old self.new out.old out.new) }
         ensures err { OnErr result (StopsShort self.old self.new out.old out.new) }
         ensures wants { (st : State) (at : ℕ) → place ≡ capped at → Holds self.old st → IsSound st → OnErr result (GivesSome st (mark_as st (by_response st at header.now (response_of (Plain packet.now))) (fact_of (Plain packet.now)))) }
@@ -144,9 +144,9 @@ impl Kept {
     fn learn(&mut self, packet: &RedirControl)
         requires kept { IsKept self.old }
         ensures kept { IsKept self.new }
-        ensures learned { self.new ≡ record self.old { facts = if self.old.host_over then self.old.facts else tell self.old.facts (fact_of (Plain packet.now)) } }
+        ensures learned { self.new ≡ record self.old { facts = if self.old.sides.host_over then self.old.facts else tell self.old.facts (fact_of (Plain packet.now)) } }
     {
-        if !self.host_over {
+        if !self.sides.host_over {
             self.facts.tell(packet);
         }
     }
@@ -208,11 +208,17 @@ impl Kept {
         response: &Response,
     ) -> Option<Refusal>
         requires { at < length (in_flight self.now.lives) }
-        ensures value { (l : Live) → slice_get (in_flight self.now.lives) at ≡ Some l → result ≡ mismatch place (head_size (wide_ids self.now.caps)) (expected_by l) header.now.kind (response_view response.now) }
+        ensures value { (l : Live) → slice_get (in_flight self.now.lives) at ≡ Some l → result ≡ mismatch place (head_size (wide_ids self.now.sides.agreed)) (expected_by l) header.now.kind (response_view response.now) }
         ensures side { IfSome result (λ refusal. refusal.side ≡ Host) }
     {
         let live = self.lives.held_at(at);
-        mismatch(place, head_size(self.caps), live, header.kind, response)
+        mismatch(
+            place,
+            head_size(self.sides.agreed),
+            live,
+            header.kind,
+            response,
+        )
     }
 
     /// The request in flight at a place ends by its answer. Of one whose client is gone nothing is sent.

@@ -3,9 +3,8 @@
 ghost use Rattle.std.specs.Prelude.{◌≤◌, IfOk};
 ghost use Rattle.gate_core.specs.inner.state.Holds.{IsFirst, IsKept};
 
-use gate_history::Facts;
+use gate_history::{Facts, Sides};
 use gate_parts::{StreamIds, Streams};
-use redir_wire::Caps;
 use std::alloc::Global;
 use unlink_race::Lives;
 use usb_base::Memory;
@@ -20,16 +19,8 @@ pub struct Kept {
     pub lives: Lives,
     /// What the host has told of its device since that was last lost.
     pub facts: Facts,
-    /// The capabilities that are agreed, none before the host's hello.
-    pub caps: Caps,
-    /// The present client has imported the device.
-    pub imported: bool,
-    /// The device was lost, and no import came after that.
-    pub lost: bool,
-    /// The present client was refused.
-    pub client_over: bool,
-    /// The host has ended or was refused.
-    pub host_over: bool,
+    /// Where both sides stand.
+    pub sides: Sides,
     /// The streams that are up, by their endpoints' places in a table.
     pub streams: Streams,
     /// The ids of what started and stopped them.
@@ -58,11 +49,7 @@ impl Kept {
             alloc,
             lives: Lives::make(alloc)?,
             facts: Facts::none(),
-            caps: Caps::empty(),
-            imported: false,
-            lost: false,
-            client_over: false,
-            host_over: false,
+            sides: Sides::none(),
             streams: Streams::none(),
             stream_ids: StreamIds::none(),
             fence: None,

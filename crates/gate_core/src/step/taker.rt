@@ -23,11 +23,11 @@ pub struct ItemTaker<'a> {
 impl<'a> PacketTaker<ClientFormat> for ItemTaker<'a> {
     ghost use Rattle.gate_core.specs.inner.step.Takers.{TakerTakes};
 
-    ghost CanTake = { λ taker place packet. ItemFits taker.translator.now.caps (Asked place packet) };
+    ghost CanTake = { λ taker place packet. ItemFits taker.translator.now.sides.agreed (Asked place packet) };
 
     ghost Takes = { TakerTakes Asked ClientWrong };
 
-    ghost over_in = { λ taker. taker.translator.now.client_over };
+    ghost over_in = { λ taker. taker.translator.now.sides.client_over };
 
     fn take(&mut self, place: u64, packet: ClientPacket) -> Result<(), Memory> {
         self.translator
@@ -40,18 +40,18 @@ impl<'a> PacketTaker<ClientFormat> for ItemTaker<'a> {
     }
 
     fn is_over(&self) -> bool {
-        self.translator.kept().client_over
+        self.translator.kept().sides.client_over
     }
 }
 
 impl<'a> PacketTaker<FromHost> for ItemTaker<'a> {
     ghost use Rattle.gate_core.specs.inner.step.Takers.{TakerTakes};
 
-    ghost CanTake = { λ taker place packet. ItemFits taker.translator.now.caps (told_item place packet) };
+    ghost CanTake = { λ taker place packet. ItemFits taker.translator.now.sides.agreed (told_item place packet) };
 
     ghost Takes = { TakerTakes told_item HostWrong };
 
-    ghost over_in = { λ taker. taker.translator.now.host_over };
+    ghost over_in = { λ taker. taker.translator.now.sides.host_over };
 
     fn take(&mut self, place: u64, packet: (Header, RedirPacket)) -> Result<(), Memory> {
         let (header, packet) = packet;
@@ -69,6 +69,6 @@ impl<'a> PacketTaker<FromHost> for ItemTaker<'a> {
     }
 
     fn is_over(&self) -> bool {
-        self.translator.kept().host_over
+        self.translator.kept().sides.host_over
     }
 }

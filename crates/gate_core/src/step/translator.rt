@@ -57,7 +57,7 @@ impl Translator {
     /// Takes the next item of a side that isn't over: the function that knows its kind appends what that sends to each
     /// side, and what it tells. For want of memory nothing has changed: what was appended goes back.
     pub fn take(&mut self, item: Item, out: &mut Outputs) -> Result<(), Memory>
-        requires { ItemFits self.old.caps item }
+        requires { ItemFits self.old.sides.agreed item }
         ensures ok { OnOk result ((st : State) (x : PastItem) → IsItem item x → Holds self.old st → IsSound st → is_left_out st x ≡ false
             → Does st (mark_of st x) self.old self.new out.old out.new) }
         ensures err { OnErr result (DoesNothing self.old self.new out.old out.new) }

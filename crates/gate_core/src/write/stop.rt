@@ -58,7 +58,7 @@ impl Kept {
         match stream {
             Some(up) if is_ended(up, by) => {
                 let id = self.draw(sent_ids.last);
-                write_stop(up, id, self.caps, to_host)?;
+                write_stop(up, id, self.sides.agreed, to_host)?;
                 sent_ids.stream_ids.stop(up.ep(), id);
                 sent_ids.last = id;
                 sent_ids.fence = Some(id);

@@ -1,4 +1,4 @@
--- Which sides are refused, over, gone, imported and lost. Only this file says which effects these are.
+-- Where both sides stand: what is agreed, imported, lost, over. Only this file says which effects these are.
 use Rattle.std.specs.Option.{option_map_or}
 use Rattle.std.specs.Prelude.{ℕ, Bool, true, false, not, ◌||◌, if◌then◌else◌, List, Option, Some, None, unwrap_or}
 use Rattle.usb_base.specs.declared.side.Side.{Side}
@@ -9,6 +9,7 @@ use Rattle.redir_wire.specs.declared.packet.Caps.{Caps}
 use Rattle.redir_wire.specs.Capability.{no_caps}
 use Rattle.usb_base.specs.Number.{capped}
 use Rattle.packet_stream.specs.Folds.{rfold}
+use Rattle.gate_history.specs.declared.sides.Sides.{Sides}
 use Rattle.gate_history.specs.step.Marks.{Effect, Imports, Agrees, Disconnects, Ends, Refuses, Mark}
 
 -- ---- of one effect
@@ -61,24 +62,26 @@ agrees _ = None
 abbrev pub turned : (Effect → Bool) → (Effect → Bool) → Effect → Bool → Bool
 turned starts stops e before = if starts e then true else (if stops e then false else before)
 
-abbrev pub since : (Effect → Bool) → (Effect → Bool) → List Mark → Bool
-since starts stops ms = rfold (λ before m. turned starts stops m.what before) false ms
-
--- the present client's import succeeded, and it isn't gone
-abbrev pub imported : List Mark → Bool
-imported ms = since imports leaves ms
-
--- the device was lost, and no import came after that
-abbrev pub lost : List Mark → Bool
-lost ms = since is_loss imports ms
+-- nothing has come
+abbrev pub no_sides : Sides
+no_sides = record { agreed = no_caps; imported = false; lost = false; client_over = false; host_over = false }
 
 -- a client is over from its refusal until its end, after which the next one may come
+abbrev pub sides_after : Effect → Sides → Sides
+sides_after e s = record {
+  agreed = unwrap_or (agrees e) s.agreed;
+  imported = turned imports leaves e s.imported;
+  lost = turned is_loss imports e s.lost;
+  client_over = turned refuses_client ends_client e s.client_over;
+  host_over = turned closes_host (λ e. false) e s.host_over;
+}
+
+abbrev pub sides : List Mark → Sides
+sides ms = rfold (λ s m. sides_after m.what s) no_sides ms
+
+-- nothing more is read of the client, or of the host
 abbrev pub client_over : List Mark → Bool
-client_over ms = since refuses_client ends_client ms
+client_over ms = (sides ms).client_over
 
 abbrev pub host_over : List Mark → Bool
-host_over ms = since closes_host (λ e. false) ms
-
--- the capabilities that are agreed, which are none before the host's hello
-abbrev pub agreed : List Mark → Caps
-agreed ms = rfold (λ caps m. unwrap_or (agrees m.what) caps) no_caps ms
+host_over ms = (sides ms).host_over

@@ -18,8 +18,8 @@ pub record IsSound (st : State) : Type 0 where
   pub few : length st.live ≤ MAX_LIVE
   pub left : length st.abandoned ≤ MAX_LIVE
   -- a client imports once nothing is left of the former, and only one that has imported has submits
-  pub apart : st.imported ≡ true → st.abandoned ≡ []
-  pub gone : st.imported ≡ false → st.live ≡ []
+  pub apart : st.sides.imported ≡ true → st.abandoned ≡ []
+  pub gone : st.sides.imported ≡ false → st.live ≡ []
   -- each submit stands before the next item
   pub places : AllByRecursion (λ s. s.place < st.items) (submits st)
   -- none has been answered where it was accepted
@@ -37,5 +37,5 @@ HasFewPackets _ = Unit {0}
 abbrev pub DrawFresh : ℕ → List Item → Type 0
 DrawFresh first [] = Unit {0}
 DrawFresh first (x ∷ xs) =
-    AreFresh (greatest (wide_ids (state_of first (past first xs)).agreed)) (in_flight (past first xs)) (mark_of (state_of first (past first xs)) x).drawn
+    AreFresh (greatest (wide_ids (state_of first (past first xs)).sides.agreed)) (in_flight (past first xs)) (mark_of (state_of first (past first xs)) x).drawn
     × DrawFresh first xs

@@ -1,12 +1,12 @@
 -- What a past says, as one value: the results of all searches. What an item means depends on nothing else.
 use Rattle.std.specs.Prelude.{ℕ, ◌==◌, Bool, List, ◌++◌, length, map, Option}
 use Rattle.std.specs.List.{list_any}
-use Rattle.redir_wire.specs.declared.packet.Caps.{Caps}
 use Rattle.gate_history.specs.declared.facts.Facts.{Facts}
+use Rattle.gate_history.specs.declared.sides.Sides.{Sides}
 use Rattle.gate_history.specs.state.Ids.{draws, greatest}
 use Rattle.gate_history.specs.client.Verdict.{changes}
 use Rattle.gate_history.specs.step.Marks.{Submission, Mark}
-use Rattle.gate_history.specs.state.Sides.{imported, lost, client_over, host_over, agreed}
+use Rattle.gate_history.specs.state.Sides.{sides}
 use Rattle.gate_history.specs.state.Facts.{facts}
 use Rattle.gate_history.specs.client.Submits.{Pending, abandoned, pending, live}
 use Rattle.gate_history.specs.state.Ups.{Up, streams}
@@ -17,11 +17,7 @@ pub record State : Type 0 where
   -- how many items came, which is the place of the next
   pub items : ℕ
   pub facts : Facts
-  pub agreed : Caps
-  pub imported : Bool
-  pub lost : Bool
-  pub client_over : Bool
-  pub host_over : Bool
+  pub sides : Sides
   -- the live submits in order, and those that a client left at the host
   pub live : List Pending
   pub abandoned : List Submission
@@ -36,11 +32,7 @@ abbrev pub state_of : ℕ → List Mark → State
 state_of first ms = record {
   items = length ms;
   facts = facts ms;
-  agreed = agreed ms;
-  imported = imported ms;
-  lost = lost ms;
-  client_over = client_over ms;
-  host_over = host_over ms;
+  sides = sides ms;
   live = map (pending ms) (live ms);
   abandoned = abandoned ms;
   streams = streams ms;
@@ -59,7 +51,7 @@ flying st = ids_of (submits st) ++ ids_of st.abandoned ++ ids_of_streams st.stre
 
 -- the ids of an item's first n packets
 abbrev pub next_ids : State → ℕ → List ℕ
-next_ids st n = draws (greatest (wide_ids st.agreed)) (flying st) st.last n
+next_ids st n = draws (greatest (wide_ids st.sides.agreed)) (flying st) st.last n
 
 abbrev pub is_number : ℕ → Submission → Bool
 is_number number s = s.request.seqnum == number

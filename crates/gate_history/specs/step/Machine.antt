@@ -8,7 +8,7 @@ use Rattle.gate_history.specs.declared.note.Counts.{Counts}
 use Rattle.gate_history.specs.step.Events.{PastEvent}
 use Rattle.gate_history.specs.declared.item.Item.{Item}
 use Rattle.gate_history.specs.step.Marks.{Effect, Mark}
-use Rattle.gate_history.specs.state.Sides.{turned, imports, leaves, is_loss, refuses_client, ends_client, closes_host, agrees}
+use Rattle.gate_history.specs.state.Sides.{sides_after}
 use Rattle.gate_history.specs.state.Facts.{facts_after}
 use Rattle.gate_history.specs.client.Submits.{Pending, asks, abandoned_after}
 use Rattle.gate_history.specs.client.Ends.{ends}
@@ -38,11 +38,7 @@ abbrev pub with_mark : State → Mark → State
 with_mark st m = record {
   items = suc st.items;
   facts = facts_after m.what m.told st.facts;
-  agreed = unwrap_or (agrees m.what) st.agreed;
-  imported = turned imports leaves m.what st.imported;
-  lost = turned is_loss imports m.what st.lost;
-  client_over = turned refuses_client ends_client m.what st.client_over;
-  host_over = turned closes_host (λ e. false) m.what st.host_over;
+  sides = sides_after m.what st.sides;
   live = live_after st m.what;
   abandoned = abandoned_after m.what (submits st) st.abandoned;
   streams = streams_after m.what st.streams;

@@ -66,7 +66,7 @@ imported_as st connect = option_map_or (λ c. Imports (import_reply st.facts c))
 
 -- what its verdict goes by
 abbrev pub situation : State → Request → Situation
-situation st r = record { lost = st.lost; live = length st.live; changing = change_waits st; row = row_of st.facts.table r.transfer.ep; wide = wide_bulk st.agreed }
+situation st r = record { lost = st.sides.lost; live = length st.live; changing = change_waits st; row = row_of st.facts.table r.transfer.ep; wide = wide_bulk st.sides.agreed }
 
 abbrev pub verdict_of : State → Request → Verdict
 verdict_of st r = verdict (situation st r) r
@@ -102,14 +102,14 @@ accepts st r v =
 -- ---- the client's packets
 
 abbrev pub asked_meaning : State → ℕ → ClientPacket → Effect
-asked_meaning st place (Op (op.ReqDevlist status)) = if st.imported then refused Client place AlreadyImported else Replies (list_reply st.facts)
+asked_meaning st place (Op (op.ReqDevlist status)) = if st.sides.imported then refused Client place AlreadyImported else Replies (list_reply st.facts)
 asked_meaning st place (Op (op.ReqImport status busid)) =
-    if st.imported then refused Client place AlreadyImported else imported_as st (importable st busid)
+    if st.sides.imported then refused Client place AlreadyImported else imported_as st (importable st busid)
 asked_meaning st place (Urb (urb.Submit s)) =
-    if not st.imported then refused Client place NotImported
+    if not st.sides.imported then refused Client place NotImported
     else if has_number st s.head.seqnum then refused Client (place + 4) DuplicateSeq
     else accepts st (request_of s) (verdict_of st (request_of s))
-asked_meaning st place (Urb (urb.Unlink u)) = if not st.imported then refused Client place NotImported else Unlinks u.head.seqnum u.target
+asked_meaning st place (Urb (urb.Unlink u)) = if not st.sides.imported then refused Client place NotImported else Unlinks u.head.seqnum u.target
 asked_meaning st place _ = Idle
 
 -- ---- the host's packets
@@ -120,7 +120,7 @@ answered_as id o wrong = option_map_or Refuses wrong (Answers id o)
 -- an answer to nobody means nothing
 abbrev pub answer_to : State → ℕ → Header → Response → Option Submission → Effect
 answer_to st place h response asked =
-    option_map_or (λ s. answered_as h.id (told_outcome s.request s.verdict response) (mismatch place (head_size (wide_ids st.agreed)) (expected_of s) h.kind response)) asked Idle
+    option_map_or (λ s. answered_as h.id (told_outcome s.request s.verdict response) (mismatch place (head_size (wide_ids st.sides.agreed)) (expected_of s) h.kind response)) asked Idle
 
 abbrev pub by_response : State → ℕ → Header → Option Response → Effect
 by_response st place h response = option_map_or (λ r. answer_to st place h r (find (has_id h.id) (submits st ++ st.abandoned))) response Idle

@@ -9,10 +9,10 @@ use Rattle.gate_history.specs.state.State.{State, state_of}
 use Rattle.gate_history.specs.step.Meaning.{mark_of}
 
 abbrev pub is_left_out : State → Item → Bool
-is_left_out st (Asked place packet) = st.client_over
-is_left_out st (ClientWrong place reason) = st.client_over
+is_left_out st (Asked place packet) = st.sides.client_over
+is_left_out st (ClientWrong place reason) = st.sides.client_over
 is_left_out st ClientLeft = false
-is_left_out st _ = st.host_over
+is_left_out st _ = st.sides.host_over
 
 abbrev pub put : ℕ → List Mark → Item → List Mark
 put first ms x = if is_left_out (state_of first ms) x then ms else mark_of (state_of first ms) x ∷ ms

@@ -34,18 +34,18 @@ refused_if broken place reason = if broken then Some (refusal Client place reaso
 -- a client that has imported the device asks for no list and no import; one that hasn't sends no submit and no unlink;
 -- and a submit's number, four bytes behind its beginning, is that of no submit in flight
 abbrev pub client_rule : State → ℕ → ClientPacket → Option Refusal
-client_rule st place (Op (op.ReqDevlist status)) = refused_if st.imported place AlreadyImported
-client_rule st place (Op (op.ReqImport status busid)) = refused_if st.imported place AlreadyImported
+client_rule st place (Op (op.ReqDevlist status)) = refused_if st.sides.imported place AlreadyImported
+client_rule st place (Op (op.ReqImport status busid)) = refused_if st.sides.imported place AlreadyImported
 client_rule st place (Op _) = None
 client_rule st place (Urb (urb.Submit s)) =
-    if not st.imported then Some (refusal Client place NotImported) else refused_if (has_number st s.head.seqnum) (place + 4) DuplicateSeq
-client_rule st place (Urb (urb.Unlink u)) = refused_if (not st.imported) place NotImported
+    if not st.sides.imported then Some (refusal Client place NotImported) else refused_if (has_number st s.head.seqnum) (place + 4) DuplicateSeq
+client_rule st place (Urb (urb.Unlink u)) = refused_if (not st.sides.imported) place NotImported
 client_rule st place (Urb _) = None
 
 -- what the host answers by an id is of the type, the endpoint and the length of the request that waits with it
 abbrev pub host_rule : State → ℕ → Header → RedirPacket → Option Refusal
 host_rule st place h p =
-    option_and_then (λ response. option_and_then (λ s. mismatch place (head_size (wide_ids st.agreed)) (expected_of s) h.kind response) (find (has_id h.id) (submits st ++ st.abandoned))) (response_of p)
+    option_and_then (λ response. option_and_then (λ s. mismatch place (head_size (wide_ids st.sides.agreed)) (expected_of s) h.kind response) (find (has_id h.id) (submits st ++ st.abandoned))) (response_of p)
 
 -- ---- of an item, and of all
 

@@ -19,7 +19,7 @@ abbrev pub client_bytes_of : State → Mark → List ℕ
 client_bytes_of st m = flat_map client_spelling (to_client st m)
 
 abbrev pub host_bytes_of : State → Mark → List ℕ
-host_bytes_of st m = flat_map (sent_packet_bytes st.agreed) (to_host st m)
+host_bytes_of st m = flat_map (sent_packet_bytes st.sides.agreed) (to_host st m)
 
 -- ---- of a past
 

@@ -41,8 +41,8 @@ refusal_notes refusal = map note.Refused (option_to_list refusal)
 abbrev pub notes_of : State → Mark → List Note
 notes_of st m =
     came_notes m.what ++ submit_notes m.what ++ answer_notes st m.what
-    ++ when (is_loss m.what && st.imported && not st.lost) note.DeviceGone
-    ++ when (leaves m.what && not st.client_over) note.ClientGone
+    ++ when (is_loss m.what && st.sides.imported && not st.sides.lost) note.DeviceGone
+    ++ when (leaves m.what && not st.sides.client_over) note.ClientGone
     ++ refusal_notes (refused_at m.what)
 
 -- ---- counted

@@ -66,4 +66,4 @@ acknowledgements caps (Disconnects id) = if has caps DISCONNECT_ACK then (id, Pl
 acknowledgements caps _ = []
 
 abbrev pub to_host : State → Mark → List (ℕ × RedirPacket)
-to_host st m = map cancel (filter (cancels m.what) st.live) ++ asking st.streams m ++ acknowledgements st.agreed m.what
+to_host st m = map cancel (filter (cancels m.what) st.live) ++ asking st.streams m ++ acknowledgements st.sides.agreed m.what

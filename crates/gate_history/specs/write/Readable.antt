@@ -20,4 +20,4 @@ piece_bytes _ = []
 abbrev pub SentCanBeRead : Type 0
 SentCanBeRead =
     (first : ℕ) (events : List PastEvent) → AreBytes (flat_map piece_bytes events) →
-    AllByRecursion (CanBeRead ToHost (state_of first (history first events)).agreed) (all_of to_host first (history first events))
+    AllByRecursion (CanBeRead ToHost (state_of first (history first events)).sides.agreed) (all_of to_host first (history first events))

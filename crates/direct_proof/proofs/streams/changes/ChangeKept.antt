@@ -63,7 +63,7 @@ use Rattle.direct_proof.proofs.shared.Streaming.{starts-append}
 
 -- ---- what is kept
 
-module _ {S : Type 0} (m : Meaning S) (w : World S) (j : Shared) (place : ℕ) (s : UrbSubmit) (x : Route) (change : is_change x ≡ true) (rel : Related m w j) (gate : IsChanging w.gate x) (imported : w.gate.imported ≡ true) (present : w.gate.client_over ≡ false)
+module _ {S : Type 0} (m : Meaning S) (w : World S) (j : Shared) (place : ℕ) (s : UrbSubmit) (x : Route) (change : is_change x ≡ true) (rel : Related m w j) (gate : IsChanging w.gate x) (imported : w.gate.sides.imported ≡ true) (present : w.gate.sides.client_over ≡ false)
     (new : has_number w.gate s.head.seqnum ≡ false) (v : verdict_of w.gate (request_of s) ≡ Routed x) (load : IsLoad (record { request = request_of s; verdict = Routed x })) where
   abbrev r : Request
   r = request_of s
@@ -83,8 +83,8 @@ module _ {S : Type 0} (m : Meaning S) (w : World S) (j : Shared) (place : ℕ) (
   abbrev later : Shared
   later = record j { coming = j.coming ++ entry_of (last_of 0 (change_ids w.gate x)) (request_of s) x ∷ []; debts = j.debts ++ record { id = last_of 0 (change_ids w.gate x); load = record { request = request_of s; verdict = Routed x } } ∷ [] }
 
-  there : w.gate.lost ≡ false
-  there = (past w.gate.lost ESHUTDOWN _ x v).0
+  there : w.gate.sides.lost ≡ false
+  there = (past w.gate.sides.lost ESHUTDOWN _ x v).0
 
   connect : is_some w.gate.facts.connect ≡ true
   connect = rel.meets.no_session imported there
@@ -148,8 +148,8 @@ module _ {S : Type 0} (m : Meaning S) (w : World S) (j : Shared) (place : ℕ) (
     alone = rel.alone;
     session = λ h k. new-session;
     ups = fits-lower (is_ended (Some x)) w.gate.streams rel.ups;
-    down = λ h. absurd (both_ways w.gate.imported h imported);
-    lost = λ h. absurd (both_ways w.gate.lost there h);
+    down = λ h. absurd (both_ways w.gate.sides.imported h imported);
+    lost = λ h. absurd (both_ways w.gate.sides.lost there h);
     sides = rel.sides;
     farewell = rel.farewell;
   }
@@ -157,7 +157,7 @@ module _ {S : Type 0} (m : Meaning S) (w : World S) (j : Shared) (place : ℕ) (
   made : made_of m d r ≡ Routed x
   made = go r.transfer.setup refl load.verdict
     where
-      wide : true ≡ wide_bulk w.gate.agreed
+      wide : true ≡ wide_bulk w.gate.sides.agreed
       wide = sym (ap wide_bulk (rel.meets.gate (rel.meets.behind connect).0))
 
       go : (setup : Option Setup) → r.transfer.setup ≡ setup → FitsRoute x r.transfer setup → made_of m d r ≡ Routed x

@@ -37,7 +37,7 @@ use Rattle.direct_proof.proofs.streams.changes.ChangeTail.{IsMute, IsTail, is-ta
 pub record IsChanging (st : State) (x : Route) : Type 0 where
   pub sound : IsSound st
   pub long : AreLong st.stream_ids
-  pub fresh : AreFresh (greatest (wide_ids st.agreed)) (flying st) (change_ids st x)
+  pub fresh : AreFresh (greatest (wide_ids st.sides.agreed)) (flying st) (change_ids st x)
   pub unstopped : (i : ℕ) → is_some (get_or st.streams i None) ≡ true → get_or st.stream_ids.stopped i None ≡ None
 
 module _ {S : Type 0} (m : Meaning S) (w : World S) (j : Shared) (r : Request) (x : Route) (change : is_change x ≡ true) (rel : Related m w j) (gate : IsChanging w.gate x) where
@@ -48,13 +48,13 @@ module _ {S : Type 0} (m : Meaning S) (w : World S) (j : Shared) (r : Request) (
   test = is_ended (Some x)
 
   abbrev pub most : ℕ
-  most = greatest (wide_ids w.gate.agreed)
+  most = greatest (wide_ids w.gate.sides.agreed)
 
   abbrev pub ids1 : List ℕ
-  ids1 = draws (greatest (wide_ids w.gate.agreed)) (flying w.gate) w.gate.last (length (stops (is_ended (Some x)) w.gate.streams))
+  ids1 = draws (greatest (wide_ids w.gate.sides.agreed)) (flying w.gate) w.gate.last (length (stops (is_ended (Some x)) w.gate.streams))
 
   abbrev pub ids2 : List ℕ
-  ids2 = draws (greatest (wide_ids w.gate.agreed)) (flying w.gate) (last_of w.gate.last (draws (greatest (wide_ids w.gate.agreed)) (flying w.gate) w.gate.last (length (stops (is_ended (Some x)) w.gate.streams)))) (length (route_packets x))
+  ids2 = draws (greatest (wide_ids w.gate.sides.agreed)) (flying w.gate) (last_of w.gate.last (draws (greatest (wide_ids w.gate.sides.agreed)) (flying w.gate) w.gate.last (length (stops (is_ended (Some x)) w.gate.streams)))) (length (route_packets x))
 
   abbrev pub zs : List (ℕ × RedirPacket)
   zs = stopping (is_ended (Some x)) ids1 w.gate.streams

@@ -52,7 +52,7 @@ module _ {S : Type 0} (m : Meaning S) (w : World S) (j : Shared) (r : Request) (
   stream_ids-sent : stream_ids_on (change_sent w.gate x) ≡ stream_ids_on (zs m w j r x change rel gate)
   stream_ids-sent = ap stream_ids_on (sent-is m w j r x change rel gate) ∙ stream_ids-append (zs m w j r x change rel gate) (cs m w j r x change rel gate) ∙ ap (λ (l : List ℕ). stream_ids_on (zs m w j r x change rel gate) ++ l) (ap stream_ids_on (tail m w j r x change rel gate).are ∙ mute-stream_ids ((tail m w j r x change rel gate).first ∷ (tail m w j r x change rel gate).rest) ((tail m w j r x change rel gate).mute, (tail m w j r x change rel gate).rest_mute)) ∙ append-nil (stream_ids_on (zs m w j r x change rel gate))
 
-  pub new-controls : w.gate.lost ≡ false → Controls (stream_ids_after (change_sent w.gate x) w.gate.stream_ids) (w.to_host ++ change_sent w.gate x) j.back
+  pub new-controls : w.gate.sides.lost ≡ false → Controls (stream_ids_after (change_sent w.gate x) w.gate.stream_ids) (w.to_host ++ change_sent w.gate x) j.back
   new-controls there = subst (λ (c : StreamIds). Controls c (w.to_host ++ change_sent w.gate x) j.back) (sym stream_ids-are) (record {
     once = λ n. let o = c.once n in
         let a = ap (times n) (stream_ids-append w.to_host (change_sent w.gate x) ∙ ap (λ (l : List ℕ). stream_ids_on w.to_host ++ l) stream_ids-sent) ∙ times-append n (stream_ids_on w.to_host) (stream_ids_on (zs m w j r x change rel gate)) in

@@ -56,7 +56,7 @@ touched x p = is_touched (Routed x) p.submit.verdict
 
 -- ---- what it means
 
-pub change-means : (st : State) (place : ℕ) (s : UrbSubmit) (x : Route) → st.imported ≡ true → has_number st s.head.seqnum ≡ false → verdict_of st (request_of s) ≡ Routed x →
+pub change-means : (st : State) (place : ℕ) (s : UrbSubmit) (x : Route) → st.sides.imported ≡ true → has_number st s.head.seqnum ≡ false → verdict_of st (request_of s) ≡ Routed x →
     meaning st (Asked place (Urb (urb.Submit s))) ≡ Opens (changer st (request_of s) x)
 change-means st place s x imported new v =
     (λ i. cond (not (imported i)) (refused Client place NotImported) (cond (new i) (refused Client (place + 4) DuplicateSeq) (accepts st (request_of s) (v i))))

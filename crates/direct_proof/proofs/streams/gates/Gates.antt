@@ -45,7 +45,7 @@ pub is-gate : (st : State) → IsSound st → AreLong st.stream_ids → IsGate s
 is-gate st sound long = record {
   sound = sound;
   long = long;
-  fresh = let a = few-flying st sound long in let b = many (wide_ids st.agreed) in draws-fresh (greatest (wide_ids st.agreed)) (flying st) st.last 1 (omega (arith, a, b));
+  fresh = let a = few-flying st sound long in let b = many (wide_ids st.sides.agreed) in draws-fresh (greatest (wide_ids st.sides.agreed)) (flying st) st.last 1 (omega (arith, a, b));
 }
 
 few-route : (x : Route) → length (route_packets x) ≤ 2
@@ -58,11 +58,11 @@ is-changing st x sound long places free = record {
   long = long;
   fresh =
       let a = few-flying st sound long in
-      let b = many (wide_ids st.agreed) in
+      let b = many (wide_ids st.sides.agreed) in
       let c = few-stops (is_ended (Some x)) st.streams in
       let d = few-route x in
       let e = length-append (stops (is_ended (Some x)) st.streams) (route_packets x) in
-      draws-fresh (greatest (wide_ids st.agreed)) (flying st) st.last (length (stops (is_ended (Some x)) st.streams ++ route_packets x)) (omega (arith, a, b, c, d, e, places));
+      draws-fresh (greatest (wide_ids st.sides.agreed)) (flying st) st.last (length (stops (is_ended (Some x)) st.streams ++ route_packets x)) (omega (arith, a, b, c, d, e, places));
   unstopped = free.fresh;
 }
 

@@ -118,8 +118,8 @@ unstopped-after st (Imports reply) told h = h
 unstopped-after st (Unlinks by target) told h = h
 unstopped-after st (Agrees caps) told h = h
 unstopped-after st (Answers id o) told h = h
-unstopped-after st (Opens s) told h = unstopped-opened (greatest (wide_ids st.agreed)) (flying st) st.last st.streams st.stream_ids h s.verdict s.request
-unstopped-after st (Waits s fill) told h = unstopped-hold s.request.transfer.ep fill.left (opened_streams s.verdict s.request.transfer.ep st.streams) _ (unstopped-opened (greatest (wide_ids st.agreed)) (flying st) st.last st.streams st.stream_ids h s.verdict s.request)
+unstopped-after st (Opens s) told h = unstopped-opened (greatest (wide_ids st.sides.agreed)) (flying st) st.last st.streams st.stream_ids h s.verdict s.request
+unstopped-after st (Waits s fill) told h = unstopped-hold s.request.transfer.ep fill.left (opened_streams s.verdict s.request.transfer.ep st.streams) _ (unstopped-opened (greatest (wide_ids st.sides.agreed)) (flying st) st.last st.streams st.stream_ids h s.verdict s.request)
 unstopped-after st (Arrives ep fill) told h = unstopped-hold ep fill.left st.streams st.stream_ids h
 unstopped-after st (StreamTold id ep status) told h = by (is_success status) (nat_lt (ep % 128) 16)
   where

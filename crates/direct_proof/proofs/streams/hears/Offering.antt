@@ -55,10 +55,10 @@ module _ {S : Type 0} (m : Meaning S) (laws : IsGadget m) (w : World S) (j : Sha
   abbrev later : Shared
   later = with_packet j s ep sent.1
 
-  here : w.gate.lost ≡ false
-  here = go w.gate.lost refl
+  here : w.gate.sides.lost ≡ false
+  here = go w.gate.sides.lost refl
     where
-      go : (x : Bool) → w.gate.lost ≡ x → x ≡ false
+      go : (x : Bool) → w.gate.sides.lost ≡ x → x ≡ false
       go true h = absurd (both_ways w.host.unplugged plugged (rel.lost h).1)
       go false h = refl
 
@@ -134,7 +134,7 @@ module _ {S : Type 0} (m : Meaning S) (laws : IsGadget m) (w : World S) (j : Sha
     session = λ h k. new-session;
     ups = rel.ups;
     down = rel.down;
-    lost = λ h. absurd (both_ways w.gate.lost here h);
+    lost = λ h. absurd (both_ways w.gate.sides.lost here h);
     sides = rel.sides;
     farewell = farewell-sent new.host j.back (Packed s.kind ep sent.1 ∷ []) plugged (rel.farewell.bye plugged) refl;
   }
@@ -143,7 +143,7 @@ module _ {S : Type 0} (m : Meaning S) (laws : IsGadget m) (w : World S) (j : Sha
   not-gone = go j.gone refl
     where
       go : (x : Bool) → j.gone ≡ x → x ≡ false
-      go true h = absurd (both_ways w.gate.lost here (rel.sides.gone h))
+      go true h = absurd (both_ways w.gate.sides.lost here (rel.sides.gone h))
       go false h = refl
 
   offered-does : Does m (view w j) (Offer ep ∷ []) (view new later) []
@@ -151,7 +151,7 @@ module _ {S : Type 0} (m : Meaning S) (laws : IsGadget m) (w : World S) (j : Sha
     same = ap (offered_by (view w j) ep) ready
         ∙ (λ i. record (view w j) {
           gadget = sent.0;
-          ran = cond w.gate.imported (map ran_of (sym (runs-last j.back (Packed s.kind ep sent.1) refl) i)) [];
+          ran = cond w.gate.sides.imported (map ran_of (sym (runs-last j.back (Packed s.kind ep sent.1) refl) i)) [];
           way = λ e. way-offered w.gate.streams j.back s.kind ep sent.1 kind e i;
         });
     legal = ((not-gone, ap is_some ready), tt);

@@ -88,13 +88,13 @@ module _ {S : Type 0} (m : Meaning S) (w : World S) (j : Shared) (rel : Related 
   starts-tail : (changing : Bool) → StartsFit (m.table w.host.gadget) changing w.to_host → StartsFit (m.table w.host.gadget) changing ps
   starts-tail changing h = subst (λ (b : Bool). StartsFit (m.table w.host.gadget) b ps) (ap (λ (b : Bool). changing || b) is_switch.no_change ∙ or-false changing) (subst (StartsFit (m.table w.host.gadget) changing) wire h).1
 
-  controls-at : w.gate.lost ≡ false → Controls w.gate.stream_ids (q ∷ ps) j.back
+  controls-at : w.gate.sides.lost ≡ false → Controls w.gate.stream_ids (q ∷ ps) j.back
   controls-at h = subst (λ (l : List (ℕ × RedirPacket)). Controls w.gate.stream_ids l j.back) wire (rel.controls h)
 
-  here : w.host.unplugged ≡ false → w.gate.lost ≡ false
-  here plugged = go w.gate.lost refl
+  here : w.host.unplugged ≡ false → w.gate.sides.lost ≡ false
+  here plugged = go w.gate.sides.lost refl
     where
-      go : (b : Bool) → w.gate.lost ≡ b → b ≡ false
+      go : (b : Bool) → w.gate.sides.lost ≡ b → b ≡ false
       go true h = absurd (both_ways w.host.unplugged plugged (rel.lost h).1)
       go false h = refl
 
@@ -106,7 +106,7 @@ module _ {S : Type 0} (m : Meaning S) (w : World S) (j : Shared) (rel : Related 
       (subst (StartsFit (m.table w.host.gadget) (any_change j.held || j.half)) wire session.starts).0
       (subst (Each (λ (p : ℕ × RedirPacket). StartOfKind w.gate.streams (started_kind p.1))) wire session.start_kinds).0
 
-  module _ (plugged : w.host.unplugged ≡ false) (there : w.gate.lost ≡ false) (session : Session m w j) (c : HostSwitches m w.host w.gate.streams q) where
+  module _ (plugged : w.host.unplugged ≡ false) (there : w.gate.sides.lost ≡ false) (session : Session m w j) (c : HostSwitches m w.host w.gate.streams q) where
     abbrev b : Tagged
     b = Stated c.kind q.0 c.ep 0
 
@@ -181,14 +181,14 @@ module _ {S : Type 0} (m : Meaning S) (w : World S) (j : Shared) (rel : Related 
       session = λ h k. new-session;
       ups = rel.ups;
       down = rel.down;
-      lost = λ h. absurd (both_ways w.gate.lost there h);
+      lost = λ h. absurd (both_ways w.gate.sides.lost there h);
       sides = rel.sides;
       farewell = farewell-sent new.host j.back (b ∷ []) plugged (rel.farewell.bye plugged) refl;
     }
 
     keep-heard : Keeps m w j (move as_deeds m w HostReads)
     keep-heard = keeps-quiet m w j later (move as_deeds m w HostReads) new (switched-moved m w q ps c wire plugged) related
-        (λ i. record (view w j) { ran = cond w.gate.imported (map ran_of (sym (runs-last j.back b refl) i)) []; way = λ e. sym (way-stated (stream_of w.gate.streams e) e j.back c.kind q.0 c.ep 0) i })
+        (λ i. record (view w j) { ran = cond w.gate.sides.imported (map ran_of (sym (runs-last j.back b refl) i)) []; way = λ e. sym (way-stated (stream_of w.gate.streams e) e j.back c.kind q.0 c.ep 0) i })
 
   -- ---- a host that is unplugged reads on
 

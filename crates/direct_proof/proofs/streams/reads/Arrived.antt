@@ -97,13 +97,13 @@ module _ {S : Type 0} (m : Meaning S) (w : World S) (j : Shared) (place : ℕ) (
     holds : Holds w.gate.streams ep up.row.max_packet up.held
     holds = holds-at w.gate.streams ep up is-in rel.ups.count_is here
 
-    who : (b : Bool) → w.gate.imported ≡ b → (w.gate.imported ≡ true) ⊎ (w.gate.live ≡ [])
+    who : (b : Bool) → w.gate.sides.imported ≡ b → (w.gate.sides.imported ≡ true) ⊎ (w.gate.live ≡ [])
     who true h = inl h
     who false h = inr (sound.gone h)
 
     fill-does : (full : Bool) → is_full up.held ≡ full → DoesFill m taken ep w.gate.live (filling_of w.gate ep p up full)
     fill-does true h = does-none m taken ep up.row.max_packet w.gate.live up.held refl (subst (λ (ps : List StreamPacket). Holds (hold ep ps w.gate.streams) ep up.row.max_packet up.held) (sym (ap (λ (b : Bool). cond b up.held (up.held ++ p ∷ [])) h)) (holds-again w.gate.streams ep up.row.max_packet up.held up.held holds))
-    fill-does false h = does-fill m taken ep up.row.max_packet w.gate.live (up.held ++ p ∷ []) (who w.gate.imported refl) refl (differ-of w.gate sound)
+    fill-does false h = does-fill m taken ep up.row.max_packet w.gate.live (up.held ++ p ∷ []) (who w.gate.sides.imported refl) refl (differ-of w.gate sound)
         (subst (λ (ps : List StreamPacket). Holds (hold ep ps w.gate.streams) ep up.row.max_packet (up.held ++ p ∷ [])) (sym (ap (λ (b : Bool). cond b up.held (up.held ++ p ∷ [])) h)) (holds-again w.gate.streams ep up.row.max_packet up.held (up.held ++ p ∷ []) holds))
 
     not-some : None ≡ Some up → ⊥

@@ -53,7 +53,7 @@ in-front : {A : Type 0} (b : Bool) (x y : A) → b ≡ true → cond b x y ≡ x
 in-front b x y h = ap (λ (c : Bool). cond c x y) h
 
 abbrev pub arrival : State → ℕ → StreamKind → ℕ → StreamPacket → Mark
-arrival st place k ep p = mark_as st (meaning st (Told place (sent_header st.agreed (on_wire (Packed k ep p))) (on_wire (Packed k ep p)).1)) (fact_of (on_wire (Packed k ep p)).1)
+arrival st place k ep p = mark_as st (meaning st (Told place (sent_header st.sides.agreed (on_wire (Packed k ep p))) (on_wire (Packed k ep p)).1)) (fact_of (on_wire (Packed k ep p)).1)
 
 pub arrival-means : (st : State) (place : ℕ) (k : StreamKind) (ep : ℕ) (p : StreamPacket) → 128 ≤ ep → IsNamed p.status → arrival st place k ep p ≡ mark_as st (arrives st ep k p (stream_of st.streams ep)) None
 arrival-means st place Iso ep p h n =

@@ -55,7 +55,7 @@ pub record MayRead {S : Type 0} (w : World S) (fenced : Bool) (b : Tagged) (bs :
   pub open packet use *
   pub rows : SameRows w.gate.streams ups
   pub fits : UpsFit ups
-  pub down : w.gate.imported ≡ false → ups ≡ no_streams
+  pub down : w.gate.sides.imported ≡ false → ups ≡ no_streams
   pub owes : debts_of (map (λ (p : Pending). p.submit) live) ≡ debts_of (submits w.gate)
   pub no_fence : w.gate.fence ≡ None → fence ≡ None
   pub fenced-is : Fenced fence fenced w.to_host bs
@@ -63,13 +63,13 @@ pub record MayRead {S : Type 0} (w : World S) (fenced : Bool) (b : Tagged) (bs :
   pub ends_same : Each (λ c. ends w.gate.fence c ≡ ends fence c) bs
 
 module _ {S : Type 0} (m : Meaning S) (w : World S) (j : Shared) (b : Tagged) (bs : List Tagged) (rel : Related m w (record j { back = b ∷ bs })) where
-  pub read-here : w.gate.lost ≡ false
-  read-here = go w.gate.lost refl
+  pub read-here : w.gate.sides.lost ≡ false
+  read-here = go w.gate.sides.lost refl
     where
       none : b ∷ bs ≡ [] → ⊥
       none e = cc
 
-      go : (x : Bool) → w.gate.lost ≡ x → x ≡ false
+      go : (x : Bool) → w.gate.sides.lost ≡ x → x ≡ false
       go true h = absurd (none (rel.lost h).0)
       go false h = refl
 
@@ -113,7 +113,7 @@ module _ {S : Type 0} (m : Meaning S) (w : World S) (j : Shared) (b : Tagged) (b
     };
     ups = may.fits;
     down = may.down;
-    lost = λ h. absurd (both_ways w.gate.lost read-here h);
+    lost = λ h. absurd (both_ways w.gate.sides.lost read-here h);
     sides = rel.sides;
     farewell = farewell-read w.host b bs rel.farewell;
   }

@@ -29,7 +29,7 @@ use Rattle.direct_proof.proofs.streams.reads.Reading.{read_world, read-here, rea
 use Rattle.direct_proof.proofs.streams.reads.Quiet.{stated-made}
 
 stated-means : (st : State) (place : ℕ) (k : StreamKind) (id ep : ℕ) →
-    mark_as st (meaning st (Told place (sent_header st.agreed (on_wire (Stated k id ep 0))) (on_wire (Stated k id ep 0)).1)) (fact_of (on_wire (Stated k id ep 0)).1) ≡ mark_as st (StreamTold id ep Success) None
+    mark_as st (meaning st (Told place (sent_header st.sides.agreed (on_wire (Stated k id ep 0))) (on_wire (Stated k id ep 0)).1)) (fact_of (on_wire (Stated k id ep 0)).1) ≡ mark_as st (StreamTold id ep Success) None
 stated-means st place Iso id ep = refl
 stated-means st place Interrupt id ep = refl
 
@@ -100,7 +100,7 @@ keep-stated {S = S} m w j place k id ep status bs rel0 =
         }))
         (λ i. record (view w (record j { back = bs })) { way = λ e. way-past (stream_of w.gate.streams e) e k id ep 0 bs i })
       where
-        here : w.gate.lost ≡ false
+        here : w.gate.sides.lost ≡ false
         here = read-here m w j (Stated k id ep 0) bs rel
 
         l : Lifts id w.gate.fence j.fenced w.to_host bs

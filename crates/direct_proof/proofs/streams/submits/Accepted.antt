@@ -24,7 +24,7 @@ use Rattle.direct_proof.proofs.streams.submits.Waits.{waiter, with_waiter}
 pub record IsGate (st : State) : Type 0 where
   pub sound : IsSound st
   pub long : AreLong st.stream_ids
-  pub fresh : AreFresh (greatest (wide_ids st.agreed)) (flying st) (next_ids st 1)
+  pub fresh : AreFresh (greatest (wide_ids st.sides.agreed)) (flying st) (next_ids st 1)
 
 -- the id that is drawn is that of no start or stop
 pub id-free : (st : State) → IsGate st → holds (ids_of_streams st.stream_ids) (next_id st) ≡ false

@@ -41,7 +41,7 @@ none-runs ep (s ∷ rs) h = let p = or_parts (s.ep == ep) (list_any (runs_at ep)
 
 -- ---- a stream that is up stays up, and nothing is sent
 
-pub after-kept : {S : Type 0} (m : Meaning S) (w : World S) (j : Shared) → Related m w j → w.gate.lost ≡ false → Session m w j → AfterWait m w j w.to_host w.gate.stream_ids w.gate.streams
+pub after-kept : {S : Type 0} (m : Meaning S) (w : World S) (j : Shared) → Related m w j → w.gate.sides.lost ≡ false → Session m w j → AfterWait m w j w.to_host w.gate.stream_ids w.gate.streams
 after-kept m w j rel there s = record {
   tagged = rel.tagged;
   streams_in = rel.line.streams_in;

@@ -21,7 +21,7 @@ use Rattle.direct_proof.proofs.streams.wires.Pending.{asked-pending, coming-chan
 use Rattle.direct_proof.proofs.streams.wires.Sorts.{line_changes}
 
 pub record IsStill {S : Type 0} (m : Meaning S) (w : World S) (j : Shared) : Type 0 where
-  pub there : w.gate.lost ≡ false
+  pub there : w.gate.sides.lost ≡ false
   pub no_fence : w.gate.fence ≡ None
   pub known : is_announced w j ≡ true
   pub session : Session m w j
@@ -36,7 +36,7 @@ none-changes : (es : List Entry) → Each (λ (e : Entry). is_change e ≡ false
 none-changes [] h = refl
 none-changes (e ∷ es) h = λ i. h.0 i || none-changes es h.1 i
 
-pub is-still : {S : Type 0} (m : Meaning S) (w : World S) (j : Shared) → Related m w j → w.gate.imported ≡ true → w.gate.lost ≡ false → change_waits w.gate ≡ false → IsStill m w j
+pub is-still : {S : Type 0} (m : Meaning S) (w : World S) (j : Shared) → Related m w j → w.gate.sides.imported ≡ true → w.gate.sides.lost ≡ false → change_waits w.gate ≡ false → IsStill m w j
 is-still {S = S} m w j rel imported there calm = record {
   there = there;
   no_fence = no_fence;

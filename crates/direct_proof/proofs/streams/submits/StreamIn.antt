@@ -72,7 +72,7 @@ in-of ep n same low = record { low = omega (arith, same); high = high (subst (λ
     high : ep - 112 < 32 → ep < 144
     high h = omega (arith, h, same)
 
-pub stream-in : {S : Type 0} (m : Meaning S) (w : World S) (j : Shared) (s : UrbSubmit) (row : EpRow) → Related m w j → w.gate.imported ≡ true → verdict_of w.gate (request_of s) ≡ Stream row → IsIn (request_of s).transfer.ep
+pub stream-in : {S : Type 0} (m : Meaning S) (w : World S) (j : Shared) (s : UrbSubmit) (row : EpRow) → Related m w j → w.gate.sides.imported ≡ true → verdict_of w.gate (request_of s) ≡ Stream row → IsIn (request_of s).transfer.ep
 stream-in {S = S} m w j s row rel imported v =
     in-of (request_of s).transfer.ep s.head.ep (in-address s f.reads f.plain) (past-table w.gate.facts.table (request_of s).transfer.ep row (ap (λ (t : EpTable). length t.rows) (still.table ∙ still.session.table) ∙ rows-long (ep_info_of both_caps (m.table w.host.gadget)) 32) f.row-is f.kind_is)
   where
@@ -83,6 +83,6 @@ stream-in {S = S} m w j s row rel imported v =
     still = is-still m w j rel imported f.here f.calm
 
 -- a submit that waits for a stream, with no premise on its bytes
-pub keep-stream-submit : {S : Type 0} (m : Meaning S) (w : World S) (j : Shared) (place : ℕ) (s : UrbSubmit) (row : EpRow) → Related m w j → IsGate w.gate → w.gate.imported ≡ true → w.gate.client_over ≡ false → has_number w.gate s.head.seqnum ≡ false → verdict_of w.gate (request_of s) ≡ Stream row →
+pub keep-stream-submit : {S : Type 0} (m : Meaning S) (w : World S) (j : Shared) (place : ℕ) (s : UrbSubmit) (row : EpRow) → Related m w j → IsGate w.gate → w.gate.sides.imported ≡ true → w.gate.sides.client_over ≡ false → has_number w.gate s.head.seqnum ≡ false → verdict_of w.gate (request_of s) ≡ Stream row →
     Keeps m w j (move as_deeds m w (ByClient (Asked place (Urb (urb.Submit s)))))
 keep-stream-submit m w j place s row rel gate imported present new v = keep-waits m w j place s row rel gate imported present new v (stream-in m w j s row rel imported v)

@@ -88,7 +88,7 @@ debts-waiter st r row (p ∷ ps) =
 
 -- ---- all together
 
-pub waits-related : {S : Type 0} (m : Meaning S) (w : World S) (j : Shared) (r : Request) (row : EpRow) → Related m w j → w.gate.imported ≡ true → w.gate.lost ≡ false → AfterWait m w j (waits_world w r row).to_host (waits_world w r row).gate.stream_ids (waits_world w r row).gate.streams → Related m (waits_world w r row) j
+pub waits-related : {S : Type 0} (m : Meaning S) (w : World S) (j : Shared) (r : Request) (row : EpRow) → Related m w j → w.gate.sides.imported ≡ true → w.gate.sides.lost ≡ false → AfterWait m w j (waits_world w r row).to_host (waits_world w r row).gate.stream_ids (waits_world w r row).gate.streams → Related m (waits_world w r row) j
 waits-related {S = S} m w j r row rel imported there a = record {
   line = record {
     held = rel.line.held;
@@ -113,8 +113,8 @@ waits-related {S = S} m w j r row rel imported there a = record {
   alone = rel.alone;
   session = λ h k. a.session;
   ups = a.fits;
-  down = λ h. absurd (both_ways w.gate.imported h imported);
-  lost = λ h. absurd (both_ways w.gate.lost there h);
+  down = λ h. absurd (both_ways w.gate.sides.imported h imported);
+  lost = λ h. absurd (both_ways w.gate.sides.lost there h);
   sides = rel.sides;
   farewell = rel.farewell;
 }

@@ -68,7 +68,7 @@ waiting-with st r row =
     ∙ sym (map-append (λ (p : Pending). p.submit.request) (filter (λ (p : Pending). waits_at r.transfer.ep p.submit) st.live) (filter (λ (p : Pending). waits_at r.transfer.ep p.submit) (fresh (waiter st r row) ∷ [])))
     ∙ ap (map (λ (p : Pending). p.submit.request)) (sym (filter-append (λ (p : Pending). waits_at r.transfer.ep p.submit) st.live (fresh (waiter st r row) ∷ [])))
 
-pub waits-means : (st : State) (place : ℕ) (s : UrbSubmit) (first row : EpRow) → st.imported ≡ true → has_number st s.head.seqnum ≡ false → verdict_of st (request_of s) ≡ Stream first →
+pub waits-means : (st : State) (place : ℕ) (s : UrbSubmit) (first row : EpRow) → st.sides.imported ≡ true → has_number st s.head.seqnum ≡ false → verdict_of st (request_of s) ≡ Stream first →
     by_stream (stream_at st.streams (request_of s).transfer.ep) (Stream first) ≡ Stream row →
     meaning st (Asked place (Urb (urb.Submit s))) ≡ Waits (waiter st (request_of s) row) (fill_for st (request_of s) row)
 waits-means st place s first row imported new v kept =

@@ -56,7 +56,7 @@ use Rattle.direct_proof.proofs.streams.submits.RaisedKinds.{up-here}
 use Rattle.direct_proof.proofs.streams.submits.RaisedLists.{after-kept}
 use Rattle.direct_proof.proofs.streams.submits.Accepted.{IsGate, id-free, differ-more}
 
-module _ {S : Type 0} (m : Meaning S) (w : World S) (j : Shared) (place : ℕ) (s : UrbSubmit) (first : EpRow) (rel : Related m w j) (gate : IsGate w.gate) (imported : w.gate.imported ≡ true) (present : w.gate.client_over ≡ false)
+module _ {S : Type 0} (m : Meaning S) (w : World S) (j : Shared) (place : ℕ) (s : UrbSubmit) (first : EpRow) (rel : Related m w j) (gate : IsGate w.gate) (imported : w.gate.sides.imported ≡ true) (present : w.gate.sides.client_over ≡ false)
     (new : has_number w.gate s.head.seqnum ≡ false) (v : verdict_of w.gate (request_of s) ≡ Stream first) (at : IsIn (request_of s).transfer.ep) where
   abbrev r : Request
   r = request_of s
@@ -79,7 +79,7 @@ module _ {S : Type 0} (m : Meaning S) (w : World S) (j : Shared) (place : ℕ) (
   new-live : list_any (λ (l : Live). is_number r.seqnum l.load) d.live ≡ false
   new-live = list_any-map (λ (l : Live). is_number r.seqnum l.load) live_of w.gate.live ∙ sym (list_any-map (has_seq r.seqnum) (λ (p : Pending). p.submit) w.gate.live) ∙ new
 
-  wide : true ≡ wide_bulk w.gate.agreed
+  wide : true ≡ wide_bulk w.gate.sides.agreed
   wide = sym (ap wide_bulk (rel.meets.gate (rel.meets.behind (rel.meets.no_session imported facts.here)).0))
 
   made : (row : EpRow) → by_stream (stream_at w.gate.streams ep) (Stream first) ≡ Stream row → made_of m d r ≡ Stream row

@@ -69,8 +69,8 @@ module _ (st : State) (e : Effect) (over : is_quiet e ≡ false) (gone : leaves 
       ap length (leaving-dropped st e gone) ∙ length-map (present st e) (λ (p : Pending). p.submit)
       ∙ ap length (ap (λ (ss : List Submission). st.live ++ map fresh ss) o.opens ∙ append-nil st.live)
 
-  no-word : acknowledgements st.agreed e ≡ []
-  no-word = (keeps-host st.agreed e keeps).0
+  no-word : acknowledgements st.sides.agreed e ≡ []
+  no-word = (keeps-host st.sides.agreed e keeps).0
 
   left-notes : answer_notes st e ≡ []
   left-notes = leaving-noted st e gone
@@ -80,22 +80,24 @@ module _ (st : State) (e : Effect) (over : is_quiet e ≡ false) (gone : leaves 
 
   -- what is kept, sent and told
   pub does-leave : (c : SentIds) (old new : Kept) (out : Outputs) (host_new : List ℕ) (notes_new : List Note) → Holds old st → old.answered ≤ 2 ^ 64 - 1 → old.unlinked ≤ 2 ^ 64 - 1 → HasParted st e c →
-      new ≡ record (left_by c old) { client_over = turned refuses_client ends_client e old.client_over } →
-      host_new ≡ out.to_host ++ (flat_map (cancel_bytes old.caps) old.lives.live ++ flat_map (sent_packet_bytes old.caps) (zip (drawn_by st e) (asked_packets st.streams e))) →
-      notes_new ≡ out.notes ++ (when (not old.client_over) note.ClientGone ++ refusal_notes (refused_at e)) →
+      new ≡ record (left_by c old) { sides = record old.sides { imported = false; client_over = turned refuses_client ends_client e old.sides.client_over } } →
+      host_new ≡ out.to_host ++ (flat_map (cancel_bytes old.sides.agreed) old.lives.live ++ flat_map (sent_packet_bytes old.sides.agreed) (zip (drawn_by st e) (asked_packets st.streams e))) →
+      notes_new ≡ out.notes ++ (when (not old.sides.client_over) note.ClientGone ++ refusal_notes (refused_at e)) →
       Does st (mark_as st e None) old new out (record out { to_host = host_new; notes = notes_new })
   does-leave c old new out host_new notes_new h answered_fits unlinked_fits parted is host notes =
       let asking : List (ℕ × RedirPacket) = zip (drawn_by st e) (asked_packets st.streams e) in
-      let lost = keeps-host st.agreed e keeps in
+      let lost = keeps-host st.sides.agreed e keeps in
       let abandoned : List Live = old.lives.abandoned ++ filter is_answered_by_id old.lives.live in
       does-step st (mark_as st e None) old new [] abandoned out (record out { to_host = host_new; notes = notes_new }) h
       (is ∙ (λ i. record (left_by c old) {
         facts = cond (sym keeps i) no_facts old.facts;
-        caps = sym (o.no_caps old.caps) i;
-        imported = cond (sym o.no_import i) true (cond (sym gone i) false old.imported);
-        lost = cond (sym keeps i) true (cond (sym o.no_import i) false old.lost);
-        client_over = turned refuses_client ends_client e old.client_over;
-        host_over = cond (sym lost.1 i) true old.host_over;
+        sides = record {
+          agreed = sym (o.no_caps old.sides.agreed) i;
+          imported = cond (sym o.no_import i) true (cond (sym gone i) false old.sides.imported);
+          lost = cond (sym keeps i) true (cond (sym o.no_import i) false old.sides.lost);
+          client_over = turned refuses_client ends_client e old.sides.client_over;
+          host_over = cond (sym lost.1 i) true old.sides.host_over;
+        };
         streams = cond (sym gone i || is_loss e) no_streams (moved_streams e old.streams);
         stream_ids = (parted.stream_ids ∙ ap (stream_ids_after asking) (sym h.stream_ids)) i;
         fence = (parted.fence ∙ (λ j. cond (sym gone j) (last_or (sym h.fence j) (drawn_by st e)) (cond (is_loss e) None (moved_fence e (sym h.fence j))))) i;
@@ -112,8 +114,8 @@ module _ (st : State) (e : Effect) (over : is_quiet e ≡ false) (gone : leaves 
       ∙ ap (λ (b : Bool). map left_row (cond b (st.abandoned ++ filter (λ s. goes_by_id s.verdict) (submits st)) (cond (is_loss e) [] (filter (λ s. not (is_answered e s)) st.abandoned)))) (sym gone))
       (sym (append-nil out.to_client) ∙ ap (λ (ps : List ClientPacket). out.to_client ++ flat_map client_spelling ps) (sym left-answers))
       (host ∙ ap (λ (bs : List ℕ). out.to_host ++ bs)
-      ((λ i. flat_map (cancel_bytes (h.caps i)) (h.live i) ++ flat_map (sent_packet_bytes (h.caps i)) asking) ∙ ap (λ (bs : List ℕ). bs ++ flat_map (sent_packet_bytes st.agreed) asking) (cancel-rows st.agreed (cancels e) (leaving-cancels st e over gone) st.live)
-      ∙ sym (flat_map-append (sent_packet_bytes st.agreed) (map cancel (filter (cancels e) st.live)) asking)
-      ∙ ap (flat_map (sent_packet_bytes st.agreed)) (sym (append-nil (map cancel (filter (cancels e) st.live) ++ asking)) ∙ (λ i. (map cancel (filter (cancels e) st.live) ++ asking) ++ sym no-word i))))
+      ((λ i. flat_map (cancel_bytes (h.sides i).agreed) (h.live i) ++ flat_map (sent_packet_bytes (h.sides i).agreed) asking) ∙ ap (λ (bs : List ℕ). bs ++ flat_map (sent_packet_bytes st.sides.agreed) asking) (cancel-rows st.sides.agreed (cancels e) (leaving-cancels st e over gone) st.live)
+      ∙ sym (flat_map-append (sent_packet_bytes st.sides.agreed) (map cancel (filter (cancels e) st.live)) asking)
+      ∙ ap (flat_map (sent_packet_bytes st.sides.agreed)) (sym (append-nil (map cancel (filter (cancels e) st.live) ++ asking)) ∙ (λ i. (map cancel (filter (cancels e) st.live) ++ asking) ++ sym no-word i))))
       (notes ∙ ap (λ (ns : List Note). out.notes ++ ns)
-      (λ i. (((sym o.no_notes i ++ sym left-notes i) ++ when ((sym keeps i && st.imported) && not st.lost) note.DeviceGone) ++ when (sym gone i && not (h.client_over i)) note.ClientGone) ++ refusal_notes (refused_at e)))
+      (λ i. (((sym o.no_notes i ++ sym left-notes i) ++ when ((sym keeps i && st.sides.imported) && not st.sides.lost) note.DeviceGone) ++ when (sym gone i && not (h.sides i).client_over) note.ClientGone) ++ refusal_notes (refused_at e)))

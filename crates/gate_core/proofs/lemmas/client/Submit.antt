@@ -71,7 +71,7 @@ module _ (st : State) (s : Submission) (placed : s.place ≡ st.items) (sound : 
         answered = capped (old.answered + length (filter is_ret_submit (map Urb (answers_at s None (at_once s.verdict)))));
       } →
       out_new.to_client ≡ out_old.to_client ++ flat_map client_spelling (map Urb (answers_at s None (at_once s.verdict))) →
-      out_new.to_host ≡ out_old.to_host ++ flat_map (sent_packet_bytes old.caps) (zip (drawn_for st s.request s.verdict) (packets_of st.streams s.verdict s.request)) →
+      out_new.to_host ≡ out_old.to_host ++ flat_map (sent_packet_bytes old.sides.agreed) (zip (drawn_for st s.request s.verdict) (packets_of st.streams s.verdict s.request)) →
       out_new.notes ≡ out_old.notes ++ note.Submitted s.request.seqnum s.id ∷ [] →
       Does st (mark_as st (Opens s) None) old new out_old out_new
   does-open old new more out_old out_new h unlinked_fits dropped_fits kept by_answer by_client none_won is client host notes =
@@ -84,5 +84,5 @@ module _ (st : State) (s : Submission) (placed : s.place ≡ st.items) (sound : 
       (ap (λ (ps : List ClientPacket). length (filter is_ret_submit ps)) (sym sent)) (ap length (sym none_won) ∙ ap (λ (ps : List ClientPacket). length (filter is_won_unlink ps)) (sym sent))
       (opening-dropped st s others own by_client)
       (client ∙ ap (λ (ps : List ClientPacket). out_old.to_client ++ flat_map client_spelling ps) (sym sent))
-      (host ∙ (λ i. out_old.to_host ++ flat_map (sent_packet_bytes (h.caps i)) (sym (none-cancelled e stays-uncancelled st.live) i ++ zip (drawn_for st s.request s.verdict) (packets_of st.streams s.verdict s.request))))
+      (host ∙ (λ i. out_old.to_host ++ flat_map (sent_packet_bytes (h.sides i).agreed) (sym (none-cancelled e stays-uncancelled st.live) i ++ zip (drawn_for st s.request s.verdict) (packets_of st.streams s.verdict s.request))))
       (notes ∙ ap (λ (ns : List Note). out_old.notes ++ note.Submitted s.request.seqnum s.id ∷ ns) (sym (opening-noted st s others own by_answer)))

@@ -99,10 +99,10 @@ one-numbered t st target h sound =
 -- ---- what is done
 
 pub does-unlink : (st : State) (by target : ℕ) (told : Option AskedBack) (old new : Kept) (out_old out_new : Outputs) → Holds old st → IsSound st →
-    old.answered ≤ 2 ^ 64 - 1 → old.dropped ≤ 2 ^ 64 - 1 → Told old.caps target by old.lives.live told →
+    old.answered ≤ 2 ^ 64 - 1 → old.dropped ≤ 2 ^ 64 - 1 → Told old.sides.agreed target by old.lives.live told →
     new ≡ record old { lives = record { live = left_as target by told old.lives.live; abandoned = old.lives.abandoned }; unlinked = capped (old.unlinked + taken_count told) } →
     out_new.to_client ≡ out_old.to_client ++ (cond (is_late told) (spelling (ret_unlink by (pos 0))) [] ++ taken_bytes by told) →
-    out_new.to_host ≡ out_old.to_host ++ asked_bytes old.caps told →
+    out_new.to_host ≡ out_old.to_host ++ asked_bytes old.sides.agreed told →
     out_new.notes ≡ out_old.notes ++ note.UnlinkAsked by target ∷ [] →
     Does st (mark_as st (Unlinks by target) None) old new out_old out_new
 does-unlink st by target told old new out_old out_new h sound answered_fits dropped_fits t is client host notes =
@@ -119,8 +119,8 @@ does-unlink st by target told old new out_old out_new h sound answered_fits drop
       answered = capped-same old.answered answered_fits i;
       unlinked = capped (old.unlinked + taken_count told);
     }))
-    (client ∙ (λ i. out_old.to_client ++ (reply (is_late told) found (sym (found-rows old.caps by target st.live (all-going st sound)) ∙ ap (list_any (is_found_row old.caps target by)) (sym h.live) ∙ t.late) i ++ t.back i)))
-    (host ∙ ap (λ (bs : List ℕ). out_old.to_host ++ bs) (t.bytes ∙ (λ i. flat_map (cancel_row (h.caps i) target) (h.live i)) ∙ cancelled-rows st.agreed by target st.live))
+    (client ∙ (λ i. out_old.to_client ++ (reply (is_late told) found (sym (found-rows old.sides.agreed by target st.live (all-going st sound)) ∙ ap (list_any (is_found_row old.sides.agreed target by)) (sym h.live) ∙ t.late) i ++ t.back i)))
+    (host ∙ ap (λ (bs : List ℕ). out_old.to_host ++ bs) (t.bytes ∙ (λ i. flat_map (cancel_row (h.sides i).agreed target) (h.live i)) ∙ cancelled-rows st.sides.agreed by target st.live))
     notes
   where
     reply : (late found : Bool) → found ≡ not late → cond late (spelling (ret_unlink by (pos 0))) [] ≡ flat_map client_spelling (cond found [] (Urb (ret_unlink by (pos 0)) ∷ []))

@@ -171,7 +171,7 @@ pub does-start : (st : State) (sound : IsSound st) (r : Request) (told : EpRow) 
     } →
     stream_ids_new ≡ stream_ids_after (zip (next_ids st (length (starts (stream_at st.streams r.transfer.ep) r.transfer.ep told))) (starts (stream_at st.streams r.transfer.ep) r.transfer.ep told)) old.stream_ids →
     last_new ≡ last_of old.last (next_ids st (length (starts (stream_at st.streams r.transfer.ep) r.transfer.ep told))) →
-    host_new ≡ out.to_host ++ flat_map (sent_packet_bytes st.agreed) (zip (next_ids st (length (starts (stream_at st.streams r.transfer.ep) r.transfer.ep told))) (starts (stream_at st.streams r.transfer.ep) r.transfer.ep told)) →
+    host_new ≡ out.to_host ++ flat_map (sent_packet_bytes st.sides.agreed) (zip (next_ids st (length (starts (stream_at st.streams r.transfer.ep) r.transfer.ep told))) (starts (stream_at st.streams r.transfer.ep) r.transfer.ep told)) →
     notes_new ≡ out.notes ++ note.Submitted r.seqnum 0 ∷ [] →
     Does st (mark_as st (accepts st r (Stream told)) None) old new out (record out { to_host = host_new; notes = notes_new })
 does-start st sound r told old new stream_ids_new last_new out host_new notes_new h k free at is stream_ids-is last-is host notes =

@@ -186,9 +186,9 @@ module _ (st : State) (id : ℕ) (sound : IsSound st) where
 
   -- where one is live nothing is abandoned
   pub left-alone : (p : Pending) → find (pending_has_id id) st.live ≡ Some p → st.abandoned ≡ []
-  left-alone p e = of st.imported refl
+  left-alone p e = of st.sides.imported refl
     where
-      of : (b : Bool) → st.imported ≡ b → st.abandoned ≡ []
+      of : (b : Bool) → st.sides.imported ≡ b → st.abandoned ≡ []
       of true h = sound.apart h
       of false h = absurd (false≢true (ap is_none (sym e ∙ ap (find (pending_has_id id)) (sound.gone h))))
 
@@ -220,8 +220,8 @@ module _ (st : State) (id : ℕ) (o : Outcome) where
       (live_is ∙ ap (map row) (sym (answer-left st id o))) left_is
       (ap (λ (ps : List ClientPacket). length (filter is_ret_submit ps)) sends) (ap (λ (ps : List ClientPacket). length (filter is_won_unlink ps)) sends) (answer-dropped st id o)
       (ap (λ (x : Outputs). x.to_client) gives ∙ ap (λ (ps : List ClientPacket). out.to_client ++ flat_map client_spelling ps) sends)
-      (ap (λ (x : Outputs). x.to_host) gives ∙ host-same st.agreed (Answers id o) out.to_host st.live stays-uncancelled
-      ∙ ap (λ (ps : List (ℕ × RedirPacket)). out.to_host ++ flat_map (sent_packet_bytes st.agreed) ps) (sym (append-nil (map cancel (filter (cancels (Answers id o)) st.live)))))
+      (ap (λ (x : Outputs). x.to_host) gives ∙ host-same st.sides.agreed (Answers id o) out.to_host st.live stays-uncancelled
+      ∙ ap (λ (ps : List (ℕ × RedirPacket)). out.to_host ++ flat_map (sent_packet_bytes st.sides.agreed) ps) (sym (append-nil (map cancel (filter (cancels (Answers id o)) st.live)))))
       (ap (λ (x : Outputs). x.notes) gives ∙ ap (λ (ns : List Note). out.notes ++ ns) tells)
 
 -- ---- the answer of the one that waits
@@ -312,31 +312,31 @@ module _ (st : State) (id : ℕ) (response : Response) (sound : IsSound st) wher
 -- ---- what is wrong of an answer
 
 abbrev wrong_of : State → ℕ → Header → Response → Submission → Option Refusal
-wrong_of st at h response s = mismatch at (head_size (wide_ids st.agreed)) (expected_of s) h.kind response
+wrong_of st at h response s = mismatch at (head_size (wide_ids st.sides.agreed)) (expected_of s) h.kind response
 
 -- by the row of the request that waits for it, and by its submit
 found-wrong : (old : Kept) (st : State) (at place : ℕ) (h : Header) (response : Response) → Holds old st → place ≡ capped at → ResponseFits h.kind (Some response) →
-    option_and_then (λ l. mismatch place (head_size (wide_ids old.caps)) (expected_by l) h.kind response) (option_or (find (has_row_id h.id) old.lives.live) (find (has_row_id h.id) old.lives.abandoned))
+    option_and_then (λ l. mismatch place (head_size (wide_ids old.sides.agreed)) (expected_by l) h.kind response) (option_or (find (has_row_id h.id) old.lives.live) (find (has_row_id h.id) old.lives.abandoned))
     ≡ option_and_then (wrong_of st at h response) (find (has_id h.id) (submits st ++ st.abandoned))
 found-wrong old st at place h response holds is fits =
-    (λ i. option_and_then (λ l. mismatch (is i) (head_size (wide_ids (holds.caps i))) (expected_by l) h.kind response) (option_or ((ap (find (has_row_id h.id)) holds.live ∙ find-rows h.id st.live) i) (find (has_row_id h.id) old.lives.abandoned)))
+    (λ i. option_and_then (λ l. mismatch (is i) (head_size (wide_ids (holds.sides i).agreed)) (expected_by l) h.kind response) (option_or ((ap (find (has_row_id h.id)) holds.live ∙ find-rows h.id st.live) i) (find (has_row_id h.id) old.lives.abandoned)))
     ∙ of (find (pending_has_id h.id) st.live) (find (has_row_id h.id) old.lives.abandoned) (find (has_id h.id) st.abandoned)
     (find-unmarked h.id old.lives.abandoned ∙ ap (find (has_row_id h.id)) holds.abandoned ∙ find-left h.id st.abandoned)
     ∙ ap (option_and_then (wrong_of st at h response)) (ap (λ (o : Option Submission). option_or o (find (has_id h.id) st.abandoned)) (sym (find-map (has_id h.id) (λ (p : Pending). p.submit) st.live)) ∙ sym (find-append (has_id h.id) (submits st) st.abandoned))
   where
-    one : (s : Submission) (by : Option ℕ) → mismatch (capped at) (head_size (wide_ids st.agreed)) (expected_by (row_of s by)) h.kind response ≡ wrong_of st at h response s
-    one s by = row-mismatch (capped at) (head_size (wide_ids st.agreed)) s by h.kind response fits ∙ mismatch-capped at (head_size (wide_ids st.agreed)) s h.kind response
+    one : (s : Submission) (by : Option ℕ) → mismatch (capped at) (head_size (wide_ids st.sides.agreed)) (expected_by (row_of s by)) h.kind response ≡ wrong_of st at h response s
+    one s by = row-mismatch (capped at) (head_size (wide_ids st.sides.agreed)) s by h.kind response fits ∙ mismatch-capped at (head_size (wide_ids st.sides.agreed)) s h.kind response
 
     -- of abandoned ones, whose unlinkers don't matter
     left : (r : Option Live) (a : Option Submission) → option_map unmarked r ≡ option_map left_row a →
-        option_and_then (λ l. mismatch (capped at) (head_size (wide_ids st.agreed)) (expected_by l) h.kind response) r ≡ option_and_then (wrong_of st at h response) a
+        option_and_then (λ l. mismatch (capped at) (head_size (wide_ids st.sides.agreed)) (expected_by l) h.kind response) r ≡ option_and_then (wrong_of st at h response) a
     left None None e = refl
-    left (Some l) (Some s) e = ap (λ (o : Option Live). option_and_then (λ l. mismatch (capped at) (head_size (wide_ids st.agreed)) (expected_by l) h.kind response) o) e ∙ one s None
+    left (Some l) (Some s) e = ap (λ (o : Option Live). option_and_then (λ l. mismatch (capped at) (head_size (wide_ids st.sides.agreed)) (expected_by l) h.kind response) o) e ∙ one s None
     left None (Some s) e = absurd (false≢true (sym (ap is_none e)))
     left (Some l) None e = absurd (false≢true (ap is_none e))
 
     of : (p : Option Pending) (r : Option Live) (a : Option Submission) → option_map unmarked r ≡ option_map left_row a →
-        option_and_then (λ l. mismatch (capped at) (head_size (wide_ids st.agreed)) (expected_by l) h.kind response) (option_or (option_map row p) r)
+        option_and_then (λ l. mismatch (capped at) (head_size (wide_ids st.sides.agreed)) (expected_by l) h.kind response) (option_or (option_map row p) r)
         ≡ option_and_then (wrong_of st at h response) (option_or (option_map (λ (q : Pending). q.submit) p) a)
     of (Some p) r a e = one p.submit p.unlinker
     of None r a e = left r a e
@@ -352,15 +352,15 @@ is-completed st at h response (Some s) e = ap (answered_as h.id (told_outcome s.
 -- by the row that is found
 wrong-at : (old : Kept) (st : State) (at place : ℕ) (h : Header) (response : Response) (l : Live) → Holds old st → place ≡ capped at → ResponseFits h.kind (Some response) →
     find (has_row_id h.id) (in_flight old.lives) ≡ Some l →
-    mismatch place (head_size (wide_ids old.caps)) (expected_by l) h.kind response ≡ option_and_then (wrong_of st at h response) (find (has_id h.id) (submits st ++ st.abandoned))
+    mismatch place (head_size (wide_ids old.sides.agreed)) (expected_by l) h.kind response ≡ option_and_then (wrong_of st at h response) (find (has_id h.id) (submits st ++ st.abandoned))
 wrong-at old st at place h response l holds is fits found =
-    ap (option_and_then (λ k. mismatch place (head_size (wide_ids old.caps)) (expected_by k) h.kind response)) (sym found ∙ find-append (has_row_id h.id) old.lives.live old.lives.abandoned)
+    ap (option_and_then (λ k. mismatch place (head_size (wide_ids old.sides.agreed)) (expected_by k) h.kind response)) (sym found ∙ find-append (has_row_id h.id) old.lives.live old.lives.abandoned)
     ∙ found-wrong old st at place h response holds is fits
 
 -- by the place of the request in flight, of which this is found to be wrong
 module _ (old : Kept) (st : State) (at place i : ℕ) (h : Header) (response : Response) (found : Option Refusal) (holds : Holds old st) (is : place ≡ capped at) (fits : ResponseFits h.kind (Some response))
     (there : position (has_row_id h.id) (in_flight old.lives) ≡ Some i)
-    (value : (l : Live) → slice_get (in_flight old.lives) i ≡ Some l → found ≡ mismatch place (head_size (wide_ids old.caps)) (expected_by l) h.kind response) where
+    (value : (l : Live) → slice_get (in_flight old.lives) i ≡ Some l → found ≡ mismatch place (head_size (wide_ids old.sides.agreed)) (expected_by l) h.kind response) where
   judged : option_and_then (wrong_of st at h response) (find (has_id h.id) (submits st ++ st.abandoned)) ≡ found
   judged = let one = is-there (has_row_id h.id) old.lives i there in sym (wrong-at old st at place h response one.live holds is fits one.found) ∙ sym (value one.live one.at)
 
@@ -405,7 +405,7 @@ closing r = elim (not (is_client r.side)) as (λ b. cond b true false ≡ b) [ t
 
 answer-closes : (st : State) (at : ℕ) (h : Header) (response : Response) (o : Option Submission) → turned closes_host (λ e. false) (answer_to st at h response o) false ≡ is_loss (answer_to st at h response o)
 answer-closes st at h response None = refl
-answer-closes st at h response (Some s) = of (mismatch at (head_size (wide_ids st.agreed)) (expected_of s) h.kind response)
+answer-closes st at h response (Some s) = of (mismatch at (head_size (wide_ids st.sides.agreed)) (expected_of s) h.kind response)
   where
     of : (r : Option Refusal) → turned closes_host (λ e. false) (answered_as h.id (told_outcome s.request s.verdict response) r) false ≡ is_loss (answered_as h.id (told_outcome s.request s.verdict response) r)
     of None = refl
@@ -415,18 +415,14 @@ response-closes : (st : State) (at : ℕ) (h : Header) (response : Option Respon
 response-closes st at h None = refl
 response-closes st at h (Some response) = answer-closes st at h response (find (has_id h.id) (submits st ++ st.abandoned))
 
-pub does-tell : (st : State) (at : ℕ) (header : Header) (response : Option Response) (fact : Option Fact) (old mid : Kept) (out_old out_new : Outputs) → st.host_over ≡ false →
+pub does-tell : (st : State) (at : ℕ) (header : Header) (response : Option Response) (fact : Option Fact) (old mid : Kept) (out_old out_new : Outputs) → st.sides.host_over ≡ false →
     Does st (mark_as st (by_response st at header response) None) old mid out_old out_new →
-    Does st (mark_as st (by_response st at header response) fact) old (record mid { facts = cond mid.host_over mid.facts (tell mid.facts fact) }) out_old out_new
+    Does st (mark_as st (by_response st at header response) fact) old (record mid { facts = cond mid.sides.host_over mid.facts (tell mid.facts fact) }) out_old out_new
 does-tell st at header response fact old mid out_old out_new going d =
     record {
       holds = record {
         facts = ap (λ (b : Bool). cond b mid.facts (tell mid.facts fact)) over ∙ of (is_loss (by_response st at header response)) mid.facts d.holds.facts;
-        caps = d.holds.caps;
-        imported = d.holds.imported;
-        lost = d.holds.lost;
-        client_over = d.holds.client_over;
-        host_over = d.holds.host_over;
+        sides = d.holds.sides;
         streams = d.holds.streams;
         stream_ids = d.holds.stream_ids;
         fence = d.holds.fence;
@@ -442,8 +438,8 @@ does-tell st at header response fact old mid out_old out_new going d =
       dropped = d.dropped;
     }
   where
-    over : mid.host_over ≡ is_loss (by_response st at header response)
-    over = d.holds.host_over ∙ ap (turned closes_host (λ e. false) (by_response st at header response)) going ∙ response-closes st at header response
+    over : mid.sides.host_over ≡ is_loss (by_response st at header response)
+    over = (λ j. (d.holds.sides j).host_over) ∙ ap (turned closes_host (λ e. false) (by_response st at header response)) going ∙ response-closes st at header response
 
     of : (b : Bool) (f : Facts) → f ≡ cond b no_facts st.facts → cond b f (tell f fact) ≡ cond b no_facts (tell st.facts fact)
     of true f h = h
@@ -452,10 +448,10 @@ does-tell st at header response fact old mid out_old out_new going d =
 -- ---- a hello, and all else but a disconnect
 
 pub does-agree : (st : State) (old : Kept) (caps : Caps) (out : Outputs) → Holds old st → old.answered ≤ 2 ^ 64 - 1 → old.unlinked ≤ 2 ^ 64 - 1 → old.dropped ≤ 2 ^ 64 - 1 →
-    Does st (mark_as st (Agrees caps) None) old (record old { caps = caps }) out out
+    Does st (mark_as st (Agrees caps) None) old (record old { sides = record old.sides { agreed = caps } }) out out
 does-agree st old caps out h answered_fits unlinked_fits dropped_fits =
-    does-steady st (Agrees caps) refl (silent-is st (Agrees caps) refl) (λ s. refl) old (record old { caps = caps }) old.lives.live out out h answered_fits unlinked_fits dropped_fits
-    (rows-same (Agrees caps) old.lives.live st.live (λ s. refl) h.live) refl (sym (append-nil out.to_client)) (host-same st.agreed (Agrees caps) out.to_host st.live stays-uncancelled) (sym (append-nil out.notes))
+    does-steady st (Agrees caps) refl (silent-is st (Agrees caps) refl) (λ s. refl) old (record old { sides = record old.sides { agreed = caps } }) old.lives.live out out h answered_fits unlinked_fits dropped_fits
+    (rows-same (Agrees caps) old.lives.live st.live (λ s. refl) h.live) refl (sym (append-nil out.to_client)) (host-same st.sides.agreed (Agrees caps) out.to_host st.live stays-uncancelled) (sym (append-nil out.notes))
 
 pub told-other : (st : State) (at : ℕ) (h : Header) (p : RedirControl) → ((hello : Hello) → p ≡ plain.Hello hello → ⊥) → (p ≡ plain.Disconnect → ⊥) →
     ((status endpoint : ℕ) → p ≡ plain.IsoStatus status endpoint → ⊥) → ((status endpoint : ℕ) → p ≡ plain.InterruptStatus status endpoint → ⊥) →

@@ -140,7 +140,7 @@ module _ (st : State) (ep : ℕ) (up : Up) (at : stream_at st.streams ep ≡ Som
   does-lose old new out out_new h k is gives =
       does-steady st lost refl (silent-is st lost refl) none-ends old new old.lives.live out out_new h k.answered_fits k.unlinked_fits k.dropped_fits
       (rows-same lost old.lives.live st.live (λ s. refl) h.live)
-      (is ∙ ap (λ (ups : List (Option Up)). record old { streams = ups }) (sym same)) (ap (λ (o : Outputs). o.to_client) gives) (ap (λ (o : Outputs). o.to_host) gives ∙ host-same st.agreed lost out.to_host st.live stays-uncancelled)
+      (is ∙ ap (λ (ups : List (Option Up)). record old { streams = ups }) (sym same)) (ap (λ (o : Outputs). o.to_client) gives) (ap (λ (o : Outputs). o.to_host) gives ∙ host-same st.sides.agreed lost out.to_host st.live stays-uncancelled)
       (ap (λ (o : Outputs). o.notes) gives)
     where
       there : stream_at old.streams ep ≡ Some up

@@ -44,7 +44,7 @@ pub kept-filled : (t : Kept) (n : ℕ) (test : Live → Bool) (lives : Requests)
     → IsKept (record t { lives = lives; answered = answered })
 kept-filled t n test lives answered k is fits =
     subst (λ (r : Requests). IsKept (record t { lives = r; answered = answered })) (sym is)
-    (with-requests t (record t.lives { live = without_firsts n test t.lives.live }) answered t.unlinked k (each-left (IsRow t.caps) test n t.lives.live k.rows) k.apart
+    (with-requests t (record t.lives { live = without_firsts n test t.lives.live }) answered t.unlinked k (each-left (IsRow t.sides.agreed) test n t.lives.live k.rows) k.apart
     (let fewer = few-left test n t.lives.live in omega (arith, fewer, k.few)) k.left fits k.unlinked_fits)
 
 -- ---- of those that wait, whose numbers differ

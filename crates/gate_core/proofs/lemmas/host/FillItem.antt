@@ -104,16 +104,18 @@ module _ (st : State) (e : Effect) (max_packet ep : ℕ) (packets : List StreamP
         answered = capped (old.answered + length fs);
       } →
       out_new.to_client ≡ out_old.to_client ++ filled_bytes max_packet (waiting_rows ep rows) packets →
-      out_new.to_host ≡ out_old.to_host ++ flat_map (sent_packet_bytes st.agreed) (asking st.streams (mark_as st e None)) →
+      out_new.to_host ≡ out_old.to_host ++ flat_map (sent_packet_bytes st.sides.agreed) (asking st.streams (mark_as st e None)) →
       out_new.notes ≡ out_old.notes ++ (came_notes e ++ submit_notes e ++ filled_notes (fill max_packet (requests (waiters ep (present st e))) packets)) →
       Does st (mark_as st e None) old new out_old out_new
   does-fill old new rows out_old out_new h unlinked_fits dropped_fits rows-are is client host notes =
       does-quiet st e l.quiet old new (without_firsts (length fs) (waits_for ep) rows) old.lives.abandoned (length fs) 0 out_old out_new h dropped_fits
       (is ∙ (λ i. record old {
         lives = record { live = without_firsts (length fs) (waits_for ep) rows; abandoned = old.lives.abandoned };
-        caps = sym (l.no_caps old.caps) i;
-        imported = sym (l.imported_same old.imported) i;
-        lost = sym (l.lost_same old.lost) i;
+        sides = record old.sides {
+          agreed = sym (l.no_caps old.sides.agreed) i;
+          imported = sym (l.imported_same old.sides.imported) i;
+          lost = sym (l.lost_same old.sides.lost) i;
+        };
         streams = moved_streams e old.streams;
         stream_ids = stream_ids_after (asking st.streams (mark_as st e None)) old.stream_ids;
         fence = sym (l.no_fence old.fence) i;
@@ -124,7 +126,7 @@ module _ (st : State) (e : Effect) (max_packet ep : ℕ) (packets : List StreamP
       (ap (without_firsts (length fs) (waits_for ep)) rows-are ∙ sym left-so) (h.abandoned ∙ none-answered e st.abandoned l.answers_none)
       (sym (ap (λ (ps : List ClientPacket). length (filter is_ret_submit ps)) sent-so ∙ all.counted)) (ap length (sym (ap (filter is_won_unlink) sent-so ∙ all.won))) undropped-so
       (client ∙ ap (λ (bs : List ℕ). out_old.to_client ++ bs) (ap (λ (ls : List Live). filled_bytes max_packet (waiting_rows ep ls) packets) rows-are ∙ sym all.sent ∙ ap (flat_map client_spelling) (sym sent-so)))
-      (host ∙ ap (λ (ps : List (ℕ × RedirPacket)). out_old.to_host ++ flat_map (sent_packet_bytes st.agreed) (ps ++ asking st.streams (mark_as st e None))) (sym (none-cancelled e l.no_cancel st.live)))
+      (host ∙ ap (λ (ps : List (ℕ × RedirPacket)). out_old.to_host ++ flat_map (sent_packet_bytes st.sides.agreed) (ps ++ asking st.streams (mark_as st e None))) (sym (none-cancelled e l.no_cancel st.live)))
       (notes ∙ ap (λ (ns : List Note). out_old.notes ++ (came_notes e ++ submit_notes e ++ ns)) (sym told-so))
 
   -- the same of a stream that is up, whose place was emptied meanwhile
@@ -163,5 +165,5 @@ module _ (st : State) (e : Effect) (max_packet ep : ℕ) (packets : List StreamP
         answered = capped (old.answered + length (filled j).fillings);
       }))
       (ap (λ (o : Outputs). o.to_client) gives ∙ ap (λ (n : ℕ). out_old.to_client ++ filled_bytes n (waiting_rows ep rows) packets) size)
-      (ap (λ (o : Outputs). o.to_host) gives ∙ sym (append-nil out_old.to_host) ∙ ap (λ (ids : List ℕ). out_old.to_host ++ flat_map (sent_packet_bytes st.agreed) (zip ids (asked_packets st.streams e))) (sym no_ids))
+      (ap (λ (o : Outputs). o.to_host) gives ∙ sym (append-nil out_old.to_host) ∙ ap (λ (ids : List ℕ). out_old.to_host ++ flat_map (sent_packet_bytes st.sides.agreed) (zip ids (asked_packets st.streams e))) (sym no_ids))
       (ap (λ (o : Outputs). o.notes) gives ∙ ap (λ (x : Fill). out_old.notes ++ (came_notes e ++ submit_notes e ++ filled_notes x)) filled)

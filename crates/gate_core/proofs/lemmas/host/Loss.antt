@@ -106,15 +106,15 @@ module _ (st : State) (e : Effect) (told : Option Fact) (over : is_quiet e ≡ f
 
   -- what is kept, sent and told
   pub does-loss : (old new : Kept) (out_old out_new : Outputs) → Holds old st → old.dropped ≤ 2 ^ 64 - 1 →
-      new ≡ record (lost_by (backs old) old) { host_over = turned closes_host (λ e. false) e old.host_over } →
+      new ≡ record (lost_by (backs old) old) { sides = record old.sides { lost = true; host_over = turned closes_host (λ e. false) e old.sides.host_over } } →
       out_new.to_client ≡ out_old.to_client ++ flat_map lost_bytes old.lives.live →
-      out_new.to_host ≡ out_old.to_host ++ flat_map (sent_packet_bytes old.caps) (acknowledgements old.caps e) →
-      out_new.notes ≡ out_old.notes ++ (when (old.imported && not old.lost) note.DeviceGone ++ refusal_notes (refused_at e)) →
+      out_new.to_host ≡ out_old.to_host ++ flat_map (sent_packet_bytes old.sides.agreed) (acknowledgements old.sides.agreed e) →
+      out_new.notes ≡ out_old.notes ++ (when (old.sides.imported && not old.sides.lost) note.DeviceGone ++ refusal_notes (refused_at e)) →
       Does st (mark_as st e told) old new out_old out_new
   does-loss old new out_old out_new h few is client host notes =
       let m = mark_as st e told in
       let count = lost-counted st.live in
-      let sides = or_parts (ends_client e) (refuses_client e) stays in
+      let both = or_parts (ends_client e) (refuses_client e) stays in
       let rows : length old.lives.live ≡ length (map row st.live) = ap length h.live in
       let back : length (filter is_asked_back old.lives.live) ≡ length (filter is_asked_back (map row st.live)) = ap (λ (ls : List Live). length (filter is_asked_back ls)) h.live in
       let answers = all-lost st m loss in
@@ -124,11 +124,13 @@ module _ (st : State) (e : Effect) (told : Option Fact) (over : is_quiet e ≡ f
       does-step st m old new [] [] out_old out_new h
       (is ∙ (λ i. record (lost_by (backs old) old) {
         facts = cond (sym loss i) no_facts (tell old.facts told);
-        caps = sym (o.no_caps old.caps) i;
-        imported = cond (sym o.no_import i) true (cond (sym stays i) false old.imported);
-        lost = cond (sym loss i) true (cond (imports e) false old.lost);
-        client_over = cond (sym sides.1 i) true (cond (sym sides.0 i) false old.client_over);
-        host_over = turned closes_host (λ e. false) e old.host_over;
+        sides = record {
+          agreed = sym (o.no_caps old.sides.agreed) i;
+          imported = cond (sym o.no_import i) true (cond (sym stays i) false old.sides.imported);
+          lost = cond (sym loss i) true (cond (imports e) false old.sides.lost);
+          client_over = cond (sym both.1 i) true (cond (sym both.0 i) false old.sides.client_over);
+          host_over = turned closes_host (λ e. false) e old.sides.host_over;
+        };
         streams = cond (sym stays i || sym loss i) no_streams (moved_streams e old.streams);
         stream_ids = stream_ids_after (zip (sym no-ids i) (sym no-packets i)) old.stream_ids;
         fence = cond (sym stays i) (last_or old.fence (drawn_by st e)) (cond (sym loss i) None (moved_fence e old.fence));
@@ -141,8 +143,8 @@ module _ (st : State) (e : Effect) (told : Option Fact) (over : is_quiet e ≡ f
       (λ i. map left_row (cond (sym stays i) (st.abandoned ++ filter (λ s. goes_by_id s.verdict) (submits st)) (cond (sym loss i) [] (filter (λ s. not (is_answered e s)) st.abandoned))))
       (client ∙ ap (λ (bs : List ℕ). out_old.to_client ++ bs) (ap (flat_map lost_bytes) h.live ∙ sym (lost-packets st.live) ∙ ap (flat_map client_spelling) (sym answers)))
       (host ∙ ap (λ (bs : List ℕ). out_old.to_host ++ bs)
-      ((λ i. flat_map (sent_packet_bytes (h.caps i)) (acknowledgements (h.caps i) e))
-      ∙ (λ i. flat_map (sent_packet_bytes st.agreed) (sym lost-cancels i ++ zip (sym no-ids i) (sym no-packets i) ++ acknowledgements st.agreed e))))
+      ((λ i. flat_map (sent_packet_bytes (h.sides i).agreed) (acknowledgements (h.sides i).agreed e))
+      ∙ (λ i. flat_map (sent_packet_bytes st.sides.agreed) (sym lost-cancels i ++ zip (sym no-ids i) (sym no-packets i) ++ acknowledgements st.sides.agreed e))))
       (notes ∙ ap (λ (ns : List Note). out_old.notes ++ ns)
-      (ap (λ (ns : List Note). ns ++ refusal_notes (refused_at e)) (sym (append-nil (when (old.imported && not old.lost) note.DeviceGone)))
-      ∙ (λ i. (((sym o.no_notes i ++ sym lost-notes i) ++ when ((sym loss i && h.imported i) && not (h.lost i)) note.DeviceGone) ++ when (sym stays i && not st.client_over) note.ClientGone) ++ refusal_notes (refused_at e))))
+      (ap (λ (ns : List Note). ns ++ refusal_notes (refused_at e)) (sym (append-nil (when (old.sides.imported && not old.sides.lost) note.DeviceGone)))
+      ∙ (λ i. (((sym o.no_notes i ++ sym lost-notes i) ++ when ((sym loss i && (h.sides i).imported) && not (h.sides i).lost) note.DeviceGone) ++ when (sym stays i && not st.sides.client_over) note.ClientGone) ++ refusal_notes (refused_at e))))

@@ -70,7 +70,7 @@ module _ (st : State) (sound : IsSound st) (id ep : ℕ) (status : UsbStatus) wh
         answered = capped (old.answered + length (filter (is_told ep status) old.lives.live));
         unlinked = capped-same old.unlinked unlinked_fits i;
       }))
-      client (host-same st.agreed told out.to_host st.live stays-uncancelled) (sym (append-nil out.notes))
+      client (host-same st.sides.agreed told out.to_host st.live stays-uncancelled) (sym (append-nil out.notes))
 
   -- each of them is answered
   pub tell-gives : 0 < length (filter (is_told ep status) (map row st.live)) → GivesSome st (mark_as st told None)

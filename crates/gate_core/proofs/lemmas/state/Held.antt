@@ -154,7 +154,7 @@ is-fewer P r i = of (ltb i (length r.live))
 -- ---- what is kept stays sound
 
 -- with other requests and counts
-pub with-requests : (t : Kept) (lives : Requests) (answered unlinked : ℕ) → IsKept t → Each (IsRow t.caps) lives.live → (t.imported ≡ true → lives.abandoned ≡ []) →
+pub with-requests : (t : Kept) (lives : Requests) (answered unlinked : ℕ) → IsKept t → Each (IsRow t.sides.agreed) lives.live → (t.sides.imported ≡ true → lives.abandoned ≡ []) →
     length lives.live ≤ MAX_LIVE → length lives.abandoned ≤ MAX_LIVE → answered ≤ 2 ^ 64 - 1 → unlinked ≤ 2 ^ 64 - 1 → IsKept (record t { lives = lives; answered = answered; unlinked = unlinked })
 with-requests t lives answered unlinked k rows apart few left answered_fits unlinked_fits = record {
   rows = rows;
@@ -173,7 +173,7 @@ with-requests t lives answered unlinked k rows apart few left answered_fits unli
 pub without-one : (t : Kept) (i : ℕ) (lives : Requests) (answered unlinked : ℕ) → IsKept t → lives ≡ without_at i t.lives →
     answered ≤ 2 ^ 64 - 1 → unlinked ≤ 2 ^ 64 - 1 → IsKept (record t { lives = lives; answered = answered; unlinked = unlinked })
 without-one t i lives answered unlinked k is answered_fits unlinked_fits =
-    let fewer = is-fewer (IsRow t.caps) t.lives i in
+    let fewer = is-fewer (IsRow t.sides.agreed) t.lives i in
     subst (λ (r : Requests). IsKept (record t { lives = r; answered = answered; unlinked = unlinked })) (sym is)
     (with-requests t (without_at i t.lives) answered unlinked k (fewer.each k.rows) (λ h. fewer.none_left (k.apart h))
     (omega (arith, k.few, fewer.few)) (omega (arith, k.left, fewer.left_few)) answered_fits unlinked_fits)

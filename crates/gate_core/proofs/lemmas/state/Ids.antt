@@ -66,14 +66,14 @@ pub record HasParted (st : State) (e : Effect) (c : SentIds) : Type 0 where
 -- ---- what is drawn and sent of what is kept is that of the state
 
 module _ (t : Kept) (st : State) (h : Holds t st) where
-  pub draw-is : draw (greatest (wide_ids t.caps)) (flying_in t) t.last ≡ draw (greatest (wide_ids st.agreed)) (flying st) st.last
-  draw-is = λ i. draw (greatest (wide_ids (h.caps i))) (flying-rows t st h i) (h.last i)
+  pub draw-is : draw (greatest (wide_ids t.sides.agreed)) (flying_in t) t.last ≡ draw (greatest (wide_ids st.sides.agreed)) (flying st) st.last
+  draw-is = λ i. draw (greatest (wide_ids (h.sides i).agreed)) (flying-rows t st h i) (h.last i)
 
   pub ids-are : (ps qs : List RedirPacket) → ps ≡ qs → ids_after t t.last (length ps) ≡ next_ids st (length qs)
-  ids-are ps qs e = λ i. draws (greatest (wide_ids (h.caps i))) (flying-rows t st h i) (h.last i) (length (e i))
+  ids-are ps qs e = λ i. draws (greatest (wide_ids (h.sides i).agreed)) (flying-rows t st h i) (h.last i) (length (e i))
 
   pub asked-are : (ps qs : List RedirPacket) → ps ≡ qs → with_ids t t.last ps ≡ zip (next_ids st (length qs)) qs
-  asked-are ps qs e = λ i. zip (draws (greatest (wide_ids (h.caps i))) (flying-rows t st h i) (h.last i) (length (e i))) (e i)
+  asked-are ps qs e = λ i. zip (draws (greatest (wide_ids (h.sides i).agreed)) (flying-rows t st h i) (h.last i) (length (e i))) (e i)
 
   pub stops-are : (by : Option Route) → stops_of t by ≡ stops (is_ended by) st.streams
   stops-are by = ap (stops (is_ended by)) h.streams
@@ -94,25 +94,25 @@ module _ (t : Kept) (st : State) (h : Holds t st) where
 
   -- behind what was sent before
   pub leaving-sent : (e : Effect) → asked_packets st.streams e ≡ stops (is_ended None) st.streams → (old mid new : List ℕ) →
-      mid ≡ old ++ flat_map (cancel_bytes t.caps) t.lives.live →
+      mid ≡ old ++ flat_map (cancel_bytes t.sides.agreed) t.lives.live →
       new ≡ mid ++ bytes_of t t.last (stops_of t None) →
-      new ≡ old ++ (flat_map (cancel_bytes t.caps) t.lives.live ++ flat_map (sent_packet_bytes t.caps) (zip (drawn_by st e) (asked_packets st.streams e)))
+      new ≡ old ++ (flat_map (cancel_bytes t.sides.agreed) t.lives.live ++ flat_map (sent_packet_bytes t.sides.agreed) (zip (drawn_by st e) (asked_packets st.streams e)))
   leaving-sent e asked old mid new a b =
-      b ∙ (λ i. a i ++ flat_map (sent_packet_bytes t.caps) (parts-sent e asked i))
-      ∙ append_assoc old (flat_map (cancel_bytes t.caps) t.lives.live) (flat_map (sent_packet_bytes t.caps) (zip (drawn_by st e) (asked_packets st.streams e)))
+      b ∙ (λ i. a i ++ flat_map (sent_packet_bytes t.sides.agreed) (parts-sent e asked i))
+      ∙ append_assoc old (flat_map (cancel_bytes t.sides.agreed) t.lives.live) (flat_map (sent_packet_bytes t.sides.agreed) (zip (drawn_by st e) (asked_packets st.streams e)))
 
 -- ---- of a start
 
 started-by : (t : Kept) (up : Bool) (ep : ℕ) (row : EpRow) →
-    started_with ep (if up then None else Some (draw (greatest (wide_ids t.caps)) (flying_in t) t.last)) t.stream_ids ≡ stream_ids_after (with_ids t t.last (if up then [] else start_packet ep row ∷ [])) t.stream_ids
+    started_with ep (if up then None else Some (draw (greatest (wide_ids t.sides.agreed)) (flying_in t) t.last)) t.stream_ids ≡ stream_ids_after (with_ids t t.last (if up then [] else start_packet ep row ∷ [])) t.stream_ids
 started-by t true ep row = refl
-started-by t false ep row = sym (start-stream_ids (draw (greatest (wide_ids t.caps)) (flying_in t) t.last) ep row t.stream_ids)
+started-by t false ep row = sym (start-stream_ids (draw (greatest (wide_ids t.sides.agreed)) (flying_in t) t.last) ep row t.stream_ids)
 
 pub started-is : (t : Kept) (ep : ℕ) (row : EpRow) → started_with ep (start_id t ep) t.stream_ids ≡ stream_ids_after (with_ids t t.last (starts_of t ep row)) t.stream_ids
 started-is t ep row = started-by t (is_some (stream_at t.streams ep)) ep row
 
 last-by : (t : Kept) (up : Bool) (ep : ℕ) (row : EpRow) →
-    unwrap_or (if up then None else Some (draw (greatest (wide_ids t.caps)) (flying_in t) t.last)) t.last ≡ last_of t.last (ids_after t t.last (length (if up then [] else start_packet ep row ∷ [])))
+    unwrap_or (if up then None else Some (draw (greatest (wide_ids t.sides.agreed)) (flying_in t) t.last)) t.last ≡ last_of t.last (ids_after t t.last (length (if up then [] else start_packet ep row ∷ [])))
 last-by t true ep row = refl
 last-by t false ep row = refl
 

@@ -115,7 +115,7 @@ module _ (st : State) (e : Effect) (test : Live → Bool) (packet : Live → Urb
       rows ≡ map row (map (ask e) (filter (λ p. is_none (ends e p.submit)) st.live)) →
       new ≡ moved_alone e rows done won old →
       out_new.to_client ≡ out_old.to_client ++ (flat_map client_spelling (replies st e) ++ flat_map (λ l. cond (test l) (spelling (packet l)) []) old.lives.live) →
-      out_new.to_host ≡ out_old.to_host ++ flat_map (sent_packet_bytes st.agreed) (map cancel (filter (cancels e) st.live)) →
+      out_new.to_host ≡ out_old.to_host ++ flat_map (sent_packet_bytes st.sides.agreed) (map cancel (filter (cancels e) st.live)) →
       out_new.notes ≡ out_old.notes ++ (came_notes e ++ submit_notes e) →
       Does st (mark_as st e None) old new out_old out_new
   does-ending old new rows done won out_old out_new h dropped_fits done-is won-is rows-are is client host notes =

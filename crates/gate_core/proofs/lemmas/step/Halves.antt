@@ -94,7 +94,7 @@ pub record GoesOn {S P : Type 0} (first : ℕ) (h : Half S P) (kept : StreamView
 abbrev pub FitsNext : {S P : Type 0} → (ℕ → Half S P) → Reader S P Reason → (P → Bool) → (ℕ → P → Item) → Type 0
 FitsNext {S = S} {P = P} half r takes packet =
     (kept new : StreamView S) (t : Kept) (i : ℕ × P) → (kept.over ≡ false → ∥ ((first : ℕ) × GoesOn first (half first) kept t) ∥₁) →
-    Changes (Ok (Some i)) kept new → Nexts r takes (Ok (Some i)) kept new → ItemFits t.caps (packet i.0 i.1)
+    Changes (Ok (Some i)) kept new → Nexts r takes (Ok (Some i)) kept new → ItemFits t.sides.agreed (packet i.0 i.1)
 
 -- ---- a piece of it
 

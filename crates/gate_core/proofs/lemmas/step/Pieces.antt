@@ -327,7 +327,7 @@ within {S = S} {P = P} s old now piece are r first bytes before at =
 -- what comes next is an item that the translator can take
 pub can-take : {S P : Type 0} (s : TakenSide S P) → FitsNext s.half s.reader s.takes s.packet → (old now : TakenStream S ItemTaker) (piece : List ℕ) →
     ∥ ((first : ℕ) × ((bytes : List ℕ) × ((before : List Item) × IsAt first (s.half first) old.stream old.taker.translator.now bytes before))) ∥₁ → AreBytes piece → Reaches (taken_side s) old piece now →
-    (new : StreamView S) (i : ℕ × P) → Changes (Ok (Some i)) now.stream new → Nexts s.reader s.takes (Ok (Some i)) now.stream new → ItemFits now.taker.translator.now.caps (s.packet i.0 i.1)
+    (new : StreamView S) (i : ℕ × P) → Changes (Ok (Some i)) now.stream new → Nexts s.reader s.takes (Ok (Some i)) now.stream new → ItemFits now.taker.translator.now.sides.agreed (s.packet i.0 i.1)
 can-take s fits old now piece past are reaches new i changes nexts =
     fits now.stream new now.taker.translator.now i
     (λ runs. ∥∥₁_map past (λ w. (

@@ -17,7 +17,8 @@ use Rattle.gate_core.specs.declared.state.kept.Kept.{Kept}
 use Rattle.usb_base.specs.Number.{capped}
 use Rattle.gate_history.specs.step.Marks.{Submission, Effect, Idle, Replies, Imports, Agrees, Arrives, StreamTold, Disconnects, Ends, Refuses, Mark}
 use Rattle.gate_history.specs.state.Facts.{no_facts, facts_after}
-use Rattle.gate_history.specs.state.Sides.{refused_at, leaves, is_loss, closes_host, imports, refuses_client, ends_client, turned, agrees}
+use Rattle.gate_history.specs.declared.sides.Sides.{Sides}
+use Rattle.gate_history.specs.state.Sides.{refused_at, leaves, is_loss, closes_host, imports, refuses_client, ends_client, turned, agrees, sides_after}
 use Rattle.gate_history.specs.client.Submits.{Pending, opened, is_answered, abandoned_after}
 use Rattle.gate_history.specs.state.Ids.{last_of}
 use Rattle.gate_history.specs.state.Ups.{no_streams, is_ended, moved_streams, streams_after}
@@ -46,11 +47,7 @@ abbrev pub stepped : State → Mark → List Live → List Live → Kept → Kep
 stepped st m rows left old = record old {
   lives = record { live = rows; abandoned = left };
   facts = facts_after m.what m.told old.facts;
-  caps = unwrap_or (agrees m.what) old.caps;
-  imported = turned imports leaves m.what old.imported;
-  lost = turned is_loss imports m.what old.lost;
-  client_over = turned refuses_client ends_client m.what old.client_over;
-  host_over = turned closes_host (λ e. false) m.what old.host_over;
+  sides = sides_after m.what old.sides;
   streams = streams_after m.what old.streams;
   stream_ids = stream_ids_after (asking st.streams m) old.stream_ids;
   fence = fence_after m.what m.drawn old.fence;
@@ -71,11 +68,7 @@ pub does-step : (st : State) (m : Mark) (old new : Kept) (rows left : List Live)
 does-step st m old new rows left out_old out_new h is rows-are left-are client host notes = record {
   holds = record {
     facts = ap (λ (k : Kept). k.facts) is ∙ ap (facts_after m.what m.told) h.facts;
-    caps = ap (λ (k : Kept). k.caps) is ∙ ap (unwrap_or (agrees m.what)) h.caps;
-    imported = ap (λ (k : Kept). k.imported) is ∙ ap (turned imports leaves m.what) h.imported;
-    lost = ap (λ (k : Kept). k.lost) is ∙ ap (turned is_loss imports m.what) h.lost;
-    client_over = ap (λ (k : Kept). k.client_over) is ∙ ap (turned refuses_client ends_client m.what) h.client_over;
-    host_over = ap (λ (k : Kept). k.host_over) is ∙ ap (turned closes_host (λ e. false) m.what) h.host_over;
+    sides = ap (λ (k : Kept). k.sides) is ∙ ap (sides_after m.what) h.sides;
     streams = ap (λ (k : Kept). k.streams) is ∙ ap (streams_after m.what) h.streams;
     stream_ids = ap (λ (k : Kept). k.stream_ids) is ∙ ap (stream_ids_after (asking st.streams m)) h.stream_ids;
     fence = ap (λ (k : Kept). k.fence) is ∙ ap (fence_after m.what m.drawn) h.fence;
@@ -119,13 +112,19 @@ quiet-is (Ends side) h = absurd (false≢true h)
 quiet-is (Refuses r) h = absurd (false≢true h)
 quiet-is e h = record { stays = refl; keeps = refl; open_host = refl; no_refusal = refl; no_end = refl; no_place = refl; no_word = λ caps. refl }
 
+-- where the sides stand behind it: neither is over by it
+abbrev pub moved_sides : Effect → Sides → Sides
+moved_sides e s = record s {
+  agreed = unwrap_or (agrees e) s.agreed;
+  imported = turned imports leaves e s.imported;
+  lost = turned is_loss imports e s.lost;
+}
+
 -- what it makes of what is kept, where so many submits and unlinks are answered
 abbrev pub moved : State → Effect → List Live → List Live → ℕ → ℕ → Kept → Kept
 moved st e rows left done won old = record old {
   lives = record { live = rows; abandoned = left };
-  caps = unwrap_or (agrees e) old.caps;
-  imported = turned imports leaves e old.imported;
-  lost = turned is_loss imports e old.lost;
+  sides = moved_sides e old.sides;
   streams = moved_streams e old.streams;
   stream_ids = stream_ids_after (asking st.streams (mark_as st e None)) old.stream_ids;
   fence = moved_fence e old.fence;
@@ -146,15 +145,17 @@ module _ (st : State) (e : Effect) (quiet : is_quiet e ≡ true) where
       won ≡ length (filter is_won_unlink (to_client st (mark_as st e None))) →
       dropped st (mark_as st e None) ≡ [] →
       out_new.to_client ≡ out_old.to_client ++ client_bytes_of st (mark_as st e None) →
-      out_new.to_host ≡ out_old.to_host ++ flat_map (sent_packet_bytes st.agreed) (map cancel (filter (cancels e) st.live) ++ asking st.streams (mark_as st e None)) →
+      out_new.to_host ≡ out_old.to_host ++ flat_map (sent_packet_bytes st.sides.agreed) (map cancel (filter (cancels e) st.live) ++ asking st.streams (mark_as st e None)) →
       out_new.notes ≡ out_old.notes ++ (came_notes e ++ submit_notes e ++ answer_notes st e) →
       Does st (mark_as st e None) old new out_old out_new
   does-quiet old new rows left done won out_old out_new h dropped_fits is rows-are left-are done-is won-is undropped client host notes =
       does-step st (mark_as st e None) old new rows left out_old out_new h
       (is ∙ (λ i. record (moved st e rows left (done-is i) (won-is i) old) {
         facts = cond (sym q.keeps i) no_facts old.facts;
-        client_over = cond (sym q.no_refusal i) true (cond (sym q.no_end i) false old.client_over);
-        host_over = cond (sym q.open_host i) true old.host_over;
+        sides = record (moved_sides e old.sides) {
+          client_over = cond (sym q.no_refusal i) true (cond (sym q.no_end i) false old.sides.client_over);
+          host_over = cond (sym q.open_host i) true old.sides.host_over;
+        };
         streams = cond (sym q.stays i || sym q.keeps i) no_streams (moved_streams e old.streams);
         fence = cond (sym q.stays i) (last_or old.fence (drawn_by st e)) (cond (sym q.keeps i) None (moved_fence e old.fence));
         dropped = (capped-same old.dropped dropped_fits ∙ ap (λ (ss : List Submission). capped (old.dropped + length ss)) (sym undropped)) i;
@@ -162,10 +163,10 @@ module _ (st : State) (e : Effect) (quiet : is_quiet e ≡ true) where
       rows-are
       (left-are ∙ (λ i. map left_row (cond (sym q.stays i) (st.abandoned ++ filter (λ s. goes_by_id s.verdict) (submits st)) (cond (sym q.keeps i) [] (filter (λ s. not (is_answered e s)) st.abandoned)))))
       client
-      (host ∙ ap (λ (ps : List (ℕ × RedirPacket)). out_old.to_host ++ flat_map (sent_packet_bytes st.agreed) ps) (sym (append-nil asked) ∙ (λ i. asked ++ sym (q.no_word st.agreed) i)))
+      (host ∙ ap (λ (ps : List (ℕ × RedirPacket)). out_old.to_host ++ flat_map (sent_packet_bytes st.sides.agreed) ps) (sym (append-nil asked) ∙ (λ i. asked ++ sym (q.no_word st.sides.agreed) i)))
       (notes ∙ ap (λ (ns : List Note). out_old.notes ++ ns)
       (sym (append-nil told) ∙ sym (append-nil (told ++ [])) ∙ sym (append-nil ((told ++ []) ++ []))
-      ∙ (λ i. ((told ++ when ((sym q.keeps i && st.imported) && not st.lost) note.DeviceGone) ++ when (sym q.stays i && not st.client_over) note.ClientGone) ++ refusal_notes (sym q.no_place i))))
+      ∙ (λ i. ((told ++ when ((sym q.keeps i && st.sides.imported) && not st.sides.lost) note.DeviceGone) ++ when (sym q.stays i && not st.sides.client_over) note.ClientGone) ++ refusal_notes (sym q.no_place i))))
     where
       asked : List (ℕ × RedirPacket)
       asked = map cancel (filter (cancels e) st.live) ++ asking st.streams (mark_as st e None)
@@ -209,9 +210,7 @@ silent-is st e h = absurd (false≢true h)
 abbrev pub moved_alone : Effect → List Live → ℕ → ℕ → Kept → Kept
 moved_alone e rows done won old = record old {
   lives = record { live = rows; abandoned = old.lives.abandoned };
-  caps = unwrap_or (agrees e) old.caps;
-  imported = turned imports leaves e old.imported;
-  lost = turned is_loss imports e old.lost;
+  sides = moved_sides e old.sides;
   streams = moved_streams e old.streams;
   fence = moved_fence e old.fence;
   answered = capped (old.answered + done);
@@ -239,14 +238,14 @@ module _ (st : State) (e : Effect) (quiet : is_quiet e ≡ true) (s : IsSilent s
       won ≡ length (filter is_won_unlink (answered st e)) →
       answer_notes st e ≡ [] → dropped st (mark_as st e None) ≡ [] →
       out_new.to_client ≡ out_old.to_client ++ client_bytes_of st (mark_as st e None) →
-      out_new.to_host ≡ out_old.to_host ++ flat_map (sent_packet_bytes st.agreed) (map cancel (filter (cancels e) st.live)) →
+      out_new.to_host ≡ out_old.to_host ++ flat_map (sent_packet_bytes st.sides.agreed) (map cancel (filter (cancels e) st.live)) →
       out_new.notes ≡ out_old.notes ++ (came_notes e ++ submit_notes e) →
       Does st (mark_as st e None) old new out_old out_new
   does-silent old new rows done won out_old out_new h dropped_fits is rows-are done-is won-is untold undropped client host notes =
       does-quiet st e quiet old new rows old.lives.abandoned done won out_old out_new h dropped_fits
       (is ∙ (λ i. record (moved_alone e rows done won old) { stream_ids = stream_ids_after (sym none-asked i) old.stream_ids; last = last_of old.last (sym no-ids i) }))
       rows-are (h.abandoned ∙ none-answered e st.abandoned s.answers_none) (done-is ∙ counted is_ret_submit s.no_answer) (won-is ∙ counted is_won_unlink s.none_won) undropped client
-      (host ∙ ap (λ (ps : List (ℕ × RedirPacket)). out_old.to_host ++ flat_map (sent_packet_bytes st.agreed) ps)
+      (host ∙ ap (λ (ps : List (ℕ × RedirPacket)). out_old.to_host ++ flat_map (sent_packet_bytes st.sides.agreed) ps)
       (sym (append-nil (map cancel (filter (cancels e) st.live))) ∙ (λ i. map cancel (filter (cancels e) st.live) ++ sym none-asked i)))
       (notes ∙ ap (λ (ns : List Note). out_old.notes ++ ns)
       (sym (append-nil told) ∙ (λ i. told ++ sym untold i)))

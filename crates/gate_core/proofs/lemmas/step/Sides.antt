@@ -62,13 +62,13 @@ client-steady = reads_steady (λ s. client_packets) (λ s p. s) (λ s. client_pa
 pub host-steady : IsSteady host_reader
 host-steady = reads_steady (stream_format ToGuest) after (stream_sound ToGuest)
 
-pub is-client : (first : ℕ) → IsSide first (client_half first) client_reader asked_takes_memory (λ t. t.client_over) Asked ClientWrong
+pub is-client : (first : ℕ) → IsSide first (client_half first) client_reader asked_takes_memory (λ t. t.sides.client_over) Asked ClientWrong
 is-client first = record {
   reader = refl;
   takes_is = λ n p. refl;
   over_past = λ xs ys e. ap client_over e;
   other_past = λ xs ys e. ap host_over e;
-  over_is = λ t xs h. h.state.client_over;
+  over_is = λ t xs h. (λ i. (h.state.sides i).client_over);
   came_packet = λ xs n p. refl;
   out_packet = λ xs n p. refl;
   out_wrong = λ xs n why. refl;
@@ -81,13 +81,13 @@ is-client first = record {
   other_wrong = wrong-host first;
 }
 
-pub is-host : (first : ℕ) → IsSide first (host_half first) host_reader told_takes_memory (λ t. t.host_over) told_item HostWrong
+pub is-host : (first : ℕ) → IsSide first (host_half first) host_reader told_takes_memory (λ t. t.sides.host_over) told_item HostWrong
 is-host first = record {
   reader = refl;
   takes_is = λ n p. refl;
   over_past = λ xs ys e. ap host_over e;
   other_past = λ xs ys e. ap client_over e;
-  over_is = λ t xs h. h.state.host_over;
+  over_is = λ t xs h. (λ i. (h.state.sides i).host_over);
   came_packet = λ xs n p. refl;
   out_packet = λ xs n p. refl;
   out_wrong = λ xs n why. refl;
@@ -118,7 +118,7 @@ client_side = record {
   reader = client_reader;
   steady = client-steady;
   takes = asked_takes_memory;
-  flag = λ t. t.client_over;
+  flag = λ t. t.sides.client_over;
   packet = Asked;
   wrong = ClientWrong;
   laws = is-client;
@@ -130,7 +130,7 @@ host_side = record {
   reader = host_reader;
   steady = host-steady;
   takes = told_takes_memory;
-  flag = λ t. t.host_over;
+  flag = λ t. t.sides.host_over;
   packet = told_item;
   wrong = HostWrong;
   laws = is-host;

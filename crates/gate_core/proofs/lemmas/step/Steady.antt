@@ -46,7 +46,7 @@ module _ (st : State) (e : Effect) (quiet : is_quiet e ≡ true) (s : IsSilent s
       lives ≡ map row (map (ask e) st.live) →
       new ≡ record (moved_alone e lives 0 0 old) { answered = old.answered; unlinked = old.unlinked } →
       out_new.to_client ≡ out_old.to_client ++ flat_map client_spelling (replies st e) →
-      out_new.to_host ≡ out_old.to_host ++ flat_map (sent_packet_bytes st.agreed) (map cancel (filter (cancels e) st.live)) →
+      out_new.to_host ≡ out_old.to_host ++ flat_map (sent_packet_bytes st.sides.agreed) (map cancel (filter (cancels e) st.live)) →
       out_new.notes ≡ out_old.notes ++ (came_notes e ++ submit_notes e) →
       Does st (mark_as st e None) old new out_old out_new
   does-steady old new lives out_old out_new h answered_fits unlinked_fits dropped_fits asked is client host notes =
@@ -73,4 +73,4 @@ pub does-idle : (st : State) (old : Kept) (out : Outputs) → Holds old st → o
     Does st (mark_as st Idle None) old old out out
 does-idle st old out h a u d =
     does-steady st Idle refl (silent-is st Idle refl) (λ s. refl) old old old.lives.live out out h a u d
-    (rows-same Idle old.lives.live st.live (λ s. refl) h.live) refl (sym (append-nil out.to_client)) (host-same st.agreed Idle out.to_host st.live stays-uncancelled) (sym (append-nil out.notes))
+    (rows-same Idle old.lives.live st.live (λ s. refl) h.live) refl (sym (append-nil out.to_client)) (host-same st.sides.agreed Idle out.to_host st.live stays-uncancelled) (sym (append-nil out.notes))

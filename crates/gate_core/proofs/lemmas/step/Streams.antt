@@ -49,14 +49,14 @@ asked-fits kept new t i goes changes nexts =
 
 -- ---- the host's
 
-told-next : (first : ℕ) (kept new : StreamView RedirState) (t : Kept) (i : ℕ × (Header × RedirPacket)) → Nexts host_reader told_takes_memory (Ok (Some i)) kept new → GoesOn first (host_half first) kept t → ToldFits t.caps i.1.0 i.1.1
+told-next : (first : ℕ) (kept new : StreamView RedirState) (t : Kept) (i : ℕ × (Header × RedirPacket)) → Nexts host_reader told_takes_memory (Ok (Some i)) kept new → GoesOn first (host_half first) kept t → ToldFits t.sides.agreed i.1.0 i.1.1
 told-next first kept new t i nexts g =
     let given = told g.items in
     let n = nexts stream_start g.bytes given g.follows in
     let one : List (ℕ × (Header × RedirPacket)) = (n.at, i.1) ∷ [] in
     let front = follows-front host_reader stream_start new g.bytes (given ++ one) n.follows in
     let parts : (split host_reader stream_start g.bytes).packets ≡ given ++ (n.at, i.1) ∷ front.0 = front.1 ∙ append_assoc given one front.0 in
-    subst (λ (c : Caps). ToldFits c i.1.0 i.1.1) (sym g.translates.state.caps) (told-fits first g.items g.bytes front.0 (n.at, i.1) g.runs g.follows.fits parts)
+    subst (λ (c : Caps). ToldFits c i.1.0 i.1.1) (λ i. (sym g.translates.state.sides i).agreed) (told-fits first g.items g.bytes front.0 (n.at, i.1) g.runs g.follows.fits parts)
 
 pub told-fits-next : FitsNext host_half host_reader told_takes_memory told_item
-told-fits-next kept new t i goes changes nexts = ∥∥₁_elim (goes changes.1) (told_fits-prop t.caps i.1.0 i.1.1) (λ w. told-next w.0 kept new t i nexts w.1)
+told-fits-next kept new t i goes changes nexts = ∥∥₁_elim (goes changes.1) (told_fits-prop t.sides.agreed i.1.0 i.1.1) (λ w. told-next w.0 kept new t i nexts w.1)

@@ -57,13 +57,13 @@ module _ (st : State) (e : Effect) (told : Option Fact) where
 
   notes-counted : length (notes_of st marked)
       ≡ length (came_notes e) + length (submit_notes e) + length (answer_notes st e)
-      + length (when (is_loss e && st.imported && not st.lost) note.DeviceGone) + length (when (leaves e && not st.client_over) note.ClientGone) + length (refusal_notes (refused_at e))
+      + length (when (is_loss e && st.sides.imported && not st.sides.lost) note.DeviceGone) + length (when (leaves e && not st.sides.client_over) note.ClientGone) + length (refusal_notes (refused_at e))
   notes-counted =
       let a = came_notes e in
       let b = submit_notes e in
       let f = answer_notes st e in
-      let g = when (is_loss e && st.imported && not st.lost) note.DeviceGone in
-      let h = when (leaves e && not st.client_over) note.ClientGone in
+      let g = when (is_loss e && st.sides.imported && not st.sides.lost) note.DeviceGone in
+      let h = when (leaves e && not st.sides.client_over) note.ClientGone in
       let i = refusal_notes (refused_at e) in
       omega (
         arith,
@@ -87,30 +87,30 @@ module _ (st : State) (e : Effect) (told : Option Fact) where
   by-answer some = omega (arith, some, notes-counted)
 
   -- the device is gone
-  pub by-loss : is_loss e ≡ true → (st.imported && not st.lost) ≡ true → GivesSome st marked
+  pub by-loss : is_loss e ≡ true → (st.sides.imported && not st.sides.lost) ≡ true → GivesSome st marked
   by-loss loss gone =
-      let one : length (when (is_loss e && st.imported && not st.lost) note.DeviceGone) ≡ 1 =
-      (λ i. length (when ((loss i && st.imported) && not st.lost) note.DeviceGone)) ∙ ap (λ (b : Bool). length (when b note.DeviceGone)) gone in
+      let one : length (when (is_loss e && st.sides.imported && not st.sides.lost) note.DeviceGone) ≡ 1 =
+      (λ i. length (when ((loss i && st.sides.imported) && not st.sides.lost) note.DeviceGone)) ∙ ap (λ (b : Bool). length (when b note.DeviceGone)) gone in
       omega (arith, one, notes-counted)
 
   -- the client is
-  pub by-leaving : leaves e ≡ true → not st.client_over ≡ true → GivesSome st marked
+  pub by-leaving : leaves e ≡ true → not st.sides.client_over ≡ true → GivesSome st marked
   by-leaving left there =
-      let one : length (when (leaves e && not st.client_over) note.ClientGone) ≡ 1 =
-      (λ i. length (when (left i && not st.client_over) note.ClientGone)) ∙ ap (λ (b : Bool). length (when b note.ClientGone)) there in
+      let one : length (when (leaves e && not st.sides.client_over) note.ClientGone) ≡ 1 =
+      (λ i. length (when (left i && not st.sides.client_over) note.ClientGone)) ∙ ap (λ (b : Bool). length (when b note.ClientGone)) there in
       omega (arith, one, notes-counted)
 
   -- each request whose device is lost is answered
   pub by-lives : is_loss e ≡ true → 0 < length st.live → GivesSome st marked
   by-lives loss some = by-client (omega (arith, some, ap length (all-lost st marked loss), length-map st.live (λ (p : Pending). Urb (lost_answer p.submit.request p.unlinker))))
 
-  host-counted : length (to_host st marked) ≡ length (map cancel (filter (cancels e) st.live)) + length (asking st.streams marked) + length (acknowledgements st.agreed e)
+  host-counted : length (to_host st marked) ≡ length (map cancel (filter (cancels e) st.live)) + length (asking st.streams marked) + length (acknowledgements st.sides.agreed e)
   host-counted =
       let a = map cancel (filter (cancels e) st.live) in
       let b = asking st.streams marked in
-      omega (arith, length-append a b, length-append (a ++ b) (acknowledgements st.agreed e))
+      omega (arith, length-append a b, length-append (a ++ b) (acknowledgements st.sides.agreed e))
 
-  pub by-word : 0 < length (acknowledgements st.agreed e) → GivesSome st marked
+  pub by-word : 0 < length (acknowledgements st.sides.agreed e) → GivesSome st marked
   by-word some = by-host (omega (arith, some, host-counted))
 
   pub by-cancels : 0 < length (filter (cancels e) st.live) → GivesSome st marked
@@ -120,7 +120,7 @@ module _ (st : State) (e : Effect) (told : Option Fact) where
   pub by-asked : 0 < length (asked_packets st.streams e) → GivesSome st marked
   by-asked some =
       let asked = asked_packets st.streams e in
-      let ids : length (drawn_by st e) ≡ length asked = length-draws (greatest (wide_ids st.agreed)) (flying st) st.last (length asked) in
+      let ids : length (drawn_by st e) ≡ length asked = length-draws (greatest (wide_ids st.sides.agreed)) (flying st) st.last (length asked) in
       let zipped : length (asking st.streams marked) ≡ length asked = length-zip (drawn_by st e) asked ids in
       by-host (omega (arith, some, host-counted, zipped))
 
@@ -159,15 +159,15 @@ chosen st false e f h k = k
 
 pub asked-gives : (st : State) (at : ℕ) (p : ClientPacket) → IsClientPacket p → GivesSome st (mark_as st (asked_meaning st at p) None)
 asked-gives st at (Op (op.ReqDevlist status)) fits =
-    chosen st st.imported (refused Client at AlreadyImported) (Replies (list_reply st.facts)) (refusal-gives st (refusal Client at AlreadyImported) None) (by-client st (Replies (list_reply st.facts)) None (omega arith))
+    chosen st st.sides.imported (refused Client at AlreadyImported) (Replies (list_reply st.facts)) (refusal-gives st (refusal Client at AlreadyImported) None) (by-client st (Replies (list_reply st.facts)) None (omega arith))
 asked-gives st at (Op (op.ReqImport status busid)) fits =
-    chosen st st.imported _ _ (refusal-gives st (refusal Client at AlreadyImported) None) (imports-gives st (importable st busid))
+    chosen st st.sides.imported _ _ (refusal-gives st (refusal Client at AlreadyImported) None) (imports-gives st (importable st busid))
 asked-gives st at (Op (op.RepDevlist status devices)) fits = let e : way.Reply ≡ way.Request = fits.0 in absurd cc
 asked-gives st at (Op (op.RepImport status device)) fits = let e : way.Reply ≡ way.Request = fits.0 in absurd cc
 asked-gives st at (Urb (urb.Submit s)) fits =
-    chosen st (not st.imported) _ _ (refusal-gives st (refusal Client at NotImported) None)
+    chosen st (not st.sides.imported) _ _ (refusal-gives st (refusal Client at NotImported) None)
     (chosen st (has_number st s.head.seqnum) _ _ (refusal-gives st (refusal Client (at + 4) DuplicateSeq) None) (opens-gives st _ _))
 asked-gives st at (Urb (urb.Unlink u)) fits =
-    chosen st (not st.imported) (refused Client at NotImported) (Unlinks u.head.seqnum u.target) (refusal-gives st (refusal Client at NotImported) None) (by-coming st (Unlinks u.head.seqnum u.target) None (omega arith))
+    chosen st (not st.sides.imported) (refused Client at NotImported) (Unlinks u.head.seqnum u.target) (refusal-gives st (refusal Client at NotImported) None) (by-coming st (Unlinks u.head.seqnum u.target) None (omega arith))
 asked-gives st at (Urb (urb.RetSubmit r)) fits = absurd fits
 asked-gives st at (Urb (urb.RetUnlink r)) fits = absurd fits

@@ -26,16 +26,16 @@ module _ (t : Kept) where
   pub last-more : (last : ℕ) (ps qs : List RedirPacket) →
       last_of last (ids_after t last (length (ps ++ qs))) ≡ last_of (last_of last (ids_after t last (length ps))) (ids_after t (last_of last (ids_after t last (length ps))) (length qs))
   last-more last ps qs =
-      ap (last_of last) (draws-append (greatest (wide_ids t.caps)) (flying_in t) last ps qs)
+      ap (last_of last) (draws-append (greatest (wide_ids t.sides.agreed)) (flying_in t) last ps qs)
       ∙ last-append last (ids_after t last (length ps)) (ids_after t (last_of last (ids_after t last (length ps))) (length qs))
 
   pub with-more : (last : ℕ) (ps qs : List RedirPacket) → with_ids t last (ps ++ qs) ≡ with_ids t last ps ++ with_ids t (last_of last (ids_after t last (length ps))) qs
-  with-more last ps qs = zip-append (greatest (wide_ids t.caps)) (flying_in t) last ps qs
+  with-more last ps qs = zip-append (greatest (wide_ids t.sides.agreed)) (flying_in t) last ps qs
 
   pub bytes-more : (last : ℕ) (ps qs : List RedirPacket) → bytes_of t last (ps ++ qs) ≡ bytes_of t last ps ++ bytes_of t (last_of last (ids_after t last (length ps))) qs
   bytes-more last ps qs =
-      ap (flat_map (sent_packet_bytes t.caps)) (with-more last ps qs)
-      ∙ flat_map-append (sent_packet_bytes t.caps) (with_ids t last ps) (with_ids t (last_of last (ids_after t last (length ps))) qs)
+      ap (flat_map (sent_packet_bytes t.sides.agreed)) (with-more last ps qs)
+      ∙ flat_map-append (sent_packet_bytes t.sides.agreed) (with_ids t last ps) (with_ids t (last_of last (ids_after t last (length ps))) qs)
 
   pub stops-more : (c : SentIds) (ps qs : List RedirPacket) → after_stops t c (ps ++ qs) ≡ after_stops t (after_stops t c ps) qs
   stops-more c ps qs =
@@ -43,7 +43,7 @@ module _ (t : Kept) where
       λ i. record {
         stream_ids = (ap (λ l. stream_ids_after l c.stream_ids) (with-more c.last ps qs) ∙ stream_ids_after-append (with_ids t c.last ps) (with_ids t later qs) c.stream_ids) i;
         last = last-more c.last ps qs i;
-        fence = (ap (last_or c.fence) (draws-append (greatest (wide_ids t.caps)) (flying_in t) c.last ps qs) ∙ last_or-append c.fence (ids_after t c.last (length ps)) (ids_after t later (length qs))) i;
+        fence = (ap (last_or c.fence) (draws-append (greatest (wide_ids t.sides.agreed)) (flying_in t) c.last ps qs) ∙ last_or-append c.fence (ids_after t c.last (length ps)) (ids_after t later (length qs))) i;
       }
 
   -- those that neither start nor stop a stream are noted nowhere

@@ -43,9 +43,9 @@ pub record IsRow (caps : Caps) (l : Live) : Type 0 where
 
 -- whatever came
 pub record IsKept (t : Kept) : Type 0 where
-  pub rows : AllByRecursion (IsRow t.caps) t.lives.live
+  pub rows : AllByRecursion (IsRow t.sides.agreed) t.lives.live
   -- a client has requests only once it has imported the device, and imports it only once nothing is left of the former
-  pub apart : t.imported ≡ true → t.lives.abandoned ≡ []
+  pub apart : t.sides.imported ≡ true → t.lives.abandoned ≡ []
   pub few : length t.lives.live ≤ MAX_LIVE
   pub left : length t.lives.abandoned ≤ MAX_LIVE
   -- each endpoint has its place
@@ -93,7 +93,7 @@ abbrev pub lost_by : ℕ → Kept → Kept
 lost_by unlinked old = record old {
   lives = no_requests;
   facts = no_facts;
-  lost = true;
+  sides = record old.sides { lost = true };
   streams = no_streams;
   fence = None;
   answered = capped (old.answered + (length old.lives.live - unlinked));
@@ -107,7 +107,7 @@ pub record HasLost (unlinked : ℕ) (old new : Kept) : Type 0 where
 abbrev pub left_by : SentIds → Kept → Kept
 left_by sent_ids old = record old {
   lives = record { live = []; abandoned = old.lives.abandoned ++ filter goes_by_id old.lives.live };
-  imported = false;
+  sides = record old.sides { imported = false };
   streams = no_streams;
   stream_ids = sent_ids.stream_ids;
   fence = sent_ids.fence;
@@ -122,7 +122,7 @@ pub record HasLeft (sent_ids : SentIds) (old new : Kept) : Type 0 where
 
 -- its number is free, and there is room for it
 pub record IsFree (t : Kept) (number : ℕ) : Type 0 where
-  pub imported : t.imported ≡ true
+  pub imported : t.sides.imported ≡ true
   pub number_free : list_any (has_number number) t.lives.live ≡ false
   pub room : length t.lives.live < MAX_LIVE
 

@@ -20,7 +20,7 @@ flying_in t = ids_in t.lives ++ ids_of_streams t.stream_ids
 
 -- the ids of so many packets, the first of them after this one
 abbrev pub ids_after : Kept → ℕ → ℕ → List ℕ
-ids_after t last n = draws (greatest (wide_ids t.caps)) (flying_in t) last n
+ids_after t last n = draws (greatest (wide_ids t.sides.agreed)) (flying_in t) last n
 
 -- packets with their ids
 abbrev pub with_ids : Kept → ℕ → List RedirPacket → List (ℕ × RedirPacket)
@@ -45,13 +45,13 @@ after_stops t c ps = record {
 }
 
 abbrev pub bytes_of : Kept → ℕ → List RedirPacket → List ℕ
-bytes_of t last ps = flat_map (sent_packet_bytes t.caps) (with_ids t last ps)
+bytes_of t last ps = flat_map (sent_packet_bytes t.sides.agreed) (with_ids t last ps)
 
 -- ---- a start
 
 -- its id, none where the stream is up
 abbrev pub start_id : Kept → ℕ → Option ℕ
-start_id t ep = if is_some (stream_at t.streams ep) then None else Some (draw (greatest (wide_ids t.caps)) (flying_in t) t.last)
+start_id t ep = if is_some (stream_at t.streams ep) then None else Some (draw (greatest (wide_ids t.sides.agreed)) (flying_in t) t.last)
 
 abbrev pub started_with : ℕ → Option ℕ → StreamIds → StreamIds
 started_with ep id ids = option_map_or (λ n. started ep n ids) id ids

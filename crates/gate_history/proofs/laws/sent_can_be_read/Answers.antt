@@ -14,5 +14,5 @@ use Rattle.gate_history.proofs.laws.sent_can_be_read.Goals as goal
 pub returns : goal.returns
 returns c = λ first events are.
     let xs = arrivals events in
-    subst (λ (ps : List (ℕ × RedirPacket)). Each (Reads (state_of first (history first events)).agreed) ps) (sym (all-run to_host first xs))
-    (subst (λ (st : State). Each (Reads st.agreed) (all_given to_host first xs)) (sym (state-run first xs)) (goes first xs (comes events are).0).read)
+    subst (λ (ps : List (ℕ × RedirPacket)). Each (Reads (state_of first (history first events)).sides.agreed) ps) (sym (all-run to_host first xs))
+    (subst (λ (st : State). Each (Reads st.sides.agreed) (all_given to_host first xs)) (sym (state-run first xs)) (goes first xs (comes events are).0).read)

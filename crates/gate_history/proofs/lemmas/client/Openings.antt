@@ -130,7 +130,7 @@ WaitsWell _ = Unit {0}
 
 pub record IsOpening (st : State) (e : Effect) : Type 0 where
   -- a client that has imported accepts, a number that isn't live is accepted, and an import finds nothing abandoned
-  pub imported : Each (λ s. st.imported ≡ true) (opened e)
+  pub imported : Each (λ s. st.sides.imported ≡ true) (opened e)
   pub new : Each (λ s. has_number st s.request.seqnum ≡ false) (opened e)
   pub alone : imports e ≡ true → st.abandoned ≡ []
   -- one that lives on finds room, and its id was drawn
@@ -143,7 +143,7 @@ pub record IsOpening (st : State) (e : Effect) : Type 0 where
 -- one that opens nothing and imports nothing
 none : (st : State) (e : Effect) → opened e ≡ [] → imports e ≡ false → WaitsWell e → IsOpening st e
 none st e nil k well = record {
-  imported = subst (Each (λ s. st.imported ≡ true)) (sym nil) tt;
+  imported = subst (Each (λ s. st.sides.imported ≡ true)) (sym nil) tt;
   new = subst (Each (λ s. has_number st s.request.seqnum ≡ false)) (sym nil) tt;
   alone = λ h. absurd (false≢true (sym k ∙ h));
   room = subst (Each (λ s. is_none (ends e s) ≡ true → length st.live < MAX_LIVE)) (sym nil) tt;
@@ -172,8 +172,8 @@ opening-import st None h = none st (imported_as st None) refl refl tt
 opening-import st (Some c) h = record { imported = tt; new = tt; alone = λ k. h; room = tt; drawn = tt; routes = tt; going = tt; waits = tt }
 
 opening-op : (st : State) (place : ℕ) (p : OpPacket) → IsOpening st (asked_meaning st place (Op p))
-opening-op st place (op.ReqDevlist status) = when st st.imported _ _ (λ h. none st _ refl refl tt) (λ h. none st _ refl refl tt)
-opening-op st place (op.ReqImport status busid) = when st st.imported _ _ (λ h. none st _ refl refl tt) (λ h. by (is_exported busid && is_empty st.abandoned && is_none st.fence) refl)
+opening-op st place (op.ReqDevlist status) = when st st.sides.imported _ _ (λ h. none st _ refl refl tt) (λ h. none st _ refl refl tt)
+opening-op st place (op.ReqImport status busid) = when st st.sides.imported _ _ (λ h. none st _ refl refl tt) (λ h. by (is_exported busid && is_empty st.abandoned && is_none st.fence) refl)
   where
     by : (b : Bool) → (is_exported busid && is_empty st.abandoned && is_none st.fence) ≡ b → IsOpening st (imported_as st (cond b st.facts.connect None))
     by true e = opening-import st st.facts.connect (none-nil st.abandoned (middle (is_exported busid) (is_empty st.abandoned) (is_none st.fence) e))
@@ -188,7 +188,7 @@ own n = grind arith
 lives-on : (s : Submission) → is_none (ends (Opens s) s) ≡ true → is_none (at_once s.verdict) ≡ true
 lives-on s h = sym (ap (λ (b : Bool). is_none (cond b (at_once s.verdict) (cond (is_touched s.verdict s.verdict) (Some (ByStatus ESHUTDOWN)) None))) (own s.place)) ∙ h
 
-module _ (st : State) (r : Request) (in_session : st.imported ≡ true) (new : has_number st r.seqnum ≡ false) where
+module _ (st : State) (r : Request) (in_session : st.sides.imported ≡ true) (new : has_number st r.seqnum ≡ false) where
   opening-now : (s : Submission) → s.request ≡ r → (is_none (at_once s.verdict) ≡ true → length st.live < MAX_LIVE) → HasRoute s.verdict →
       (goes_by_id s.verdict ≡ true → s.id ≡ last_of 0 (drawn_for st s.request s.verdict)) → IsOpening st (Opens s)
   opening-now s is room sends drawn = record {
@@ -227,9 +227,9 @@ module _ (st : State) (r : Request) (in_session : st.imported ≡ true) (new : h
 
 opening-urb : (st : State) (place : ℕ) (p : UrbPacket) → IsOpening st (asked_meaning st place (Urb p))
 opening-urb st place (urb.Submit s) =
-    when st (not st.imported) _ _ (λ h. none st _ refl refl tt)
-    (λ h. when st (has_number st s.head.seqnum) _ _ (λ k. none st _ refl refl tt) (λ k. opening-submit st (request_of s) (not-false st.imported h) k))
-opening-urb st place (urb.Unlink u) = when st (not st.imported) _ _ (λ h. none st _ refl refl tt) (λ h. none st _ refl refl tt)
+    when st (not st.sides.imported) _ _ (λ h. none st _ refl refl tt)
+    (λ h. when st (has_number st s.head.seqnum) _ _ (λ k. none st _ refl refl tt) (λ k. opening-submit st (request_of s) (not-false st.sides.imported h) k))
+opening-urb st place (urb.Unlink u) = when st (not st.sides.imported) _ _ (λ h. none st _ refl refl tt) (λ h. none st _ refl refl tt)
 opening-urb st place (urb.RetSubmit r) = none st _ refl refl tt
 opening-urb st place (urb.RetUnlink r) = none st _ refl refl tt
 

@@ -31,7 +31,7 @@ use Rattle.gate_history.specs.state.Ups.{Up, no_streams, moved_streams, is_ended
 pub record IsQuiet (st : State) : Type 0 where
   pub live : st.live ≡ []
   pub connect : st.facts.connect ≡ None
-  pub imported : st.imported ≡ false
+  pub imported : st.sides.imported ≡ false
   pub streams : st.streams ≡ no_streams
 
 -- an effect that nobody waits for
@@ -77,14 +77,14 @@ none-either true o e = e
 none-either false o e = refl
 
 asks-op : (st : State) (place : ℕ) (p : OpPacket) → IsQuiet st → IsStill (asked_meaning st place (Op p))
-asks-op st place (op.ReqDevlist status) q = either st.imported _ _ (refuses _) (replies _)
-asks-op st place (op.ReqImport status busid) q = either st.imported _ _ (refuses _) (import-fails st (importable st busid) (none-either (is_exported busid && is_empty st.abandoned && is_none st.fence) st.facts.connect q.connect))
+asks-op st place (op.ReqDevlist status) q = either st.sides.imported _ _ (refuses _) (replies _)
+asks-op st place (op.ReqImport status busid) q = either st.sides.imported _ _ (refuses _) (import-fails st (importable st busid) (none-either (is_exported busid && is_empty st.abandoned && is_none st.fence) st.facts.connect q.connect))
 asks-op st place (op.RepDevlist status devices) q = idle
 asks-op st place (op.RepImport status device) q = idle
 
 asks-urb : (st : State) (place : ℕ) (p : UrbPacket) → IsQuiet st → IsStill (asked_meaning st place (Urb p))
-asks-urb st place (urb.Submit s) q = refused-first st.imported _ _ q.imported (refuses _)
-asks-urb st place (urb.Unlink u) q = refused-first st.imported _ _ q.imported (refuses _)
+asks-urb st place (urb.Submit s) q = refused-first st.sides.imported _ _ q.imported (refuses _)
+asks-urb st place (urb.Unlink u) q = refused-first st.sides.imported _ _ q.imported (refuses _)
 asks-urb st place (urb.RetSubmit r) q = idle
 asks-urb st place (urb.RetUnlink r) q = idle
 
@@ -111,7 +111,7 @@ pub none-live : (st : State) (e : Effect) → st.live ≡ [] → opened e ≡ []
 none-live st e live opens =
     (λ i. map (ask e) (filter (λ p. is_none (ends e p.submit)) (live i ++ map fresh (opens i))))
 
-pub none-sent : (st : State) (e : Effect) → st.live ≡ [] → asked_packets st.streams e ≡ [] → acknowledgements st.agreed e ≡ [] → to_host st (mark_as st e None) ≡ []
+pub none-sent : (st : State) (e : Effect) → st.live ≡ [] → asked_packets st.streams e ≡ [] → acknowledgements st.sides.agreed e ≡ [] → to_host st (mark_as st e None) ≡ []
 none-sent st e live asks acks =
     λ i. map cancel (filter (cancels e) (live i)) ++ zip (next_ids st (length (asks i))) (asks i) ++ acks i
 
@@ -129,10 +129,10 @@ stays st e q s = record {
   quiet = record {
     live = none-live st e q.live s.opens;
     connect = lost (is_loss e);
-    imported = turned-off (imports e) (leaves e) st.imported s.imports-none q.imported;
+    imported = turned-off (imports e) (leaves e) st.sides.imported s.imports-none q.imported;
     streams = kept (leaves e) (is_loss e);
   };
-  sends = none-sent st e q.live (ap (λ (ups : List (Option Up)). asked_packets ups e) q.streams ∙ s.asks) (s.acks st.agreed);
+  sends = none-sent st e q.live (ap (λ (ups : List (Option Up)). asked_packets ups e) q.streams ∙ s.asks) (s.acks st.sides.agreed);
 }
   where
     lost : (b : Bool) → (cond b no_facts st.facts).connect ≡ None

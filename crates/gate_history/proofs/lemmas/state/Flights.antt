@@ -30,7 +30,7 @@ use Rattle.gate_history.specs.declared.verdict.Verdict.{Verdict}
 use Rattle.gate_history.specs.declared.verdict.Verdict.TheVariants.{Now, Wire, Routed, IsoOut, Stream}
 use Rattle.gate_history.specs.client.Verdict.{goes_by_id}
 use Rattle.gate_history.specs.step.Marks.{Submission, Effect, Idle, Replies, Imports, Opens, Waits, Unlinks, Agrees, Answers, Arrives, StreamTold, Disconnects, Ends, Refuses, Mark}
-use Rattle.gate_history.specs.state.Sides.{is_client, leaves, is_loss, imports, imported}
+use Rattle.gate_history.specs.state.Sides.{is_client, leaves, is_loss, imports, sides}
 use Rattle.gate_history.specs.client.Submits.{pending, opened, live, is_answered, abandoned}
 use Rattle.gate_history.specs.client.Ends.{End, ByClient, ByLoss, at_once, is_waiting, own_end, ends}
 use Rattle.gate_history.specs.state.Flight.{wide_ids, ids_of, in_flight}
@@ -100,8 +100,8 @@ length-ids ss = omega (arith, length-map (filter (λ (s : Submission). goes_by_i
 pub record Sound (ms : List Mark) : Type 0 where
   pub few : length (live ms) ≤ MAX_LIVE
   pub left : length (abandoned ms) ≤ MAX_LIVE
-  pub apart : imported ms ≡ true → abandoned ms ≡ []
-  pub gone : imported ms ≡ false → live ms ≡ []
+  pub apart : (sides ms).imported ≡ true → abandoned ms ≡ []
+  pub gone : (sides ms).imported ≡ false → live ms ≡ []
   pub once : Once (in_flight ms)
   pub going : Each (λ s. at_once s.verdict ≡ None) (live ms)
 
@@ -152,10 +152,10 @@ large : (wide : Bool) → 4294967295 ≤ greatest wide
 large true = omega arith
 large false = omega arith
 
-fresh-ids : (first : ℕ) (ms : List Mark) (n : ℕ) → Sound ms → n ≤ 1025 → AreFresh (greatest (wide_ids (state_of first ms).agreed)) (flying (state_of first ms)) (next_ids (state_of first ms) n)
+fresh-ids : (first : ℕ) (ms : List Mark) (n : ℕ) → Sound ms → n ≤ 1025 → AreFresh (greatest (wide_ids (state_of first ms).sides.agreed)) (flying (state_of first ms)) (next_ids (state_of first ms) n)
 fresh-ids first ms n s short =
-    draws-fresh (greatest (wide_ids (state_of first ms).agreed)) (flying (state_of first ms)) (state_of first ms).last n
-    (omega (arith, large (wide_ids (state_of first ms).agreed), few-flying ms s, ap length (flying-is first ms), short))
+    draws-fresh (greatest (wide_ids (state_of first ms).sides.agreed)) (flying (state_of first ms)) (state_of first ms).last n
+    (omega (arith, large (wide_ids (state_of first ms).sides.agreed), few-flying ms s, ap length (flying-is first ms), short))
 
 -- ---- ids that are fresh are there once, and not among those in flight
 
@@ -290,7 +290,7 @@ opens-more st s (Wire pipe) long some drawn = record {
 opens-more st s (IsoOut row) long some drawn =
     let start = starts (stream_at st.streams s.request.transfer.ep) s.request.transfer.ep row in
     let isos = iso_packets s.request in
-    let m = greatest (wide_ids st.agreed) in
+    let m = greatest (wide_ids st.sides.agreed) in
     let f = flying st in
     record {
       count = length start;
@@ -304,7 +304,7 @@ opens-more st s (IsoOut row) long some drawn =
 opens-more st s (Routed r) long some drawn =
     let stopping = stops (is_ended (Some r)) st.streams in
     let asking = route_packets r in
-    let m = greatest (wide_ids st.agreed) in
+    let m = greatest (wide_ids st.sides.agreed) in
     let f = flying st in
     let first = next_ids st (length stopping) in
     let later = draws m f (last_of st.last first) (length asking) in
@@ -356,7 +356,7 @@ module _ (first : ℕ) (ms : List Mark) (m : Mark) (w : IsWell (m ∷ ms)) (o : 
       ap (λ (ids : List ℕ). times q (ids_of_streams (stream_ids_after (zip ids (asked_packets (streams ms) m.what)) (stream_ids ms)))) d in
       let same = ap (times q) (flying-is first ms) in
       let parts = times-append q (ids_of (live ms) ++ ids_of (abandoned ms)) (ids_of_streams (stream_ids ms)) in
-      still-once (greatest (wide_ids (state_of first ms).agreed)) q (flying (state_of first ms)) (next_ids (state_of first ms) a.count) _ fresh (omega (arith, same, s.once q)) (omega (arith, few, a.adds q, drawn, same, parts))
+      still-once (greatest (wide_ids (state_of first ms).sides.agreed)) q (flying (state_of first ms)) (next_ids (state_of first ms) a.count) _ fresh (omega (arith, same, s.once q)) (omega (arith, few, a.adds q, drawn, same, parts))
 
   keeps : Submission → Bool
   keeps t = is_none (ends m.what t)
@@ -380,13 +380,13 @@ module _ (first : ℕ) (ms : List Mark) (m : Mark) (w : IsWell (m ∷ ms)) (o : 
       let short = length-filter (λ (t : Submission). goes_by_id t.verdict) (live ms) in
       record {
         few = rw empty (omega arith);
-        left = rw rest (elim (cases_Bool (imported ms)) [
+        left = rw rest (elim (cases_Bool (sides ms).imported) [
           | inl in_session ↦ let nil = ap length (s.apart in_session) in omega (arith, long, short, s.few, nil)
           | inr out ↦ let nil = ap length (s.gone out) in omega (arith, long, short, s.left, nil)
         ]);
         apart = λ k. elim (cases_Bool (imports m.what)) [
           | inl yes_it ↦ absurd (not_importing h yes_it)
-          | inr not_it ↦ let z : imported (m ∷ ms) ≡ false = (λ i. cond (not_it i) true (cond (h i) false (imported ms))) in absurd (false≢true (sym z ∙ k))
+          | inr not_it ↦ let z : (sides (m ∷ ms)).imported ≡ false = (λ i. cond (not_it i) true (cond (h i) false (sides ms).imported)) in absurd (false≢true (sym z ∙ k))
         ];
         gone = λ k. empty;
         once = λ q.
@@ -443,7 +443,7 @@ module _ (first : ℕ) (ms : List Mark) (m : Mark) (w : IsWell (m ∷ ms)) (o : 
       by rest true e = (r.0 e, rest)
       by rest false e = rest
 
-  none-opened : (os : List Submission) → Each (λ t. imported ms ≡ true) os → imported ms ≡ false → os ≡ []
+  none-opened : (os : List Submission) → Each (λ t. (sides ms).imported ≡ true) os → (sides ms).imported ≡ false → os ≡ []
   none-opened [] h k = refl
   none-opened (t ∷ os) h k = absurd (false≢true (sym k ∙ h.0))
 
@@ -467,14 +467,14 @@ module _ (first : ℕ) (ms : List Mark) (m : Mark) (w : IsWell (m ∷ ms)) (o : 
             omega (arith, a, b, s.left);
         apart = λ k. rest ∙ ap (filter (λ t. not (is_answered m.what t))) (elim (cases_Bool (imports m.what)) [
           | inl yes_it ↦ o.alone yes_it
-          | inr not_it ↦ let z : imported (m ∷ ms) ≡ imported ms = (λ i. cond (not_it i) true (cond (h i) false (imported ms))) in s.apart (sym z ∙ k)
+          | inr not_it ↦ let z : (sides (m ∷ ms)).imported ≡ (sides ms).imported = (λ i. cond (not_it i) true (cond (h i) false (sides ms).imported)) in s.apart (sym z ∙ k)
         ]);
         gone = λ k.
             elim (cases_Bool (imports m.what)) [
-              | inl yes_it ↦ let z : imported (m ∷ ms) ≡ true = ap (λ (b : Bool). cond b true (cond (leaves m.what) false (imported ms))) yes_it in absurd (false≢true (sym k ∙ z))
+              | inl yes_it ↦ let z : (sides (m ∷ ms)).imported ≡ true = ap (λ (b : Bool). cond b true (cond (leaves m.what) false (sides ms).imported)) yes_it in absurd (false≢true (sym k ∙ z))
               | inr not_it ↦
-                  let z : imported (m ∷ ms) ≡ imported ms = (λ i. cond (not_it i) true (cond (h i) false (imported ms))) in
-                  let out : imported ms ≡ false = sym z ∙ k in
+                  let z : (sides (m ∷ ms)).imported ≡ (sides ms).imported = (λ i. cond (not_it i) true (cond (h i) false (sides ms).imported)) in
+                  let out : (sides ms).imported ≡ false = sym z ∙ k in
                   kept ∙ (λ i. filter (λ t. is_none (ends m.what t)) (s.gone out i ++ none-opened (opened m.what) o.imported out i))
             ];
         once = λ q.
@@ -529,7 +529,7 @@ none-fresh : (m : ℕ) (flying : List ℕ) → AreFresh m flying []
 unfolding IsDistinct
 none-fresh m flying = record { fit = tt; free = tt; differ = tt }
 
-drawn-fresh : (first : ℕ) (ms : List Mark) (e : Effect) → Sound ms → Each (λ t. length t.request.descs ≤ MAX_PACKETS) (opened e) → AreFresh (greatest (wide_ids (state_of first ms).agreed)) (flying (state_of first ms)) (drawn_by (state_of first ms) e)
+drawn-fresh : (first : ℕ) (ms : List Mark) (e : Effect) → Sound ms → Each (λ t. length t.request.descs ≤ MAX_PACKETS) (opened e) → AreFresh (greatest (wide_ids (state_of first ms).sides.agreed)) (flying (state_of first ms)) (drawn_by (state_of first ms) e)
 drawn-fresh first ms (Opens t) s few = fresh-ids first ms (length (packets_of (streams ms) t.verdict t.request)) s (few-packets (streams ms) t.verdict t.request (streams-long ms) few.0)
 drawn-fresh first ms (Waits t fill) s few = fresh-ids first ms (length (packets_of (streams ms) t.verdict t.request)) s (few-packets (streams ms) t.verdict t.request (streams-long ms) few.0)
 drawn-fresh first ms (Ends side) s few = fresh-ids first ms (length (asked_packets (streams ms) (Ends side))) s (few-left (is_client side || false))
@@ -579,8 +579,8 @@ few-submit st r v few =
 few-opened : (st : State) (x : Item) → HasFewPackets x → OpensFew (meaning st x)
 few-opened st (Asked place (Op p)) few = of-op OpensFew few-aside st place p
 few-opened st (Asked place (Urb (urb.Submit s))) few =
-    by-test OpensFew (not st.imported) _ _ tt (by-test OpensFew (has_number st s.head.seqnum) _ _ tt (few-submit st (request_of s) (verdict_of st (request_of s)) few))
-few-opened st (Asked place (Urb (urb.Unlink u))) few = by-test OpensFew (not st.imported) _ _ tt tt
+    by-test OpensFew (not st.sides.imported) _ _ tt (by-test OpensFew (has_number st s.head.seqnum) _ _ tt (few-submit st (request_of s) (verdict_of st (request_of s)) few))
+few-opened st (Asked place (Urb (urb.Unlink u))) few = by-test OpensFew (not st.sides.imported) _ _ tt tt
 few-opened st (Asked place (Urb (urb.RetSubmit r))) few = tt
 few-opened st (Asked place (Urb (urb.RetUnlink r))) few = tt
 few-opened st (ClientWrong place reason) few = tt
@@ -589,7 +589,7 @@ few-opened st (Told place header packet) few = few-told st place header packet
 few-opened st (HostWrong place reason) few = tt
 few-opened st HostLeft few = tt
 
-pub item-fresh : (first : ℕ) (xs : List Item) (x : Item) → HasFewPackets x → AreFresh (greatest (wide_ids (state_of first (past first xs)).agreed)) (in_flight (past first xs)) (mark_of (state_of first (past first xs)) x).drawn
+pub item-fresh : (first : ℕ) (xs : List Item) (x : Item) → HasFewPackets x → AreFresh (greatest (wide_ids (state_of first (past first xs)).sides.agreed)) (in_flight (past first xs)) (mark_of (state_of first (past first xs)) x).drawn
 item-fresh first xs x few =
-    subst (λ (ids : List ℕ). AreFresh (greatest (wide_ids (state_of first (past first xs)).agreed)) ids (mark_of (state_of first (past first xs)) x).drawn) (flying-is first (past first xs))
+    subst (λ (ids : List ℕ). AreFresh (greatest (wide_ids (state_of first (past first xs)).sides.agreed)) ids (mark_of (state_of first (past first xs)) x).drawn) (flying-is first (past first xs))
     (drawn-fresh first (past first xs) (meaning (state_of first (past first xs)) x) (sound first xs) (few-opened (state_of first (past first xs)) x few))

@@ -215,8 +215,8 @@ module _ (st : State) (held : Each HoldsFew st.streams) where
   few-left : (x : Item) → LeavesFew (meaning st x)
   few-left (Asked place (Op p)) = of-op LeavesFew few-aside st place p
   few-left (Asked place (Urb (urb.Submit s))) =
-      by-test LeavesFew (not st.imported) _ _ tt (by-test LeavesFew (has_number st s.head.seqnum) _ _ tt (few-submit (request_of s) (verdict_of st (request_of s))))
-  few-left (Asked place (Urb (urb.Unlink u))) = by-test LeavesFew (not st.imported) _ _ tt tt
+      by-test LeavesFew (not st.sides.imported) _ _ tt (by-test LeavesFew (has_number st s.head.seqnum) _ _ tt (few-submit (request_of s) (verdict_of st (request_of s))))
+  few-left (Asked place (Urb (urb.Unlink u))) = by-test LeavesFew (not st.sides.imported) _ _ tt tt
   few-left (Asked place (Urb (urb.RetSubmit r))) = tt
   few-left (Asked place (Urb (urb.RetUnlink r))) = tt
   few-left (ClientWrong place reason) = tt

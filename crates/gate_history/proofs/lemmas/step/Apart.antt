@@ -29,7 +29,7 @@ use Rattle.gate_history.specs.client.Requests.{request_of}
 use Rattle.gate_history.specs.declared.verdict.Verdict.{Verdict}
 use Rattle.gate_history.specs.declared.verdict.Verdict.TheVariants.{Now}
 use Rattle.gate_history.specs.step.Marks.{Submission, Effect, Mark}
-use Rattle.gate_history.specs.state.Sides.{is_client, agrees, refuses_client, ends_client, closes_host, client_over, host_over, agreed}
+use Rattle.gate_history.specs.state.Sides.{is_client, agrees, refuses_client, ends_client, closes_host, client_over, host_over, sides}
 use Rattle.gate_history.specs.state.Ups.{Up, stream_at, stream_of}
 use Rattle.gate_history.specs.state.State.{State, state_of, has_number}
 use Rattle.gate_history.specs.host.Responses.{Response, Data, Status, response_of, answer_kind, expected_of, mismatch}
@@ -48,8 +48,8 @@ client-import st None = record { closes = refl; agrees-none = refl }
 client-import st (Some c) = record { closes = refl; agrees-none = refl }
 
 client-op : (st : State) (place : ℕ) (p : OpPacket) → SparesHost (asked_meaning st place (Op p))
-client-op st place (op.ReqDevlist status) = by-test SparesHost st.imported _ _ (record { closes = refl; agrees-none = refl }) (record { closes = refl; agrees-none = refl })
-client-op st place (op.ReqImport status busid) = by-test SparesHost st.imported _ _ (record { closes = refl; agrees-none = refl }) (client-import st (importable st busid))
+client-op st place (op.ReqDevlist status) = by-test SparesHost st.sides.imported _ _ (record { closes = refl; agrees-none = refl }) (record { closes = refl; agrees-none = refl })
+client-op st place (op.ReqImport status busid) = by-test SparesHost st.sides.imported _ _ (record { closes = refl; agrees-none = refl }) (client-import st (importable st busid))
 client-op st place (op.RepDevlist status devices) = record { closes = refl; agrees-none = refl }
 client-op st place (op.RepImport status device) = record { closes = refl; agrees-none = refl }
 
@@ -64,9 +64,9 @@ client-submit st r v =
 
 client-urb : (st : State) (place : ℕ) (p : UrbPacket) → SparesHost (asked_meaning st place (Urb p))
 client-urb st place (urb.Submit s) =
-    by-test SparesHost (not st.imported) _ _ (record { closes = refl; agrees-none = refl })
+    by-test SparesHost (not st.sides.imported) _ _ (record { closes = refl; agrees-none = refl })
     (by-test SparesHost (has_number st s.head.seqnum) _ _ (record { closes = refl; agrees-none = refl }) (client-submit st (request_of s) (verdict_of st (request_of s))))
-client-urb st place (urb.Unlink u) = by-test SparesHost (not st.imported) _ _ (record { closes = refl; agrees-none = refl }) (record { closes = refl; agrees-none = refl })
+client-urb st place (urb.Unlink u) = by-test SparesHost (not st.sides.imported) _ _ (record { closes = refl; agrees-none = refl }) (record { closes = refl; agrees-none = refl })
 client-urb st place (urb.RetSubmit r) = record { closes = refl; agrees-none = refl }
 client-urb st place (urb.RetUnlink r) = record { closes = refl; agrees-none = refl }
 
@@ -169,11 +169,11 @@ host-same first xs x s =
     let st = state_of first ms in
     put-by host_over ms (mark_of st x) (is_left_out st x) (turned-same (closes_host (meaning st x)) false (host_over ms) s.closes refl)
 
-agreed-same : (first : ℕ) (xs : List Item) (x : Item) → agrees (meaning (state_of first (past first xs)) x) ≡ None → agreed (past first (x ∷ xs)) ≡ agreed (past first xs)
+agreed-same : (first : ℕ) (xs : List Item) (x : Item) → agrees (meaning (state_of first (past first xs)) x) ≡ None → (sides (past first (x ∷ xs))).agreed ≡ (sides (past first xs)).agreed
 agreed-same first xs x e =
     let ms = past first xs in
     let st = state_of first ms in
-    put-by agreed ms (mark_of st x) (is_left_out st x) (ap (λ (o : Option Caps). unwrap_or o (agreed ms)) e)
+    put-by (λ (l : List Mark). (sides l).agreed) ms (mark_of st x) (is_left_out st x) (ap (λ (o : Option Caps). unwrap_or o (sides ms).agreed) e)
 
 client-same : (first : ℕ) (xs : List Item) (x : Item) → SparesClient (meaning (state_of first (past first xs)) x) → client_over (past first (x ∷ xs)) ≡ client_over (past first xs)
 client-same first xs x s =
@@ -192,13 +192,13 @@ wrong-host first xs place why = host-same first xs (ClientWrong place why) (reco
 pub left-host : (first : ℕ) (xs : List Item) → host_over (past first (ClientLeft ∷ xs)) ≡ host_over (past first xs)
 left-host first xs = host-same first xs ClientLeft (record { closes = refl; agrees-none = refl })
 
-pub asked-agreed : (first : ℕ) (xs : List Item) (place : ℕ) (p : ClientPacket) → agreed (past first (Asked place p ∷ xs)) ≡ agreed (past first xs)
+pub asked-agreed : (first : ℕ) (xs : List Item) (place : ℕ) (p : ClientPacket) → (sides (past first (Asked place p ∷ xs))).agreed ≡ (sides (past first xs)).agreed
 asked-agreed first xs place p = agreed-same first xs (Asked place p) (client-asked (state_of first (past first xs)) place p).agrees-none
 
-pub wrong-agreed : (first : ℕ) (xs : List Item) (place : ℕ) (why : Reason) → agreed (past first (ClientWrong place why ∷ xs)) ≡ agreed (past first xs)
+pub wrong-agreed : (first : ℕ) (xs : List Item) (place : ℕ) (why : Reason) → (sides (past first (ClientWrong place why ∷ xs))).agreed ≡ (sides (past first xs)).agreed
 wrong-agreed first xs place why = agreed-same first xs (ClientWrong place why) refl
 
-pub left-agreed : (first : ℕ) (xs : List Item) → agreed (past first (ClientLeft ∷ xs)) ≡ agreed (past first xs)
+pub left-agreed : (first : ℕ) (xs : List Item) → (sides (past first (ClientLeft ∷ xs))).agreed ≡ (sides (past first xs)).agreed
 left-agreed first xs = agreed-same first xs ClientLeft refl
 
 pub told-client : (first : ℕ) (xs : List Item) (place : ℕ) (h : Header) (p : RedirPacket) → client_over (past first (Told place h p ∷ xs)) ≡ client_over (past first xs)

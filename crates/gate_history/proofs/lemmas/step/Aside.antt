@@ -30,8 +30,8 @@ module _ (P : Effect → Type 0) (aside : HoldsAside P) where
   of-import st (Some c) = aside.imports _
 
   pub of-op : (st : State) (place : ℕ) (p : OpPacket) → P (asked_meaning st place (Op p))
-  of-op st place (op.ReqDevlist status) = by-test P st.imported _ _ (aside.refuses _) (aside.replies _)
-  of-op st place (op.ReqImport status busid) = by-test P st.imported _ _ (aside.refuses _) (of-import st (importable st busid))
+  of-op st place (op.ReqDevlist status) = by-test P st.sides.imported _ _ (aside.refuses _) (aside.replies _)
+  of-op st place (op.ReqImport status busid) = by-test P st.sides.imported _ _ (aside.refuses _) (of-import st (importable st busid))
   of-op st place (op.RepDevlist status devices) = aside.idle
   of-op st place (op.RepImport status device) = aside.idle
 

@@ -23,7 +23,7 @@ use Rattle.gate_history.specs.step.Streams.{host_reader}
 use Rattle.gate_history.specs.declared.item.Item.{Item}
 use Rattle.gate_history.specs.declared.item.Item.TheVariants.{Asked, ClientWrong, ClientLeft, Told, HostWrong, HostLeft}
 use Rattle.gate_history.specs.step.Marks.{Mark}
-use Rattle.gate_history.specs.state.Sides.{closes_host, host_over, agreed, agrees}
+use Rattle.gate_history.specs.state.Sides.{closes_host, host_over, sides, agrees}
 use Rattle.gate_history.specs.state.State.{State, state_of}
 use Rattle.gate_history.specs.state.Flight.{wide_ids}
 use Rattle.gate_history.specs.host.Responses.{Response, Data, Status, response_of}
@@ -92,13 +92,13 @@ pub left-over : (first : ℕ) (xs : List Item) → host_over (past first (HostLe
 left-over first xs = let ms = past first xs in closing-by ms (mark_of (state_of first ms) HostLeft) refl (host_over ms) refl
 
 told-agreed : (first : ℕ) (xs : List Item) (place : ℕ) (h : Header) (p : RedirPacket) → host_over (past first xs) ≡ false →
-    agreed (past first (Told place h p ∷ xs)) ≡ unwrap_or (agrees (told_meaning (state_of first (past first xs)) place h p)) (agreed (past first xs))
+    (sides (past first (Told place h p ∷ xs))).agreed ≡ unwrap_or (agrees (told_meaning (state_of first (past first xs)) place h p)) (sides (past first xs)).agreed
 told-agreed first xs place h p going =
     let ms = past first xs in
-    ap (λ (b : Bool). agreed (cond b ms (mark_of (state_of first ms) (Told place h p) ∷ ms))) going
+    ap (λ (b : Bool). (sides (cond b ms (mark_of (state_of first ms) (Told place h p) ∷ ms))).agreed) going
 
 -- behind all packets of a host that isn't over
-pub in-step : (first : ℕ) (xs : List Item) → host_over (past first xs) ≡ false → IsInStep (states after start (told xs)) (agreed (past first xs))
+pub in-step : (first : ℕ) (xs : List Item) → host_over (past first xs) ≡ false → IsInStep (states after start (told xs)) (sides (past first xs)).agreed
 unfolding states
 in-step first [] going = record { caps_are = refl; none_yet = λ _. refl }
 in-step first (Asked place p ∷ xs) going =
@@ -110,18 +110,18 @@ in-step first (ClientLeft ∷ xs) going =
 in-step first (Told place h p ∷ xs) going =
     let was = host-before first xs (Told place h p) going in
     let ms = past first xs in
-    let step = told-step (state_of first ms) place h p (states after start (told xs)) (agreed ms) (in-step first xs was) in
+    let step = told-step (state_of first ms) place h p (states after start (told xs)) (sides ms).agreed (in-step first xs was) in
     let behind-it : states after start (told xs ++ (place, (h, p)) ∷ []) ≡ advanced (states after start (told xs)) p = states-more after start (told xs) (place, (h, p)) in
-    subst (λ (s : RedirState). IsInStep s (agreed (past first (Told place h p ∷ xs)))) (sym behind-it)
+    subst (λ (s : RedirState). IsInStep s (sides (past first (Told place h p ∷ xs))).agreed) (sym behind-it)
     (subst (IsInStep (advanced (states after start (told xs)) p)) (sym (told-agreed first xs place h p was)) step)
 in-step first (HostWrong place why ∷ xs) going = absurd (true≢false (sym (wrong-over first xs place why) ∙ going))
 in-step first (HostLeft ∷ xs) going = absurd (true≢false (sym (left-over first xs) ∙ going))
 
 -- the next packet of a host that isn't over
 pub told-fits : (first : ℕ) (xs : List Item) (bytes : List ℕ) (left : List (ℕ × (Header × RedirPacket))) (i : ℕ × (Header × RedirPacket)) → host_over (past first xs) ≡ false → AreBytes bytes →
-    (split host_reader stream_start bytes).packets ≡ told xs ++ i ∷ left → ToldFits (agreed (past first xs)) i.1.0 i.1.1
+    (split host_reader stream_start bytes).packets ≡ told xs ++ i ∷ left → ToldFits (sides (past first xs)).agreed i.1.0 i.1.1
 told-fits first xs bytes left i going are is =
-    told_fits (states after start (told xs)) (agreed (past first xs)) i.1.0 i.1.1 (in-step first xs going)
+    told_fits (states after start (told xs)) (sides (past first xs)).agreed i.1.0 i.1.1 (in-step first xs going)
     (fits-at (stream_format ToGuest) after (stream_sound ToGuest) stream_start bytes (told xs) left i are is)
 
 -- ---- there is one proof of it

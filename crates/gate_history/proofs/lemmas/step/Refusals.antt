@@ -61,24 +61,24 @@ accepts-all st s (Now status) = refl
 accepts-all st s _ = refl
 
 asked-so : (st : State) (place : ℕ) (p : ClientPacket) → refused_at (meaning st (Asked place p)) ≡ client_rule st place p
-asked-so st place (Op (op.ReqDevlist status)) = chosen st.imported _ _ (Some (refusal Client place AlreadyImported)) None refl refl
-asked-so st place (Op (op.ReqImport status busid)) = chosen st.imported _ _ (Some (refusal Client place AlreadyImported)) None refl (imports-all st (importable st busid))
+asked-so st place (Op (op.ReqDevlist status)) = chosen st.sides.imported _ _ (Some (refusal Client place AlreadyImported)) None refl refl
+asked-so st place (Op (op.ReqImport status busid)) = chosen st.sides.imported _ _ (Some (refusal Client place AlreadyImported)) None refl (imports-all st (importable st busid))
 asked-so st place (Op (op.RepDevlist status devices)) = refl
 asked-so st place (Op (op.RepImport status device)) = refl
 asked-so st place (Urb (urb.Submit s)) =
-    chosen (not st.imported) _ _ (Some (refusal Client place NotImported)) (refused_if (has_number st s.head.seqnum) (place + 4) DuplicateSeq) refl
+    chosen (not st.sides.imported) _ _ (Some (refusal Client place NotImported)) (refused_if (has_number st s.head.seqnum) (place + 4) DuplicateSeq) refl
     (chosen (has_number st s.head.seqnum) _ _ (Some (refusal Client (place + 4) DuplicateSeq)) None refl (accepts-all st _ _))
-asked-so st place (Urb (urb.Unlink u)) = chosen (not st.imported) _ _ (Some (refusal Client place NotImported)) None refl refl
+asked-so st place (Urb (urb.Unlink u)) = chosen (not st.sides.imported) _ _ (Some (refusal Client place NotImported)) None refl refl
 asked-so st place (Urb (urb.RetSubmit r)) = refl
 asked-so st place (Urb (urb.RetUnlink r)) = refl
 
 answered-so : (st : State) (place : ℕ) (h : Header) (response : Response) (o : Option Submission) →
-    refused_at (answer_to st place h response o) ≡ option_and_then (λ s. mismatch place (head_size (wide_ids st.agreed)) (expected_of s) h.kind response) o
+    refused_at (answer_to st place h response o) ≡ option_and_then (λ s. mismatch place (head_size (wide_ids st.sides.agreed)) (expected_of s) h.kind response) o
 answered-so st place h response None = refl
-answered-so st place h response (Some s) = elim (mismatch place (head_size (wide_ids st.agreed)) (expected_of s) h.kind response) as (λ o. refused_at (answered_as h.id (told_outcome s.request s.verdict response) o) ≡ o) [ None ↦ refl | Some r ↦ refl ]
+answered-so st place h response (Some s) = elim (mismatch place (head_size (wide_ids st.sides.agreed)) (expected_of s) h.kind response) as (λ o. refused_at (answered_as h.id (told_outcome s.request s.verdict response) o) ≡ o) [ None ↦ refl | Some r ↦ refl ]
 
 by-response : (st : State) (place : ℕ) (h : Header) (o : Option Response) →
-    refused_at (by_response st place h o) ≡ option_and_then (λ response. option_and_then (λ s. mismatch place (head_size (wide_ids st.agreed)) (expected_of s) h.kind response) (find (has_id h.id) (submits st ++ st.abandoned))) o
+    refused_at (by_response st place h o) ≡ option_and_then (λ response. option_and_then (λ s. mismatch place (head_size (wide_ids st.sides.agreed)) (expected_of s) h.kind response) (find (has_id h.id) (submits st ++ st.abandoned))) o
 by-response st place h None = refl
 by-response st place h (Some response) = answered-so st place h response (find (has_id h.id) (submits st ++ st.abandoned))
 
@@ -87,7 +87,7 @@ arrives-all st ep kind status body = elim (stream_of st.streams ep) as (λ o. re
 
 streamed : (st : State) (place : ℕ) (h : Header) (ep status : ℕ) (body : List ℕ) (response : Response) (b : Bool) →
     refused_at (cond b (by_arrival st ep Interrupt status body) (by_response st place h (cond b None (Some response))))
-    ≡ option_and_then (λ r. option_and_then (λ s. mismatch place (head_size (wide_ids st.agreed)) (expected_of s) h.kind r) (find (has_id h.id) (submits st ++ st.abandoned))) (cond b None (Some response))
+    ≡ option_and_then (λ r. option_and_then (λ s. mismatch place (head_size (wide_ids st.sides.agreed)) (expected_of s) h.kind r) (find (has_id h.id) (submits st ++ st.abandoned))) (cond b None (Some response))
 streamed st place h ep status body response true = arrives-all st ep Interrupt status body
 streamed st place h ep status body response false = by-response st place h (Some response)
 
@@ -139,13 +139,13 @@ pub refusals-of : (st : State) (m : Mark) → filter is_refusal (notes_of st m) 
 refusals-of st m =
     let first = came_notes m.what ++ submit_notes m.what in
     let answers = answer_notes st m.what in
-    let gone = when (is_loss m.what && st.imported && not st.lost) note.DeviceGone in
-    let left = when (leaves m.what && not st.client_over) note.ClientGone in
+    let gone = when (is_loss m.what && st.sides.imported && not st.sides.lost) note.DeviceGone in
+    let left = when (leaves m.what && not st.sides.client_over) note.ClientGone in
     let none = both (first ++ answers ++ gone) left
     (both (first ++ answers) gone (both first answers (told-first m.what)
     (none-mapped (λ (p : Pending). note.Answered p.submit.request.seqnum) (λ p. refl) (filter (λ p. is_by_answer (ends m.what p.submit)) (present st m.what))))
-    (none-when (is_loss m.what && st.imported && not st.lost) note.DeviceGone refl))
-    (none-when (leaves m.what && not st.client_over) note.ClientGone refl) in
+    (none-when (is_loss m.what && st.sides.imported && not st.sides.lost) note.DeviceGone refl))
+    (none-when (leaves m.what && not st.sides.client_over) note.ClientGone refl) in
     joined (first ++ answers ++ gone ++ left) (refusal_notes (refused_at m.what)) none ∙ own-refusal (refused_at m.what)
 
 -- ---- of all items

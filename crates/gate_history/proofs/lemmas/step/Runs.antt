@@ -47,8 +47,8 @@ placed-import n st None = tt
 placed-import n st (Some c) = tt
 
 placed-op : (st : State) (place : ℕ) (p : OpPacket) → IsPlaced st.items (asked_meaning st place (Op p))
-placed-op st place (op.ReqDevlist status) = either st.items st.imported _ _ tt tt
-placed-op st place (op.ReqImport status busid) = either st.items st.imported _ _ tt (placed-import st.items st (importable st busid))
+placed-op st place (op.ReqDevlist status) = either st.items st.sides.imported _ _ tt tt
+placed-op st place (op.ReqImport status busid) = either st.items st.sides.imported _ _ tt (placed-import st.items st (importable st busid))
 placed-op st place (op.RepDevlist status devices) = tt
 placed-op st place (op.RepImport status device) = tt
 
@@ -62,8 +62,8 @@ placed-submit st r v =
     placed-accepted st (submission st r kept (drawn_for st r kept)) kept refl
 
 placed-urb : (st : State) (place : ℕ) (p : UrbPacket) → IsPlaced st.items (asked_meaning st place (Urb p))
-placed-urb st place (urb.Submit s) = either st.items (not st.imported) _ _ tt (either st.items (has_number st s.head.seqnum) _ _ tt (placed-submit st (request_of s) (verdict_of st (request_of s))))
-placed-urb st place (urb.Unlink u) = either st.items (not st.imported) _ _ tt tt
+placed-urb st place (urb.Submit s) = either st.items (not st.sides.imported) _ _ tt (either st.items (has_number st s.head.seqnum) _ _ tt (placed-submit st (request_of s) (verdict_of st (request_of s))))
+placed-urb st place (urb.Unlink u) = either st.items (not st.sides.imported) _ _ tt tt
 placed-urb st place (urb.RetSubmit r) = tt
 placed-urb st place (urb.RetUnlink r) = tt
 

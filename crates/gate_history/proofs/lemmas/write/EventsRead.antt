@@ -79,8 +79,8 @@ advanced-first s (Carrying d) e = e
 pub record Goes (s : RedirState) (st : State) (sent : List (ℕ × RedirPacket)) : Type 0 where
   -- before the hello nothing is sent
   pub quiet : s.first ≡ true → IsQuiet st × (sent ≡ [])
-  pub ids : IdsFit (wide_ids st.agreed) st.live
-  pub read : Each (Reads st.agreed) sent
+  pub ids : IdsFit (wide_ids st.sides.agreed) st.live
+  pub read : Each (Reads st.sides.agreed) sent
 
 abbrev Stays : State → Effect → Option Fact → Type 0
 Stays st e fact = IsQuiet (with_mark st (mark_as st e fact)) × (to_host st (mark_as st e fact) ≡ [])
@@ -91,16 +91,16 @@ goes-on : (s z : RedirState) (st : State) (sent : List (ℕ × RedirPacket)) (e 
 goes-on s z st sent e fact true g before can stays = record {
   quiet = λ first. let q = g.quiet (before first) in (q.0, append-nil sent ∙ q.1);
   ids = g.ids;
-  read = subst (Each (Reads st.agreed)) (sym (append-nil sent)) g.read;
+  read = subst (Each (Reads st.sides.agreed)) (sym (append-nil sent)) g.read;
 }
 goes-on s z st sent e fact false g before can stays =
     let is = can refl in
     let m = mark_as st e fact in
-    let same : (with_mark st m).agreed ≡ st.agreed = ap (λ (o : Option Caps). unwrap_or o st.agreed) is.agrees-none in
+    let same : (with_mark st m).sides.agreed ≡ st.sides.agreed = ap (λ (o : Option Caps). unwrap_or o st.sides.agreed) is.agrees-none in
     record {
       quiet = λ first. let q = g.quiet (before first) in let k = stays first q.0 in (k.0, λ i. q.1 i ++ k.1 i);
       ids = subst (λ (caps : Caps). IdsFit (wide_ids caps) (live_after st e)) (sym same) (live-fit st e g.ids is);
-      read = subst (λ (caps : Caps). Each (Reads caps) (sent ++ to_host st m)) (sym same) (Each-append (Reads st.agreed) sent (to_host st m) g.read (sent-read st e fact g.ids is));
+      read = subst (λ (caps : Caps). Each (Reads caps) (sent ++ to_host st m)) (sym same) (Each-append (Reads st.sides.agreed) sent (to_host st m) g.read (sent-read st e fact g.ids is));
     }
 
 -- the hello
@@ -108,8 +108,8 @@ goes-greeted : (z : RedirState) (st : State) (sent : List (ℕ × RedirPacket)) 
     Goes z (cond left st (with_mark st (mark_as st (Agrees caps) None))) (sent ++ cond left [] (to_host st (mark_as st (Agrees caps) None)))
 goes-greeted z st sent caps true greeted q none = record {
   quiet = λ first. absurd (true≢false (sym first ∙ greeted));
-  ids = subst (IdsFit (wide_ids st.agreed)) (sym q.live) tt;
-  read = subst (Each (Reads st.agreed)) (sym (append-nil sent ∙ none)) tt;
+  ids = subst (IdsFit (wide_ids st.sides.agreed)) (sym q.live) tt;
+  read = subst (Each (Reads st.sides.agreed)) (sym (append-nil sent ∙ none)) tt;
 }
 goes-greeted z st sent caps false greeted q none = record {
   quiet = λ first. absurd (true≢false (sym first ∙ greeted));
@@ -117,19 +117,19 @@ goes-greeted z st sent caps false greeted q none = record {
   read = subst (Each (Reads caps)) (λ i. sym none i ++ sym (none-sent st (Agrees caps) q.live refl refl) i) tt;
 }
 
-later-told : (s : RedirState) (st : State) (sent : List (ℕ × RedirPacket)) (place : ℕ) (h : Header) (p : RedirPacket) → is_greeting p ≡ false → Goes s st sent → (stream_format ToGuest s).Fits (h, p) → (st.host_over ≡ false → IsInStep s st.agreed) →
+later-told : (s : RedirState) (st : State) (sent : List (ℕ × RedirPacket)) (place : ℕ) (h : Header) (p : RedirPacket) → is_greeting p ≡ false → Goes s st sent → (stream_format ToGuest s).Fits (h, p) → (st.sides.host_over ≡ false → IsInStep s st.sides.agreed) →
     Goes (advanced s p) (step st (Told place h p)) (sent ++ given to_host st (Told place h p))
 later-told s st sent place h p other g fits steps =
     let greeted = greets-first s h p fits ∙ other in
-    goes-on s (advanced s p) st sent (told_meaning st place h p) (told_by (Told place h p)) st.host_over g (advanced-first s p)
-    (λ going. tells st place h p other (told_fits s st.agreed h p (steps going) fits).id_fits)
+    goes-on s (advanced s p) st sent (told_meaning st place h p) (told_by (Told place h p)) st.sides.host_over g (advanced-first s p)
+    (λ going. tells st place h p other (told_fits s st.sides.agreed h p (steps going) fits).id_fits)
     (λ first q. absurd (true≢false (sym (advanced-first s p first) ∙ greeted)))
 
-goes-told : (s : RedirState) (st : State) (sent : List (ℕ × RedirPacket)) (place : ℕ) (h : Header) (p : RedirPacket) → Goes s st sent → (stream_format ToGuest s).Fits (h, p) → (st.host_over ≡ false → IsInStep s st.agreed) →
+goes-told : (s : RedirState) (st : State) (sent : List (ℕ × RedirPacket)) (place : ℕ) (h : Header) (p : RedirPacket) → Goes s st sent → (stream_format ToGuest s).Fits (h, p) → (st.sides.host_over ≡ false → IsInStep s st.sides.agreed) →
     Goes (advanced s p) (step st (Told place h p)) (sent ++ given to_host st (Told place h p))
 goes-told s st sent place h (Plain (plain.Hello x)) g fits steps =
     let q = g.quiet (greets-first s h (Plain (plain.Hello x)) fits) in
-    goes-greeted (advanced s (Plain (plain.Hello x))) st sent (agreed (caps_of x) announced) st.host_over refl q.0 q.1
+    goes-greeted (advanced s (Plain (plain.Hello x))) st sent (agreed (caps_of x) announced) st.sides.host_over refl q.0 q.1
 goes-told s st sent place h (Plain q) g fits steps = later-told s st sent place h (Plain q) refl g fits steps
 goes-told s st sent place h (Carrying d) g fits steps = later-told s st sent place h (Carrying d) refl g fits steps
 
@@ -143,10 +143,10 @@ pub goes : (first : ℕ) (xs : List Item) → CanCome xs → Goes (heard xs) (ru
 goes first [] can = record { quiet = λ _. (record { live = refl; connect = refl; imported = refl; streams = refl }, refl); ids = tt; read = tt }
 goes first (Asked place p ∷ xs) can =
     let st = run first xs in
-    goes-untold (heard xs) st (all_given to_host first xs) (Asked place p) st.client_over tt (λ _. readable st (Asked place p) can.0) (goes first xs can.1)
+    goes-untold (heard xs) st (all_given to_host first xs) (Asked place p) st.sides.client_over tt (λ _. readable st (Asked place p) can.0) (goes first xs can.1)
 goes first (ClientWrong place why ∷ xs) can =
     let st = run first xs in
-    goes-untold (heard xs) st (all_given to_host first xs) (ClientWrong place why) st.client_over tt (λ _. readable st (ClientWrong place why) tt) (goes first xs can.1)
+    goes-untold (heard xs) st (all_given to_host first xs) (ClientWrong place why) st.sides.client_over tt (λ _. readable st (ClientWrong place why) tt) (goes first xs can.1)
 goes first (ClientLeft ∷ xs) can =
     let st = run first xs in
     goes-untold (heard xs) st (all_given to_host first xs) ClientLeft false tt (λ _. readable st ClientLeft tt) (goes first xs can.1)
@@ -154,13 +154,13 @@ goes first (Told place h p ∷ xs) can =
     let st = run first xs in
     let behind-it : heard (Told place h p ∷ xs) ≡ advanced (heard xs) p = states-more read_after first_state (told xs) (place, (h, p)) in
     let same : state_of first (past first xs) ≡ st = state-run first xs in
-    let steps : st.host_over ≡ false → IsInStep (heard xs) st.agreed =
-    λ going. subst (λ (x : State). IsInStep (heard xs) x.agreed) same (in-step first xs (ap (λ (x : State). x.host_over) same ∙ going)) in
+    let steps : st.sides.host_over ≡ false → IsInStep (heard xs) st.sides.agreed =
+    λ going. subst (λ (x : State). IsInStep (heard xs) x.sides.agreed) same (in-step first xs (ap (λ (x : State). x.sides.host_over) same ∙ going)) in
     subst (λ (s : RedirState). Goes s (step st (Told place h p)) (all_given to_host first xs ++ given to_host st (Told place h p))) (sym behind-it)
     (goes-told (heard xs) st (all_given to_host first xs) place h p (goes first xs can.1) can.0 steps)
 goes first (HostWrong place why ∷ xs) can =
     let st = run first xs in
-    goes-untold (heard xs) st (all_given to_host first xs) (HostWrong place why) st.host_over tt (λ _. readable st (HostWrong place why) tt) (goes first xs can.1)
+    goes-untold (heard xs) st (all_given to_host first xs) (HostWrong place why) st.sides.host_over tt (λ _. readable st (HostWrong place why) tt) (goes first xs can.1)
 goes first (HostLeft ∷ xs) can =
     let st = run first xs in
-    goes-untold (heard xs) st (all_given to_host first xs) HostLeft st.host_over tt (λ _. readable st HostLeft tt) (goes first xs can.1)
+    goes-untold (heard xs) st (all_given to_host first xs) HostLeft st.sides.host_over tt (λ _. readable st HostLeft tt) (goes first xs can.1)

@@ -69,9 +69,9 @@ pub no-id : (wide : Bool) → IdFits wide 0
 no-id true = omega arith
 no-id false = omega arith
 
-drawn-fit : (st : State) (n : ℕ) → Each (IdFits (wide_ids st.agreed)) (next_ids st n)
+drawn-fit : (st : State) (n : ℕ) → Each (IdFits (wide_ids st.sides.agreed)) (next_ids st n)
 drawn-fit st n =
-    let wide = wide_ids st.agreed in
+    let wide = wide_ids st.sides.agreed in
     Each-weaker (Fits (greatest wide)) (IdFits wide) (in-range wide) (next_ids st n) (draws-fit (greatest wide) (flying st) st.last n (some-id wide))
 
 last-fits : (wide : Bool) (last : ℕ) (ids : List ℕ) → IdFits wide last → Each (IdFits wide) ids → IdFits wide (last_of last ids)
@@ -85,13 +85,13 @@ AckFits wide (Disconnects id) = IdFits wide id
 AckFits wide _ = Unit {0}
 
 pub record IsReadable (st : State) (e : Effect) : Type 0 where
-  pub opens : Each (λ s. IdFits (wide_ids st.agreed) s.id) (opened e)
-  pub sends : Each (Sendable st.agreed) (asked_packets st.streams e)
-  pub acks : AckFits (wide_ids st.agreed) e
+  pub opens : Each (λ s. IdFits (wide_ids st.sides.agreed) s.id) (opened e)
+  pub sends : Each (Sendable st.sides.agreed) (asked_packets st.streams e)
+  pub acks : AckFits (wide_ids st.sides.agreed) e
   pub agrees-none : agrees e ≡ None
 
-stops-if : (st : State) (b : Bool) → Each (Sendable st.agreed) (cond b (stops (is_ended None) st.streams) [])
-stops-if st true = sends-stops st.agreed (is_ended None) st.streams
+stops-if : (st : State) (b : Bool) → Each (Sendable st.sides.agreed) (cond b (stops (is_ended None) st.streams) [])
+stops-if st true = sends-stops st.sides.agreed (is_ended None) st.streams
 stops-if st false = tt
 
 either : (st : State) (b : Bool) (e f : Effect) → IsReadable st e → IsReadable st f → IsReadable st (cond b e f)
@@ -114,17 +114,17 @@ imports st None = replies st _
 imports st (Some c) = record { opens = tt; sends = tt; acks = tt; agrees-none = refl }
 
 asks-op : (st : State) (place : ℕ) (p : OpPacket) → IsReadable st (asked_meaning st place (Op p))
-asks-op st place (op.ReqDevlist status) = either st st.imported _ _ (refuses st _) (replies st _)
-asks-op st place (op.ReqImport status busid) = either st st.imported _ _ (refuses st _) (imports st (importable st busid))
+asks-op st place (op.ReqDevlist status) = either st st.sides.imported _ _ (refuses st _) (replies st _)
+asks-op st place (op.ReqImport status busid) = either st st.sides.imported _ _ (refuses st _) (imports st (importable st busid))
 asks-op st place (op.RepDevlist status devices) = idle st
 asks-op st place (op.RepImport status device) = idle st
 
-accepted : (st : State) (r : Request) (v : Verdict) (ids : List ℕ) → IsCarried (wide_bulk st.agreed) v r → IfSome r.transfer.setup FieldsFit → Each (IdFits (wide_ids st.agreed)) ids → IsReadable st (accepted_as st (submission st r v ids) v)
-accepted st r (Now status) ids carried fit fits = record { opens = (no-id (wide_ids st.agreed), tt); sends = tt; acks = tt; agrees-none = refl }
-accepted st r (Wire pipe) ids carried fit fits = record { opens = (last-fits (wide_ids st.agreed) 0 ids (no-id (wide_ids st.agreed)) fits, tt); sends = sends-verdict st.agreed st.streams (Wire pipe) r carried fit; acks = tt; agrees-none = refl }
-accepted st r (Routed by) ids carried fit fits = record { opens = (last-fits (wide_ids st.agreed) 0 ids (no-id (wide_ids st.agreed)) fits, tt); sends = sends-verdict st.agreed st.streams (Routed by) r carried fit; acks = tt; agrees-none = refl }
-accepted st r (IsoOut row) ids carried fit fits = record { opens = (no-id (wide_ids st.agreed), tt); sends = sends-verdict st.agreed st.streams (IsoOut row) r carried fit; acks = tt; agrees-none = refl }
-accepted st r (Stream row) ids carried fit fits = record { opens = (no-id (wide_ids st.agreed), tt); sends = sends-verdict st.agreed st.streams (Stream row) r carried fit; acks = tt; agrees-none = refl }
+accepted : (st : State) (r : Request) (v : Verdict) (ids : List ℕ) → IsCarried (wide_bulk st.sides.agreed) v r → IfSome r.transfer.setup FieldsFit → Each (IdFits (wide_ids st.sides.agreed)) ids → IsReadable st (accepted_as st (submission st r v ids) v)
+accepted st r (Now status) ids carried fit fits = record { opens = (no-id (wide_ids st.sides.agreed), tt); sends = tt; acks = tt; agrees-none = refl }
+accepted st r (Wire pipe) ids carried fit fits = record { opens = (last-fits (wide_ids st.sides.agreed) 0 ids (no-id (wide_ids st.sides.agreed)) fits, tt); sends = sends-verdict st.sides.agreed st.streams (Wire pipe) r carried fit; acks = tt; agrees-none = refl }
+accepted st r (Routed by) ids carried fit fits = record { opens = (last-fits (wide_ids st.sides.agreed) 0 ids (no-id (wide_ids st.sides.agreed)) fits, tt); sends = sends-verdict st.sides.agreed st.streams (Routed by) r carried fit; acks = tt; agrees-none = refl }
+accepted st r (IsoOut row) ids carried fit fits = record { opens = (no-id (wide_ids st.sides.agreed), tt); sends = sends-verdict st.sides.agreed st.streams (IsoOut row) r carried fit; acks = tt; agrees-none = refl }
+accepted st r (Stream row) ids carried fit fits = record { opens = (no-id (wide_ids st.sides.agreed), tt); sends = sends-verdict st.sides.agreed st.streams (Stream row) r carried fit; acks = tt; agrees-none = refl }
 
 kept-carried : (wide : Bool) (o : Option Up) (v : Verdict) (r : Request) → IsCarried wide v r → IsCarried wide (by_stream o v) r
 kept-carried wide None v r h = h
@@ -139,17 +139,17 @@ abbrev pub AskedFits : ClientPacket → Type 0
 AskedFits (Urb (urb.Submit s)) = IsSubmit s × IfSome (request_of s).transfer.setup FieldsFit
 AskedFits _ = Unit {0}
 
-submits-fit : (st : State) (r : Request) (v : Verdict) → IsCarried (wide_bulk st.agreed) v r → IfSome r.transfer.setup FieldsFit → IsReadable st (accepts st r v)
+submits-fit : (st : State) (r : Request) (v : Verdict) → IsCarried (wide_bulk st.sides.agreed) v r → IfSome r.transfer.setup FieldsFit → IsReadable st (accepts st r v)
 submits-fit st r v carries fit =
     let kept = by_stream (stream_at st.streams r.transfer.ep) v in
-    accepted st r kept (drawn_for st r kept) (kept-carried (wide_bulk st.agreed) (stream_at st.streams r.transfer.ep) v r carries) fit (drawn-fit st _)
+    accepted st r kept (drawn_for st r kept) (kept-carried (wide_bulk st.sides.agreed) (stream_at st.streams r.transfer.ep) v r carries) fit (drawn-fit st _)
 
 asks-urb : (st : State) (place : ℕ) (p : UrbPacket) → AskedFits (Urb p) → IsReadable st (asked_meaning st place (Urb p))
 asks-urb st place (urb.Submit s) fits =
-    either st (not st.imported) _ _ (refuses st _)
+    either st (not st.sides.imported) _ _ (refuses st _)
     (either st (has_number st s.head.seqnum) _ _ (refuses st _)
     (submits-fit st (request_of s) (verdict_of st (request_of s)) (carried (situation st (request_of s)) (request_of s) (is_request s fits.0)) fits.1))
-asks-urb st place (urb.Unlink u) fits = either st (not st.imported) _ _ (refuses st _) (record { opens = tt; sends = tt; acks = tt; agrees-none = refl })
+asks-urb st place (urb.Unlink u) fits = either st (not st.sides.imported) _ _ (refuses st _) (record { opens = tt; sends = tt; acks = tt; agrees-none = refl })
 asks-urb st place (urb.RetSubmit r) fits = idle st
 asks-urb st place (urb.RetUnlink r) fits = idle st
 
@@ -186,7 +186,7 @@ abbrev pub is_greeting : RedirPacket → Bool
 is_greeting (Plain (plain.Hello hello)) = true
 is_greeting _ = false
 
-pub tells : (st : State) (place : ℕ) (h : Header) (p : RedirPacket) → is_greeting p ≡ false → IdFits (wide_ids st.agreed) h.id → IsReadable st (told_meaning st place h p)
+pub tells : (st : State) (place : ℕ) (h : Header) (p : RedirPacket) → is_greeting p ≡ false → IdFits (wide_ids st.sides.agreed) h.id → IsReadable st (told_meaning st place h p)
 tells st place h (Plain (plain.Hello hello)) other fits = absurd (let no : true ≡ false = other in cc)
 tells st place h (Plain plain.Disconnect) other fits = record { opens = tt; sends = tt; acks = fits; agrees-none = refl }
 tells st place h (Plain (plain.IsoStatus status endpoint)) other fits = record { opens = tt; sends = tt; acks = tt; agrees-none = refl }
@@ -198,7 +198,7 @@ tells st place h p other fits = responds st place h (response_of p)
 
 abbrev pub ItemFits : State → Item → Type 0
 ItemFits st (Asked place p) = AskedFits p
-ItemFits st (Told place h p) = (is_greeting p ≡ false) × IdFits (wide_ids st.agreed) h.id
+ItemFits st (Told place h p) = (is_greeting p ≡ false) × IdFits (wide_ids st.sides.agreed) h.id
 ItemFits st _ = Unit {0}
 
 pub readable : (st : State) (x : Item) → ItemFits st x → IsReadable st (meaning st x)
@@ -239,14 +239,14 @@ acknowledged caps (Disconnects id) fits = by (has caps DISCONNECT_ACK) refl
     by false e = tt
 acknowledged caps e fits = tt
 
-pub sent-read : (st : State) (e : Effect) (told : Option Fact) → IdsFit (wide_ids st.agreed) st.live → IsReadable st e → Each (Reads st.agreed) (to_host st (mark_as st e told))
+pub sent-read : (st : State) (e : Effect) (told : Option Fact) → IdsFit (wide_ids st.sides.agreed) st.live → IsReadable st e → Each (Reads st.sides.agreed) (to_host st (mark_as st e told))
 sent-read st e told fits is =
     let stopped = map cancel (filter (cancels e) st.live) in
     let asked = asking st.streams (mark_as st e told) in
-    let acks = acknowledgements st.agreed e in
-    Each-append (Reads st.agreed) (stopped ++ asked) acks
-    (Each-append (Reads st.agreed) stopped asked (cancelled st.agreed (cancels e) st.live fits) (each-zip st.agreed (drawn_by st e) (asked_packets st.streams e) (drawn-fit st _) is.sends))
-    (acknowledged st.agreed e is.acks)
+    let acks = acknowledgements st.sides.agreed e in
+    Each-append (Reads st.sides.agreed) (stopped ++ asked) acks
+    (Each-append (Reads st.sides.agreed) stopped asked (cancelled st.sides.agreed (cancels e) st.live fits) (each-zip st.sides.agreed (drawn_by st e) (asked_packets st.streams e) (drawn-fit st _) is.sends))
+    (acknowledged st.sides.agreed e is.acks)
 
 -- ---- who is in flight behind it
 
@@ -258,9 +258,9 @@ asked-fit : (wide : Bool) (e : Effect) (ps : List Pending) → IdsFit wide ps �
 asked-fit wide e [] fits = tt
 asked-fit wide e (p ∷ ps) fits = (fits.0, asked-fit wide e ps fits.1)
 
-pub live-fit : (st : State) (e : Effect) → IdsFit (wide_ids st.agreed) st.live → IsReadable st e → IdsFit (wide_ids st.agreed) (live_after st e)
+pub live-fit : (st : State) (e : Effect) → IdsFit (wide_ids st.sides.agreed) st.live → IsReadable st e → IdsFit (wide_ids st.sides.agreed) (live_after st e)
 live-fit st e fits is =
-    let wide = wide_ids st.agreed in
+    let wide = wide_ids st.sides.agreed in
     let fit : Pending → Type 0 = λ p. IdFits wide p.submit.id in
     asked-fit wide e (filter (λ p. is_none (ends e p.submit)) (present st e))
     (Each-filter fit (λ p. is_none (ends e p.submit)) (present st e) (Each-append fit st.live (map fresh (opened e)) fits (fresh-fit wide (opened e) is.opens)))

@@ -58,12 +58,12 @@ told-refusal (Some r) = refl
 told-mark : (st : State) (m : Mark) → list_any is_refusal (notes_of st m) ≡ is_some (refused_at m.what)
 told-mark st m =
     let came = came_notes m.what ++ submit_notes m.what in
-    let gone = when (is_loss m.what && st.imported && not st.lost) note.DeviceGone in
-    let left = when (leaves m.what && not st.client_over) note.ClientGone in
+    let gone = when (is_loss m.what && st.sides.imported && not st.sides.lost) note.DeviceGone in
+    let left = when (leaves m.what && not st.sides.client_over) note.ClientGone in
     let next_three : IsQuiet (came ++ answer_notes st m.what ++ gone) =
-    quiet-three came (answer_notes st m.what) gone (quiet-first m.what) (quiet-answer (filter (λ p. is_by_answer (ends m.what p.submit)) (present st m.what))) (quiet-when (is_loss m.what && st.imported && not st.lost) note.DeviceGone refl) in
+    quiet-three came (answer_notes st m.what) gone (quiet-first m.what) (quiet-answer (filter (λ p. is_by_answer (ends m.what p.submit)) (present st m.what))) (quiet-when (is_loss m.what && st.sides.imported && not st.sides.lost) note.DeviceGone refl) in
     let all_seven : IsQuiet (came ++ answer_notes st m.what ++ gone ++ left) =
-    quiet-then (came ++ answer_notes st m.what ++ gone) left next_three ∙ quiet-when (leaves m.what && not st.client_over) note.ClientGone refl in
+    quiet-then (came ++ answer_notes st m.what ++ gone) left next_three ∙ quiet-when (leaves m.what && not st.sides.client_over) note.ClientGone refl in
     quiet-then (came ++ answer_notes st m.what ++ gone ++ left) (refusal_notes (refused_at m.what)) all_seven ∙ told-refusal (refused_at m.what)
 
 told-past : (first : ℕ) (ms : List Mark) → list_any is_refusal (all_of notes_of first ms) ≡ has_refusal ms

@@ -34,7 +34,7 @@ complete-requires-clause-fits c =
     let old = c.args.self.now in
     let header = c.args.header.now in
     let one = is-there (has_id header.id) old.lives c.in-Some.at (sym c.place_of_id.ensures ∙ c.in-Some.is) in
-    found-answer old.caps c.args.place (head_size (wide_ids old.caps)) header.kind c.in-Some.at (response_view c.args.response) old.lives.live old.lives.abandoned one.live c.requires.kept.rows c.requires.fits one.at
+    found-answer old.sides.agreed c.args.place (head_size (wide_ids old.sides.agreed)) header.kind c.in-Some.at (response_view c.args.response) old.lives.live old.lives.abandoned one.live c.requires.kept.rows c.requires.fits one.at
     (sym (c.mismatch_of.ensures.value one.live one.at) ∙ c.in_default-mismatch_of.is)
 
 pub returns-clause-ok : goal.returns-clause-ok

@@ -26,10 +26,10 @@ abbrev marked : (target by : ℕ) → Kept → ℕ → Kept
 marked target by old unlinked = record old { lives = record { live = change_first (has_number target) (unlinked_by by) old.lives.live; abandoned = old.lives.abandoned }; unlinked = unlinked }
 
 -- what becomes of the target, which is read at its place among all requests in flight
-becomes : (old : Kept) (st : State) (target by i : ℕ) (l : Live) (told : AskedBack) → Holds old st → IsSound st → Each (IsRow old.caps) old.lives.live →
-    position (has_number target) old.lives.live ≡ Some i → slice_get (in_flight old.lives) i ≡ Some l → asked_back l ≡ told → Told old.caps target by old.lives.live (Some told)
+becomes : (old : Kept) (st : State) (target by i : ℕ) (l : Live) (told : AskedBack) → Holds old st → IsSound st → Each (IsRow old.sides.agreed) old.lives.live →
+    position (has_number target) old.lives.live ≡ Some i → slice_get (in_flight old.lives) i ≡ Some l → asked_back l ≡ told → Told old.sides.agreed target by old.lives.live (Some told)
 becomes old st target by i l told h sound rows at both so =
-    told-there old.caps target by old.lives.live i l told (one-numbered old st target h sound) rows at (among-live (has_number target) old.lives i l at both) so
+    told-there old.sides.agreed target by old.lives.live i l told (one-numbered old st target h sound) rows at (among-live (has_number target) old.lives i l at both) so
 
 pub held_at-requires : goal.held_at-requires
 held_at-requires c = among-both (has_number c.args.target) c.args.self.now.lives c.in-Some.at (sym c.place_of_number.ensures ∙ c.in-Some.is)
@@ -39,8 +39,8 @@ write_cancel-requires c =
     let t = c.args.self.now in
     let l = c.held_at.result.now in
     let here = among-live (has_number c.args.target) t.lives c.in-Some.at l (sym c.place_of_number.ensures ∙ c.in-Some.is) c.held_at.ensures in
-    let one = each-at (IsRow t.caps) t.lives.live c.in-Some.at l c.requires.kept.rows here in
-    subst (λ (n : ℕ). IdFits (wide_ids t.caps) n) (cancelled-id l.unlinker l.kind l.id c.in-Cancel.id (sym c.asked_back.ensures ∙ c.in-Cancel.is)) one.fine.id_fits
+    let one = each-at (IsRow t.sides.agreed) t.lives.live c.in-Some.at l c.requires.kept.rows here in
+    subst (λ (n : ℕ). IdFits (wide_ids t.sides.agreed) n) (cancelled-id l.unlinker l.kind l.id c.in-Cancel.id (sym c.asked_back.ensures ∙ c.in-Cancel.is)) one.fine.id_fits
 
 pub mark-requires-clause-there : goal.mark-requires-clause-there
 mark-requires-clause-there c =
@@ -60,7 +60,7 @@ take_back-requires-clause-there c = (c.args.target, sym c.place_of_number.ensure
 pub returns-in_default-clause-ok : goal.returns-in_default-clause-ok
 returns-in_default-clause-ok c st h sound =
     let old = c.args.self.now in
-    let told = told-nowhere old.caps c.args.target c.args.by old.lives.live (one-numbered old st c.args.target h sound) c.requires.kept.rows (sym c.place_of_number.ensures ∙ c.in_default.is) in
+    let told = told-nowhere old.sides.agreed c.args.target c.args.by old.lives.live (one-numbered old st c.args.target h sound) c.requires.kept.rows (sym c.place_of_number.ensures ∙ c.in_default.is) in
     on_ok_weaker c.write_ret_unlink.result (λ sent.
     does-unlink st c.args.by c.args.target _ old old _ _ h sound c.requires.kept.answered_fits c.requires.kept.dropped_fits told
     (λ i. record old { unlinked = capped-same old.unlinked c.requires.kept.unlinked_fits i })

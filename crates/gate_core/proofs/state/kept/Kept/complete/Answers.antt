@@ -18,12 +18,12 @@ returns-in_default-clause-ok c st id is h sound =
 pub write_completed-requires-clause-packets : goal.write_completed-requires-clause-packets
 write_completed-requires-clause-packets c =
     let old = c.args.self.now in
-    (each-at (IsRow old.caps) old.lives.live c.args.at c.in-Some.live.now c.requires.kept.rows (sym c.at.ensures ∙ ap option_copied c.in-Some.is)).fine.packets
+    (each-at (IsRow old.sides.agreed) old.lives.live c.args.at c.in-Some.live.now c.requires.kept.rows (sym c.at.ensures ∙ ap option_copied c.in-Some.is)).fine.packets
 
 pub write_completed-requires-clause-read : goal.write_completed-requires-clause-read
 write_completed-requires-clause-read c =
     let old = c.args.self.now in
-    (each-at (IsRow old.caps) old.lives.live c.args.at c.in-Some.live.now c.requires.kept.rows (sym c.at.ensures ∙ ap option_copied c.in-Some.is)).fine.read
+    (each-at (IsRow old.sides.agreed) old.lives.live c.args.at c.in-Some.live.now c.requires.kept.rows (sym c.at.ensures ∙ ap option_copied c.in-Some.is)).fine.read
 
 pub count-requires : goal.count-requires
 count-requires c =

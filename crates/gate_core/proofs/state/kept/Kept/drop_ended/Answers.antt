@@ -23,7 +23,7 @@ returns-clause-kept c =
     let fewer = length-filter stays old.lives.live in
     let k = c.requires.kept in
     subst (λ (r : Requests). IsKept (record old { lives = r; answered = c.saturating_add-self.result })) (sym c.drop_ended.ensures)
-    (with-requests old (record old.lives { live = filter stays old.lives.live }) c.saturating_add-self.result old.unlinked k (Each-filter (IsRow old.caps) stays old.lives.live k.rows) k.apart
+    (with-requests old (record old.lives { live = filter stays old.lives.live }) c.saturating_add-self.result old.unlinked k (Each-filter (IsRow old.sides.agreed) stays old.lives.live k.rows) k.apart
     (omega (arith, k.few, fewer)) k.left (omega (arith, c.saturating_add-self.ensures)) k.unlinked_fits)
 
 pub returns-clause-dropped : goal.returns-clause-dropped

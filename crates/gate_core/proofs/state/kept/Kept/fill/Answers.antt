@@ -9,7 +9,7 @@ use Rattle.gate_core.proofs.state.kept.Kept.fill.Goals as goal
 pub write_fillings-requires : goal.write_fillings-requires
 write_fillings-requires c =
     let t = c.args.self.now in
-    (t.caps, Each-weaker (IsRow t.caps) (IsFine t.caps) (λ l r. r.fine) t.lives.live c.requires.kept.rows)
+    (t.sides.agreed, Each-weaker (IsRow t.sides.agreed) (IsFine t.sides.agreed) (λ l r. r.fine) t.lives.live c.requires.kept.rows)
 
 pub returns-clause-kept : goal.returns-clause-kept
 returns-clause-kept c =

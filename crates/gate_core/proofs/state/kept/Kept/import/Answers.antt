@@ -16,4 +16,4 @@ returns-clause-ok c st h =
     let e = Imports (import_reply st.facts c.args.connect.now) in
     does-steady st e refl (silent-is st e refl) (λ s. refl) old _ old.lives.live _ _ h c.requires.kept.answered_fits c.requires.kept.unlinked_fits c.requires.kept.dropped_fits
     (rows-same e old.lives.live st.live (λ s. refl) h.live) refl (one-reply c.args.out.now.to_client c.write_op.new.out (Op (import_reply st.facts c.args.connect.now)) (c.in_ok-write_op.ensures ∙ ap (λ (r : OpPacket). c.args.out.now.to_client ++ client_spelling (Op r)) (c.import_reply.ensures.value ∙ ap (λ (f : Facts). import_reply f c.args.connect.now) h.facts)))
-    (host-same st.agreed e c.args.out.now.to_host st.live stays-uncancelled) c.in_ok-push.ensures.ok
+    (host-same st.sides.agreed e c.args.out.now.to_host st.live stays-uncancelled) c.in_ok-push.ensures.ok

@@ -23,7 +23,7 @@ returns-clause-kept c =
     let marked = unlinked_by c.args.by one.0 in
     subst (λ (r : Requests). IsKept (record old { lives = r })) (sym (c.mark_at.ensures one.0 one.1))
     (with-requests old (record old.lives { live = set ls c.args.at marked }) old.answered old.unlinked k
-    (each-set (IsRow old.caps) ls c.args.at marked k.rows (row-marked old.caps c.args.by one.0 one.2 (each-at (IsRow old.caps) ls c.args.at one.0 k.rows one.1)))
+    (each-set (IsRow old.sides.agreed) ls c.args.at marked k.rows (row-marked old.sides.agreed c.args.by one.0 one.2 (each-at (IsRow old.sides.agreed) ls c.args.at one.0 k.rows one.1)))
     k.apart (omega (arith, k.few, length-set ls c.args.at marked)) k.left k.answered_fits k.unlinked_fits)
 
 pub returns-clause-marked : goal.returns-clause-marked

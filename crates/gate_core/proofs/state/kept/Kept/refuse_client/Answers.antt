@@ -13,11 +13,11 @@ use Rattle.gate_core.proofs.state.kept.Kept.refuse_client.Goals as goal
 pub returns-clause-ok : goal.returns-clause-ok
 returns-clause-ok c st h going =
     let old = c.args.self.now in
-    let over : true ≡ cond (is_client c.args.refusal.side) true old.client_over = ap (λ (s : Side). cond (is_client s) true old.client_over) (sym c.requires.side) in
+    let over : true ≡ cond (is_client c.args.refusal.side) true old.sides.client_over = ap (λ (s : Side). cond (is_client s) true old.sides.client_over) (sym c.requires.side) in
     let e = Refuses c.args.refusal in
     let gone = ap is_client c.requires.side in
     let asked = leaving-asked st e refl gone in
-    let first : when (not old.client_over) note.ClientGone ≡ note.ClientGone ∷ [] = ap (λ (b : Bool). when (not b) note.ClientGone) (h.client_over ∙ going) in
+    let first : when (not old.sides.client_over) note.ClientGone ≡ note.ClientGone ∷ [] = ap (λ (b : Bool). when (not b) note.ClientGone) ((λ j. (h.sides j).client_over) ∙ going) in
     does-leave st e refl gone (ap (λ (s : Side). not (is_client s)) c.requires.side) c.in_ok-sent_ids.sent_ids old _ c.args.out.now _ _ h c.requires.kept.answered_fits c.requires.kept.unlinked_fits
     (parts-are old st h e c.in_ok-sent_ids.sent_ids asked c.in_ok-sent_ids.ensures.sent_ids)
     (λ i. record (c.leave.ensures.left.is i) { client_over = over i })

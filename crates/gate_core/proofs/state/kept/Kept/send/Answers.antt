@@ -20,7 +20,7 @@ use Rattle.gate_core.proofs.state.kept.Kept.send.Goals as goal
 
 pub move_data-requires : goal.move_data-requires
 move_data-requires c =
-    can_be_written c.draw-id.result c.args.self.now.caps c.args.pipe c.args.request.transfer c.wire_packet-packet.result c.draw-id.ensures.fits c.requires.sent c.wire_packet-packet.ensures
+    can_be_written c.draw-id.result c.args.self.now.sides.agreed c.args.pipe c.args.request.transfer c.wire_packet-packet.result c.draw-id.ensures.fits c.requires.sent c.wire_packet-packet.ensures
 
 pub returns-clause-ok : goal.returns-clause-ok
 returns-clause-ok c st h sound =
@@ -28,7 +28,7 @@ returns-clause-ok c st h sound =
     let r = c.args.request in
     let v = Wire c.args.pipe in
     let s = submission st r v (next_ids st 1) in
-    let id : c.draw-id.result ≡ draw (greatest (wide_ids st.agreed)) (flying st) st.last = c.draw-id.ensures.value ∙ draw-is old st h in
+    let id : c.draw-id.result ≡ draw (greatest (wide_ids st.sides.agreed)) (flying st) st.last = c.draw-id.ensures.value ∙ draw-is old st h in
     does-open st s refl sound (λ v. refl) old _ (fresh s ∷ []) _ _ h c.requires.kept.unlinked_fits c.requires.kept.dropped_fits refl refl refl refl
     (c.open.ensures.opened.is ∙ (λ i. record old {
       lives = record { live = old.lives.live ++ row_for r (live_kind.Wire r.transfer.ep (c.kind.ensures i)) (id i) ∷ []; abandoned = old.lives.abandoned };
@@ -37,6 +37,6 @@ returns-clause-ok c st h sound =
       answered = capped-same old.answered c.requires.kept.answered_fits i;
     }))
     (sym (append-nil c.args.out.now.to_client))
-    (c.in_ok-move_data.ensures.ok ∙ (λ i. c.args.out.now.to_host ++ sent_packet_bytes old.caps (id i, c.wire_packet-packet.ensures i))
-    ∙ ap (λ (bs : List ℕ). c.args.out.now.to_host ++ bs) (sym (append-nil (sent_packet_bytes old.caps (draw (greatest (wide_ids st.agreed)) (flying st) st.last, wire_packet c.args.pipe r.transfer)))))
+    (c.in_ok-move_data.ensures.ok ∙ (λ i. c.args.out.now.to_host ++ sent_packet_bytes old.sides.agreed (id i, c.wire_packet-packet.ensures i))
+    ∙ ap (λ (bs : List ℕ). c.args.out.now.to_host ++ bs) (sym (append-nil (sent_packet_bytes old.sides.agreed (draw (greatest (wide_ids st.sides.agreed)) (flying st) st.last, wire_packet c.args.pipe r.transfer)))))
     (c.in_ok-push.ensures.ok ∙ ap (λ (n : ℕ). c.args.out.now.notes ++ note.Submitted r.seqnum n ∷ []) id)

@@ -50,7 +50,7 @@ returns-clause-ok c st h sound =
     (c.in_ok-write_all_sent.ensures.ok ∙ (λ i. c.args.out.now.to_client ++ spelling (all_sent (c.asked.ensures i)))))
     (c.in_ok-last.ensures.sent ∙ (λ i. c.in_ok-started.ensures.sent i ++ bytes_of old (before i) isos)
     ∙ append_assoc c.args.out.now.to_host (bytes_of old old.last starting) (bytes_of old (last_of old.last (ids_after old old.last (length starting))) isos)
-    ∙ ap (λ (bs : List _). c.args.out.now.to_host ++ bs) (sym (bytes-more old old.last starting isos) ∙ ap (flat_map (sent_packet_bytes old.caps)) asked))
+    ∙ ap (λ (bs : List _). c.args.out.now.to_host ++ bs) (sym (bytes-more old old.last starting isos) ∙ ap (flat_map (sent_packet_bytes old.sides.agreed)) asked))
     c.in_ok-push.ensures.ok
 
 pub returns-in_err-last-clause-err : goal.returns-in_err-last-clause-err

@@ -43,7 +43,7 @@ returns-clause-ok c st h sound =
     let same : before ++ asks ≡ all = ap (λ (ps : List RedirPacket). ps ++ asks) (stops-are old st h (Some by)) in
     let stopped = c.in_ok-sent_ids.ensures.sent_ids in
     let some : 1 ≤ length (ids_after old old.last (length (before ++ asks))) =
-    let n = length-draws (greatest (wide_ids old.caps)) (flying_in old) old.last (length (before ++ asks)) in
+    let n = length-draws (greatest (wide_ids old.sides.agreed)) (flying_in old) old.last (length (before ++ asks)) in
     omega (arith, n, length-append before asks, c.requires.some) in
     let last : c.in_ok-id.id ≡ last_of old.last (ids_after old old.last (length (before ++ asks))) =
     c.in_ok-id.ensures.id ∙ ap (λ (k : SentIds). last_of k.last (ids_after old k.last (length asks))) stopped ∙ sym (last-more old old.last before asks) in
@@ -85,7 +85,7 @@ returns-clause-ok c st h sound =
     c.in_ok-write_ends.ensures.ok
     (c.in_ok-id.ensures.sent ∙ (λ i. c.in_ok-sent_ids.ensures.sent i ++ bytes_of old (stopped i).last asks)
     ∙ append_assoc c.args.out.now.to_host (bytes_of old old.last before) (bytes_of old (after_stops old (sent_ids_of old) before).last asks)
-    ∙ ap (λ (bs : List ℕ). c.args.out.now.to_host ++ bs) (sym (bytes-more old old.last before asks) ∙ ap (flat_map (sent_packet_bytes old.caps)) asked))
+    ∙ ap (λ (bs : List ℕ). c.args.out.now.to_host ++ bs) (sym (bytes-more old old.last before asks) ∙ ap (flat_map (sent_packet_bytes old.sides.agreed)) asked))
     (c.in_ok-push.ensures.ok ∙ ap (λ (n : ℕ). c.args.out.now.notes ++ note.Submitted r.seqnum n ∷ []) id)
 
 pub returns-in_err-write_ends-clause-err : goal.returns-in_err-write_ends-clause-err

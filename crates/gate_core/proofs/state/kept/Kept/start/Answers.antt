@@ -48,7 +48,7 @@ returns-clause-ok c st h sound =
     (started-is old r.transfer.ep row ∙ ap (λ l. stream_ids_after l old.stream_ids) asked)
     (started-last old r.transfer.ep row ∙ ap (last_of old.last) drawn)
     (c.in_ok-started.ensures.sent ∙ ap (λ (n : ℕ). c.args.out.now.to_host ++ bytes_of old old.last (starts_of old n row)) ep
-    ∙ (λ i. c.args.out.now.to_host ++ flat_map (sent_packet_bytes (h.caps i)) (asked i)))
+    ∙ (λ i. c.args.out.now.to_host ++ flat_map (sent_packet_bytes (h.sides i).agreed) (asked i)))
     c.in_ok-push.ensures.ok
 
 pub returns-in_err-push-clause-err : goal.returns-in_err-push-clause-err

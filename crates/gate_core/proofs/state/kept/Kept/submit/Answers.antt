@@ -29,17 +29,17 @@ further : (at place : ℕ) → place ≡ capped at → capped (place + 4) ≡ ca
 further at place e = omega (arith, e)
 
 -- one of a client that has imported the device, whose number is free, is accepted
-is-accepted : (old : Kept) (st : State) (at : ℕ) (s : Submit) (r : Request) → Holds old st → r ≡ request_of s → old.imported ≡ true → list_any (has_number s.head.seqnum) old.lives.live ≡ false →
+is-accepted : (old : Kept) (st : State) (at : ℕ) (s : Submit) (r : Request) → Holds old st → r ≡ request_of s → old.sides.imported ≡ true → list_any (has_number s.head.seqnum) old.lives.live ≡ false →
     accepts st r (verdict_of st r) ≡ asked_meaning st at (Urb (SubmitPacket s))
 is-accepted old st at s r h is imported free =
-    let here = sym h.imported ∙ imported in
+    let here = (λ j. (sym h.sides j).imported) ∙ imported in
     let none = sym (ap (list_any (has_number s.head.seqnum)) h.live ∙ number-rows s.head.seqnum st.live) ∙ free in
     ap (λ (q : Request). accepts st q (verdict_of st q)) is
     ∙ (λ i. cond (not (sym here i)) (refused Client at NotImported) (cond (sym none i) (refused Client (at + 4) DuplicateSeq) (accepts st (request_of s) (verdict_of st (request_of s)))))
 
 -- and goes on by its verdict
 goes-on : {T E : Type 0} (result : Result T E) (old new : Kept) (st : State) (at : ℕ) (s : Submit) (r : Request) (v : Verdict) (e : Effect) (out_old out_new : Outputs) →
-    Holds old st → r ≡ request_of s → old.imported ≡ true → list_any (has_number s.head.seqnum) old.lives.live ≡ false → e ≡ accepts st r v → v ≡ verdict_of st r →
+    Holds old st → r ≡ request_of s → old.sides.imported ≡ true → list_any (has_number s.head.seqnum) old.lives.live ≡ false → e ≡ accepts st r v → v ≡ verdict_of st r →
     OnOk result (Does st (mark_as st e None) old new out_old out_new) → OnOk result (Does st (mark_as st (asked_meaning st at (Urb (SubmitPacket s))) None) old new out_old out_new)
 goes-on result old new st at s r v e out_old out_new h is imported free does is-so =
     as-effect result st e (asked_meaning st at (Urb (SubmitPacket s))) old new out_old out_new (does ∙ ap (accepts st r) is-so ∙ is-accepted old st at s r h is imported free)
@@ -47,7 +47,7 @@ goes-on result old new st at s r v e out_old out_new h is imported free does is-
 pub returns-then-has-clause-ok : goal.returns-then-has-clause-ok
 returns-then-has-clause-ok c st at place h sound going =
     let s = c.args.submit in
-    let here = sym h.imported ∙ c.if-not-self.false in
+    let here = (λ j. (sym h.sides j).imported) ∙ c.if-not-self.false in
     let live = ap (list_any (has_number s.head.seqnum)) h.live ∙ number-rows s.head.seqnum st.live in
     as-effect c.refuse_client-then-has.result st _ _ c.args.self.now c.refuse_client-then-has.new.self c.args.out.now c.refuse_client-then-has.new.out
     (ap (λ r. Refuses r) (c.client_refusal-then-has.ensures.value (at + 4) (c.saturating_add-place.ensures ∙ further at c.args.place place))
@@ -59,7 +59,7 @@ returns-then-not-self-clause-ok c st at place h sound going =
     let s = c.args.submit in
     as-effect c.refuse_client.result st _ _ c.args.self.now c.refuse_client.new.self c.args.out.now c.refuse_client.new.out
     (ap (λ r. Refuses r) (c.client_refusal.ensures.value at place)
-    ∙ (λ i. cond (not (sym (sym h.imported ∙ c.if-not-self.true) i)) (refused Client at NotImported) (cond (list_any (is_number s.head.seqnum) (submits st)) (refused Client (at + 4) DuplicateSeq) (accepts st (request_of s) (verdict_of st (request_of s))))))
+    ∙ (λ i. cond (not (sym ((λ j. (sym h.sides j).imported) ∙ c.if-not-self.true) i)) (refused Client at NotImported) (cond (list_any (is_number s.head.seqnum) (submits st)) (refused Client (at + 4) DuplicateSeq) (accepts st (request_of s) (verdict_of st (request_of s))))))
     (c.refuse_client.ensures.ok st h going)
 
 pub send_route-requires-clause-some : goal.send_route-requires-clause-some

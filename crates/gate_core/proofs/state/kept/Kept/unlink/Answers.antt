@@ -11,5 +11,5 @@ returns-then-not-self-clause-ok c st at place h sound going =
     let u = c.args.unlink.now in
     subst (λ (e : Effect). OnOk c.refuse_client.result (Does st (mark_as st e None) c.args.self.now c.refuse_client.new.self c.args.out.now c.refuse_client.new.out))
     (ap (λ r. Refuses r) (c.client_refusal.ensures.value at place)
-    ∙ (λ i. cond (not (sym (sym h.imported ∙ c.if-not-self.true) i)) (refused Client at NotImported) (Unlinks u.head.seqnum u.target)))
+    ∙ (λ i. cond (not (sym ((λ j. (sym h.sides j).imported) ∙ c.if-not-self.true) i)) (refused Client at NotImported) (Unlinks u.head.seqnum u.target)))
     (c.refuse_client.ensures.ok st h going)

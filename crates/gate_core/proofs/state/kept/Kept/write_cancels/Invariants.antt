@@ -10,7 +10,7 @@ abbrev pub invariant-loop-live : goal.invariant-loop-live
 invariant-loop-live l =
     (goal.iterator-loop-live).can_next l.live-iterator ×
     (goal.iterator-loop-live).is_finite l.live-iterator ×
-    AllByRecursion (IsRow l.self.caps) l.live-iterator ×
+    AllByRecursion (IsRow l.self.sides.agreed) l.live-iterator ×
     Begins l.fn.to_host l.to_host ×
-    (l.to_host ++ flat_map (cancel_bytes l.self.caps) l.live-iterator ≡ l.fn.to_host ++ flat_map (cancel_bytes l.self.caps) l.self.lives.live) ×
+    (l.to_host ++ flat_map (cancel_bytes l.self.sides.agreed) l.live-iterator ≡ l.fn.to_host ++ flat_map (cancel_bytes l.self.sides.agreed) l.self.lives.live) ×
     (length (filter is_cancelled_row l.live-iterator) ≤ length (filter is_cancelled_row l.self.lives.live))

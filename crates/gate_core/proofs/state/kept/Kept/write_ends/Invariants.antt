@@ -11,7 +11,7 @@ abbrev pub invariant-loop-live : goal.invariant-loop-live
 invariant-loop-live l =
     (goal.iterator-loop-live).can_next l.live-iterator ×
     (goal.iterator-loop-live).is_finite l.live-iterator ×
-    AllByRecursion (IsRow l.self.caps) l.live-iterator ×
+    AllByRecursion (IsRow l.self.sides.agreed) l.live-iterator ×
     Begins l.fn.to_client l.to_client ×
     (l.to_client ++ flat_map (ended_bytes l.end l.status) l.live-iterator ≡ l.fn.to_client ++ flat_map (ended_bytes l.end l.status) l.self.lives.live) ×
     (length (filter (ended_by l.end) l.live-iterator) ≤ length (filter (ended_by l.end) l.self.lives.live))

@@ -11,7 +11,7 @@ abbrev pub invariant-loop-live : goal.invariant-loop-live
 invariant-loop-live l =
     (goal.iterator-loop-live).can_next l.live-iterator ×
     (goal.iterator-loop-live).is_finite l.live-iterator ×
-    AllByRecursion (IsRow l.self.caps) l.live-iterator ×
+    AllByRecursion (IsRow l.self.sides.agreed) l.live-iterator ×
     Begins l.fn.to_client l.to_client ×
     (l.to_client ++ flat_map lost_bytes l.live-iterator ≡ l.fn.to_client ++ flat_map lost_bytes l.self.lives.live) ×
     (l.unlinked + length l.live-iterator ≤ MAX_LIVE) ×

@@ -30,7 +30,7 @@ loop-place-preserved c =
     let t = c.args.self.now in
     let r = c.args.request.now in
     let k = c.loop-place.place in
-    let m = greatest (wide_ids t.caps) in
+    let m = greatest (wide_ids t.sides.agreed) in
     let f = flying_in t in
     let ep = r.transfer.ep in
     let here : k < length r.descs = omega (arith, c.len-place-end.ensures) in
@@ -43,8 +43,8 @@ loop-place-preserved c =
     record {
       last = id ∙ sym (last-more t c.args.last before (p ∷ [])) ∙ ap (λ (ps : List RedirPacket). last_of c.args.last (ids_after t c.args.last (length ps))) (sym next);
       sent = c.in_ok-write_iso_out.ensures.ok
-          ∙ ap (λ (n : ℕ). c.loop-place.to_host ++ sent_packet_bytes t.caps (c.draw-id.result, Carrying (data_packet.Iso n 0 (length c.part-data.result.now) c.part-data.result.now))) c.byte.ensures.value
-          ∙ (λ i. c.loop-place.invariant.sent i ++ sent_packet_bytes t.caps (id i, same i))
+          ∙ ap (λ (n : ℕ). c.loop-place.to_host ++ sent_packet_bytes t.sides.agreed (c.draw-id.result, Carrying (data_packet.Iso n 0 (length c.part-data.result.now) c.part-data.result.now))) c.byte.ensures.value
+          ∙ (λ i. c.loop-place.invariant.sent i ++ sent_packet_bytes t.sides.agreed (id i, same i))
           ∙ append_assoc c.args.to_host.now (bytes_of t c.args.last before) _
           ∙ ap (λ (bs : List ℕ). c.args.to_host.now ++ bs) (ap (λ (bs : List ℕ). bytes_of t c.args.last before ++ bs) (sym (append-nil _)) ∙ sym (bytes-more t c.args.last before (p ∷ [])) ∙ ap (bytes_of t c.args.last) (sym next));
     }

@@ -53,18 +53,18 @@ module _ (item : Item) (old : Kept) (out : Outputs) (result : Result (Unit {0}) 
   }
 
   -- a packet of the client
-  took-asked : (place : ℕ) (packet : ClientPacket) → item ≡ Asked place packet → ItemFits old.caps item →
-      ((st : State) (n : ℕ) → place ≡ capped n → Holds old st → IsSound st → st.client_over ≡ false → OnOk result (Does st (mark_as st (asked_meaning st n packet) None) old new out out_new)) → Took item old out result new out_new
+  took-asked : (place : ℕ) (packet : ClientPacket) → item ≡ Asked place packet → ItemFits old.sides.agreed item →
+      ((st : State) (n : ℕ) → place ≡ capped n → Holds old st → IsSound st → st.sides.client_over ≡ false → OnOk result (Does st (mark_as st (asked_meaning st n packet) None) old new out out_new)) → Took item old out result new out_new
   took-asked place packet is fits does =
       took-at place (λ n. Asked n packet) (λ x i. subst (λ (r : Item). IsItem r x) is i) does
-      (λ st n e h sound. on-err result _ (asked-gives st n packet (subst (λ (r : Item). ItemFits old.caps r) is fits)))
+      (λ st n e h sound. on-err result _ (asked-gives st n packet (subst (λ (r : Item). ItemFits old.sides.agreed r) is fits)))
 
 took : (c : Joined-item) → Took c.args.item c.args.self.now c.args.out.now c.match-item.taken c.match-item.self c.match-item.out
 took c =
     let item = c.args.item in
     let old = c.self.inside.kept in
     let out = c.args.out.now in
-    let fits : ItemFits old.caps item = subst (λ (k : Kept). ItemFits k.caps item) (sym c.self.view_is) c.requires in
+    let fits : ItemFits old.sides.agreed item = subst (λ (k : Kept). ItemFits k.sides.agreed item) (sym c.self.view_is) c.requires in
     subst (λ (k : Kept). Took item k out c.match-item.taken c.match-item.self c.match-item.out) c.self.view_is (elim c.match-item.branch [
       | in-Asked+in-Op w ↦
           -- the packet is dropped behind the call
