@@ -34,8 +34,8 @@ Queued w j = record {
 }
 
 -- what the gateway knows of its two sides; `away` says that it lost the device while a client had it
-abbrev pub Sides : State → Bool → Type 0
-Sides g away = record {
+abbrev pub SidesMatch : State → Bool → Type 0
+SidesMatch g away = record {
   -- the host is never refused, and its wire has no end
   reads : g.sides.host_over ≡ false;
   -- a client that was refused has left
@@ -76,5 +76,5 @@ pub record Related {S : Type 0} (m : Meaning S) (w : World S) (j : Shared) : Typ
   pub down : w.gate.sides.imported ≡ false → w.gate.streams ≡ no_streams
   -- the loss: nothing comes any more
   pub lost : w.gate.sides.lost ≡ true → (j.back ≡ []) × (w.host.unplugged ≡ true) × (w.gate.facts.connect ≡ None) × (w.gate.live ≡ []) × ((ep : ℕ) → stream_of w.gate.streams ep ≡ None)
-  pub sides : Sides w.gate j.gone
+  pub sides : SidesMatch w.gate j.gone
   pub farewell : Farewell w.host j.back

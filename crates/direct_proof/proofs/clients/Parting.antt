@@ -59,7 +59,7 @@ module _ {S : Type 0} (m : Meaning S) (w : World S) (j : Shared) (rel : Related 
       same : left_world w (cancels e) over ≡ new
       same = λ i. record w {
         gate = record new.gate {
-          imported = sym out i;
+          sides = record new.gate.sides { imported = sym out i };
           live = sym (sound.gone out) i;
           abandoned = (ap (λ (ps : List Pending). st.abandoned ++ filter (λ s. goes_by_id s.verdict) (map (λ (p : Pending). p.submit) ps)) (sound.gone out) ∙ append-nil st.abandoned) i;
           streams = sym downs i;

@@ -42,8 +42,7 @@ abbrev pub left_world : {S : Type 0} → World S → (Pending → Bool) → Bool
 left_world w test over = record w {
   gate = record w.gate {
     items = suc w.gate.items;
-    imported = false;
-    client_over = over;
+    sides = record w.gate.sides { imported = false; client_over = over };
     live = [];
     abandoned = w.gate.abandoned ++ filter (λ s. goes_by_id s.verdict) (submits w.gate);
     streams = no_streams;
@@ -106,11 +105,13 @@ module _ {S : Type 0} (w : World S) (e : Effect) (l : ClientGoes w.gate e) where
       gate = record w.gate {
         items = suc w.gate.items;
         facts = cond (l.keeps i) no_facts (tell w.gate.facts None);
-        agreed = unwrap_or (l.no_caps i) w.gate.sides.agreed;
-        imported = cond (l.no_import i) true (cond (l.gone i) false w.gate.sides.imported);
-        lost = cond (l.keeps i) true (cond (l.no_import i) false w.gate.sides.lost);
-        client_over = turned refuses_client ends_client e w.gate.sides.client_over;
-        host_over = cond (l.open_host i) true w.gate.sides.host_over;
+        sides = record {
+          agreed = unwrap_or (l.no_caps i) w.gate.sides.agreed;
+          imported = cond (l.no_import i) true (cond (l.gone i) false w.gate.sides.imported);
+          lost = cond (l.keeps i) true (cond (l.no_import i) false w.gate.sides.lost);
+          client_over = turned refuses_client ends_client e w.gate.sides.client_over;
+          host_over = cond (l.open_host i) true w.gate.sides.host_over;
+        };
         live = leaving-left w.gate e l.gone i;
         abandoned = cond (l.gone i) (w.gate.abandoned ++ filter (λ s. goes_by_id s.verdict) (submits w.gate)) (cond (is_loss e) [] (filter (λ s. not (is_answered e s)) w.gate.abandoned));
         streams = cond (l.gone i || is_loss e) no_streams (moved_streams e w.gate.streams);

@@ -71,12 +71,12 @@ keep-list {S = S} m w j place status rel sound out = go w.gate.sides.client_over
 -- ---- an import
 
 abbrev pub imported_world : {S : Type 0} → World S → World S
-imported_world w = record w { gate = record w.gate { items = suc w.gate.items; imported = true; lost = false } }
+imported_world w = record w { gate = record w.gate { items = suc w.gate.items; sides = record w.gate.sides { imported = true; lost = false } } }
 
 imported-made : {S : Type 0} (w : World S) (reply : OpPacket) → gate_made as_deeds w (mark_as w.gate (Imports reply) None) ≡ record { world = imported_world w; outs = Op reply ∷ []; told = Import ∷ [] }
 imported-made {S = S} w reply = λ i. record {
   world = record w {
-    gate = record st { items = suc st.items; imported = true; lost = false; live = live i; abandoned = filter-all st.abandoned i };
+    gate = record st { items = suc st.items; sides = record st.sides { imported = true; lost = false }; live = live i; abandoned = filter-all st.abandoned i };
     to_host = (ap (λ (l : List (ℕ × RedirPacket)). w.to_host ++ ((l ++ []) ++ [])) (none-cancelled (Imports reply) stays-uncancelled st.live) ∙ append-nil w.to_host) i;
     submits = (ap (λ (ps : List Pending). w.submits ++ flat_map named (((((note.Imported ∷ []) ++ map (λ (p : Pending). note.Answered p.submit.request.seqnum) ps) ++ []) ++ []) ++ [])) (filter-none (present st (Imports reply))) ∙ append-nil w.submits) i;
   };

@@ -57,7 +57,7 @@ module _ {S : Type 0} (m : Meaning S) (w : World S) (j : Shared) (place : ℕ) (
 
   abbrev lost_world : World S
   lost_world = record w {
-    gate = record st { items = suc st.items; facts = no_facts; lost = true; live = []; abandoned = []; streams = no_streams; fence = None };
+    gate = record st { items = suc st.items; facts = no_facts; sides = record st.sides { lost = true }; live = []; abandoned = []; streams = no_streams; fence = None };
     to_host = w.to_host ++ acks;
     to_gate = [];
   }
@@ -88,7 +88,7 @@ module _ {S : Type 0} (m : Meaning S) (w : World S) (j : Shared) (place : ℕ) (
       ∙ (λ i. cond (rel.sides.reads i) (quiet (record w { to_gate = [] })) (gate_made as_deeds (record w { to_gate = [] }) (mark_as st effect None)))
       ∙ (λ i. record {
         world = record w {
-          gate = record st { items = suc st.items; facts = no_facts; lost = true; live = map (ask effect) (filter-none (present st effect) i); abandoned = []; streams = no_streams; fence = None };
+          gate = record st { items = suc st.items; facts = no_facts; sides = record st.sides { lost = true }; live = map (ask effect) (filter-none (present st effect) i); abandoned = []; streams = no_streams; fence = None };
           to_host = w.to_host ++ ((none-cancelled effect stays-uncancelled st.live i ++ []) ++ acks);
           to_gate = [];
           submits = (ap (λ (ps : List Pending). w.submits ++ flat_map named (((map (λ (p : Pending). note.Answered p.submit.request.seqnum) ps ++ notes.when (st.sides.imported && not st.sides.lost) note.DeviceGone) ++ []) ++ [])) (filter-none (present st effect)) ∙ unnamed (st.sides.imported && not st.sides.lost)) i;

@@ -21,7 +21,7 @@ use Rattle.direct_device.specs.Acting.{Answer}
 use Rattle.direct_proof.specs.Deeds.{as_deeds}
 
 abbrev pub told_world : {S : Type 0} → World S → Caps → Option Fact → World S
-told_world w caps fact = record w { gate = record w.gate { items = suc w.gate.items; facts = tell w.gate.facts fact; agreed = caps } }
+told_world w caps fact = record w { gate = record w.gate { items = suc w.gate.items; facts = tell w.gate.facts fact; sides = record w.gate.sides { agreed = caps } } }
 
 pub idle-made : {S : Type 0} (w : World S) (fact : Option Fact) → gate_made as_deeds w (mark_as w.gate Idle fact) ≡ quiet (told_world w w.gate.sides.agreed fact)
 idle-made {S = S} w fact = λ i. record {
@@ -43,7 +43,7 @@ idle-made {S = S} w fact = λ i. record {
 pub agrees-made : {S : Type 0} (w : World S) (caps : Caps) (fact : Option Fact) → gate_made as_deeds w (mark_as w.gate (Agrees caps) fact) ≡ quiet (told_world w caps fact)
 agrees-made {S = S} w caps fact = λ i. record {
   world = record w {
-    gate = record st { items = suc st.items; facts = tell st.facts fact; agreed = caps; live = live i; abandoned = filter-all st.abandoned i };
+    gate = record st { items = suc st.items; facts = tell st.facts fact; sides = record st.sides { agreed = caps }; live = live i; abandoned = filter-all st.abandoned i };
     to_host = (ap (λ (l : List (ℕ × RedirPacket)). w.to_host ++ ((l ++ []) ++ [])) (none-cancelled (Agrees caps) stays-uncancelled st.live) ∙ append-nil w.to_host) i;
     submits = (ap (λ (ps : List Pending). w.submits ++ flat_map named (((map (λ (p : Pending). note.Answered p.submit.request.seqnum) ps ++ []) ++ []) ++ [])) (filter-none (present st (Agrees caps))) ∙ append-nil w.submits) i;
   };

@@ -18,7 +18,7 @@ replied_world w = record w { gate = record w.gate { items = suc w.gate.items } }
 
 -- the accepted submits are those, and the client is over or not
 abbrev pub counted_world : {S : Type 0} → World S → List Submitted → Bool → World S
-counted_world w names over = record w { gate = record w.gate { items = suc w.gate.items; client_over = over }; submits = names }
+counted_world w names over = record w { gate = record w.gate { items = suc w.gate.items; sides = record w.gate.sides { client_over = over } }; submits = names }
 
 pub counted-related : {S : Type 0} (m : Meaning S) (w : World S) (j : Shared) (names : List Submitted) (over : Bool) → Related m w j → Ids j.debts names (j.held ++ j.coming) (runs_in j.back) → (over ≡ true → w.gate.sides.imported ≡ false) → Related m (counted_world w names over) j
 counted-related m w j names over rel ids refused = record {

@@ -100,7 +100,7 @@ meets-sent w j cs no_greeting no_plug k = record {
 }
 
 -- and where another client is there, or none
-pub meets-client : {S : Type 0} (w : World S) (j : Shared) (imported lost : Bool) → (imported ≡ true → lost ≡ false → is_some w.gate.facts.connect ≡ true) → Meets w j → Meets (record w { gate = record w.gate { imported = imported; lost = lost } }) j
+pub meets-client : {S : Type 0} (w : World S) (j : Shared) (imported lost : Bool) → (imported ≡ true → lost ≡ false → is_some w.gate.facts.connect ≡ true) → Meets w j → Meets (record w { gate = record w.gate { sides = record w.gate.sides { imported = imported; lost = lost } } }) j
 meets-client w j imported lost known k = record { host = k.host; gate = k.gate; announced = k.announced; behind = k.behind; once = k.once; plugged = k.plugged; no_session = known }
 
 -- a host that is there has sent no farewell

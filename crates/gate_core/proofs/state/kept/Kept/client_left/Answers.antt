@@ -22,7 +22,7 @@ returns-clause-ok c st h =
     let old = c.args.self.now in
     does-leave st (Ends Client) refl refl refl c.in_ok-sent_ids.sent_ids old _ c.args.out.now _ _ h c.requires.kept.answered_fits c.requires.kept.unlinked_fits
     (parts-are old st h (Ends Client) c.in_ok-sent_ids.sent_ids refl c.in_ok-sent_ids.ensures.sent_ids)
-    (ap (λ (k : Kept). record k { client_over = false }) c.leave.ensures.left.is)
+    (ap (λ (k : Kept). record k { sides = record k.sides { client_over = false } }) c.leave.ensures.left.is)
     (leaving-sent old st h (Ends Client) refl c.args.out.now.to_host _ _ c.in_ok-write_cancels.ensures.ok c.in_ok-sent_ids.ensures.sent)
     (c.in_ok-tell_gone.ensures.ok ∙ ap (λ (ns : List Note). c.args.out.now.notes ++ ns) (sym (append-nil (when (not old.sides.client_over) note.ClientGone))))
 
@@ -47,7 +47,7 @@ returns-in_err-sent_ids-clause-wants c st h =
 
 pub returns-in_err-tell_gone-clause-wants : goal.returns-in_err-tell_gone-clause-wants
 returns-in_err-tell_gone-clause-wants c st h =
-    on-err c.from_residual-in_err-tell_gone.result _ (by-leaving st (Ends Client) None refl (ap not ((λ j. (sym h.sides j).client_over)) ∙ c.in_err-tell_gone.ensures.wants))
+    on-err c.from_residual-in_err-tell_gone.result _ (by-leaving st (Ends Client) None refl (ap not (λ j. (sym h.sides j).client_over) ∙ c.in_err-tell_gone.ensures.wants))
 
 pub returns-in_err-write_cancels-clause-err : goal.returns-in_err-write_cancels-clause-err
 returns-in_err-write_cancels-clause-err c = on-err c.from_residual.result _ (leaves-host c.args.self.now c.args.self.now c.args.out.now c.write_cancels.new.to_host refl c.in_err-write_cancels.ensures.err)

@@ -25,7 +25,7 @@ returns-in_err-unlinked-clause-wants c st h =
 
 pub returns-in_err-tell_loss-clause-wants : goal.returns-in_err-tell_loss-clause-wants
 returns-in_err-tell_loss-clause-wants c st h =
-    on-err c.from_residual-in_err-tell_loss.result _ (by-loss st (Disconnects c.args.id) None refl ((λ i. sym (h.sides i).imported && not (sym (h.sides i).lost)) ∙ c.in_err-tell_loss.ensures.wants))
+    on-err c.from_residual-in_err-tell_loss.result _ (by-loss st (Disconnects c.args.id) None refl ((λ i. (sym h.sides i).imported && not ((sym h.sides i).lost)) ∙ c.in_err-tell_loss.ensures.wants))
 
 pub returns-in_err-acknowledge-clause-wants : goal.returns-in_err-acknowledge-clause-wants
 returns-in_err-acknowledge-clause-wants c st h =

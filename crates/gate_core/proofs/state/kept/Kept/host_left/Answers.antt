@@ -16,7 +16,7 @@ pub returns-clause-ok : goal.returns-clause-ok
 returns-clause-ok c st h =
     let old = c.args.self.now in
     let lost = lost-is c.in_ok-unlinked.unlinked old c.lose.new.self c.lose.ensures.lost c.in_ok-unlinked.ensures.count in
-    does-loss st (Ends Host) None refl refl refl old _ _ _ h c.requires.kept.dropped_fits (ap (λ (k : Kept). record k { host_over = true }) lost) c.in_ok-unlinked.ensures.ok (sym (append-nil c.args.out.now.to_host))
+    does-loss st (Ends Host) None refl refl refl old _ _ _ h c.requires.kept.dropped_fits (ap (λ (k : Kept). record k { sides = record k.sides { host_over = true } }) lost) c.in_ok-unlinked.ensures.ok (sym (append-nil c.args.out.now.to_host))
     (c.in_ok-tell_loss.ensures.ok ∙ ap (λ (ns : List Note). c.args.out.now.notes ++ ns) (sym (append-nil (when (old.sides.imported && not old.sides.lost) note.DeviceGone))))
 
 pub returns-in_err-unlinked-clause-wants : goal.returns-in_err-unlinked-clause-wants
@@ -25,7 +25,7 @@ returns-in_err-unlinked-clause-wants c st h =
 
 pub returns-in_err-tell_loss-clause-wants : goal.returns-in_err-tell_loss-clause-wants
 returns-in_err-tell_loss-clause-wants c st h =
-    on-err c.from_residual-in_err-tell_loss.result _ (by-loss st (Ends Host) None refl ((λ i. sym (h.sides i).imported && not (sym (h.sides i).lost)) ∙ c.in_err-tell_loss.ensures.wants))
+    on-err c.from_residual-in_err-tell_loss.result _ (by-loss st (Ends Host) None refl ((λ i. (sym h.sides i).imported && not ((sym h.sides i).lost)) ∙ c.in_err-tell_loss.ensures.wants))
 
 pub returns-in_err-unlinked-clause-err : goal.returns-in_err-unlinked-clause-err
 returns-in_err-unlinked-clause-err c = on-err c.from_residual.result _ (leaves-client c.args.self.now c.args.self.now c.args.out.now c.write_losses.new.to_client refl c.in_err-unlinked.ensures.err)

@@ -20,7 +20,7 @@ returns-clause-ok c st h going =
     let first : when (not old.sides.client_over) note.ClientGone ≡ note.ClientGone ∷ [] = ap (λ (b : Bool). when (not b) note.ClientGone) ((λ j. (h.sides j).client_over) ∙ going) in
     does-leave st e refl gone (ap (λ (s : Side). not (is_client s)) c.requires.side) c.in_ok-sent_ids.sent_ids old _ c.args.out.now _ _ h c.requires.kept.answered_fits c.requires.kept.unlinked_fits
     (parts-are old st h e c.in_ok-sent_ids.sent_ids asked c.in_ok-sent_ids.ensures.sent_ids)
-    (λ i. record (c.leave.ensures.left.is i) { client_over = over i })
+    (λ i. record (c.leave.ensures.left.is i) { sides = record (c.leave.ensures.left.is i).sides { client_over = over i } })
     (leaving-sent old st h e asked c.args.out.now.to_host _ _ c.in_ok-write_cancels.ensures.ok c.in_ok-sent_ids.ensures.sent)
     (c.in_ok-push-2.ensures.ok ∙ ap (λ (ns : List Note). ns ++ note.Refused c.args.refusal ∷ []) c.in_ok-push.ensures.ok ∙ append_assoc c.args.out.now.notes (note.ClientGone ∷ []) (note.Refused c.args.refusal ∷ [])
     ∙ ap (λ (ns : List Note). c.args.out.now.notes ++ (ns ++ note.Refused c.args.refusal ∷ [])) (sym first))

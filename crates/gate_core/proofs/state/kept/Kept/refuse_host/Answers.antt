@@ -15,7 +15,7 @@ returns-clause-ok c st h =
     let old = c.args.self.now in
     let lost = lost-is c.in_ok-unlinked.unlinked old c.lose.new.self c.lose.ensures.lost c.in_ok-unlinked.ensures.count in
     let over : true ≡ cond (not (is_client c.args.refusal.side)) true old.sides.host_over = ap (λ (s : Side). cond (not (is_client s)) true old.sides.host_over) (sym c.requires.side) in
-    does-loss st (Refuses c.args.refusal) None refl (ap (λ (s : Side). not (is_client s)) c.requires.side) (ap is_client c.requires.side) old _ _ _ h c.requires.kept.dropped_fits (λ i. record (lost i) { host_over = over i }) c.in_ok-unlinked.ensures.ok (sym (append-nil c.args.out.now.to_host))
+    does-loss st (Refuses c.args.refusal) None refl (ap (λ (s : Side). not (is_client s)) c.requires.side) (ap is_client c.requires.side) old _ _ _ h c.requires.kept.dropped_fits (λ i. record (lost i) { sides = record (lost i).sides { host_over = over i } }) c.in_ok-unlinked.ensures.ok (sym (append-nil c.args.out.now.to_host))
     (c.in_ok-push.ensures.ok ∙ ap (λ (ns : List Note). ns ++ note.Refused c.args.refusal ∷ []) c.in_ok-tell_loss.ensures.ok ∙ append_assoc c.args.out.now.notes (when (old.sides.imported && not old.sides.lost) note.DeviceGone) (note.Refused c.args.refusal ∷ []))
 
 pub returns-in_err-unlinked-clause-err : goal.returns-in_err-unlinked-clause-err
