@@ -1,9 +1,9 @@
 -- Numbers of one width read, spelled again and read again.
-use Rattle.std.proofs.Common.{◌≡◌, ℕ, zero, suc, ◌+◌, ◌*◌, ◌^◌, ◌<◌, ◌≤◌, List, [], ◌∷◌, ◌++◌, length, take, drop, set, replicate, refl, sym, ap, ◌∙◌, append_assoc, arith, add-one}
+use Rattle.std.proofs.Common.{◌≡◌, ℕ, zero, suc, ◌+◌, ◌*◌, ◌^◌, ◌<◌, ◌≤◌, List, [], ◌∷◌, ◌++◌, length, take, drop, get_or, replicate, refl, sym, ap, ◌∙◌, append_assoc, arith, add-one}
 use Rattle.std.specs.Int.{Width, w16, w32, byte_len, from_le_bytes}
-use Rattle.std.proofs.lemmas.List.{drop-drop, drop_at, length-append, length-drop}
-use Rattle.std.proofs.lemmas.Grind.{take-set_at}
+use Rattle.std.proofs.lemmas.List.{drop-drop, drop_at, get_or-drop, get_or-take, length-append, length-drop, take_more}
 use Rattle.std.proofs.lemmas.Nat.{from_le_bytes-to_le_bytes_2, from_le_bytes-to_le_bytes_4}
+use Rattle.byteorder.specs.Endian.{little_number, IsRead}
 use Rattle.usb_base.specs.Number.{le, le_at, part, AreBytes}
 use Rattle.usb_base.proofs.Numbers.{AreBytes-drop, then, le_spelled_16, le_spelled_32, length-le, le_at-below_16, le_at-below_32}
 use Rattle.redir_wire.specs.Words.{numbers, numbers_of, AreNumbers}
@@ -35,14 +35,22 @@ next w (suc n) b =
 pub next_word : (n : ℕ) (b : List ℕ) → numbers_of w32 (n + 1) b ≡ numbers_of w32 n b ++ le_at w32 (n * 4) b ∷ []
 next_word n b = ap (λ (m : ℕ). numbers_of w32 m b) (add-one n) ∙ next w32 n b
 
--- one after another, stored in an array
-pub next_half : (b hs : List ℕ) (place n half : ℕ) → half ≡ le_at w16 (place + n * 2) b → n < length hs → take n hs ≡ numbers_of w16 n (drop place b) →
-    take (n + 1) (set hs n half) ≡ numbers_of w16 (n + 1) (drop place b)
+-- the half at a place of a part, by its two bytes
+half_of : (b : List ℕ) (n k : ℕ) → 2 * k + 2 ≤ n → little_number 2 (drop (2 * k) (take n b)) ≡ le_at w16 (k * 2) b
 unfolding le_at
-next_half b hs place n half is less told =
-    let here : half ≡ le_at w16 (n * 2) (drop place b) =
-    is ∙ ap (λ (x : List ℕ). from_le_bytes w16 (take 2 x)) (ap (λ (m : ℕ). drop m b) (omega arith) ∙ sym (drop-drop (n * 2) place b)) in
-    take-set_at hs n (n + 1) half refl less ∙ (λ i. told i ++ here i ∷ []) ∙ sym (next w16 n (drop place b)) ∙ ap (λ (m : ℕ). numbers_of w16 m (drop place b)) (sym (add-one n))
+half_of b n k within =
+    let byte : (i : ℕ) → i < 2 → get_or (drop (2 * k) (take n b)) i 0 ≡ get_or (take 2 (drop (k * 2) b)) i 0 =
+    λ i less. get_or-drop (2 * k) (take n b) i 0 ∙ get_or-take n b (2 * k + i) 0 (omega arith) ∙ ap (λ (m : ℕ). get_or b m 0) (omega arith)
+    ∙ sym (get_or-take 2 (drop (k * 2) b) i 0 less ∙ get_or-drop (k * 2) b i 0) in
+    omega (arith, byte 0 (omega arith), byte 1 (omega arith))
+
+-- each by its place
+pub halves_at : (b hs : List ℕ) (size n : ℕ) → 2 * n ≤ size → n ≤ length hs → IsRead little_number 2 (take size b) hs → take n hs ≡ numbers_of w16 n b
+unfolding numbers_of
+halves_at b hs size zero within there read = refl
+halves_at b hs size (suc n) within there read =
+    let here : get_or hs n 0 ≡ le_at w16 (n * 2) b = read n there ∙ half_of b size n (omega arith) in
+    ap (λ (m : ℕ). take m hs) (sym (add-one n)) ∙ take_more hs n 0 there ∙ (λ i. halves_at b hs size n (omega arith) (omega arith) read i ++ here i ∷ []) ∙ sym (next w16 n b)
 
 -- ---- spelled again, and read again
 

@@ -19,6 +19,7 @@ use crate::packet::{
     Words,
 };
 use crate::types::plain_types;
+use byteorder::{ByteOrder, LittleEndian};
 use packet_stream::ReadError;
 use std::alloc::Global;
 use usb_base::{Boxed, ENDPOINTS, Memory, Reason, array_at, le_u16_at, le_u32_at};
@@ -173,8 +174,6 @@ fn max_packet_at(bytes: &[u8]) -> [u16; ENDPOINTS]
     ensures { result ≡ numbers_of w16 ENDPOINTS (drop 96 bytes.now) }
 {
     let mut sizes = [0; ENDPOINTS];
-    for i in 0..ENDPOINTS {
-        sizes[i] = le_u16_at(bytes, 96 + i * 2);
-    }
+    LittleEndian::read_u16_into(&bytes[96..160], &mut sizes);
     sizes
 }
