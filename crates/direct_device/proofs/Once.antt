@@ -1,5 +1,6 @@
 -- Performed at most once: what holds along a legal trace of the device attached directly.
 use Rattle.std.proofs.Common.{◌≡◌, ℕ, ◌+◌, ◌≤◌, ◌==◌, Bool, true, false, cond, not, List, [], ◌∷◌, Option, Some, None, refl, sym, ap, ◌∙◌, arith, true≢false}
+use Rattle.std.specs.List.{count_by}
 use Rattle.std.proofs.lemmas.Bool.{eqb-true}
 use Rattle.usb_base.specs.declared.status.UsbStatus.{UsbStatus}
 use Rattle.model_device.specs.Meaning.{Meaning}
@@ -11,7 +12,7 @@ use Rattle.gate_history.specs.client.Verdict.{goes_by_id}
 use Rattle.gate_history.specs.client.Ends.{is_waiting, is_cancelled}
 use Rattle.direct_device.specs.Direct.{Live, Waiting, Ran, Direct, number, is_number}
 use Rattle.direct_device.specs.Acting.{Deed, Import, Submit, Perform}
-use Rattle.direct_device.proofs.Counts.{count}
+use Rattle.direct_device.proofs.Counts.{count-cons}
 use Rattle.direct_device.specs.Performed.{times_performed, NeverCancels}
 use Rattle.direct_device.proofs.Taken.{weight, away, count-apart}
 
@@ -58,13 +59,13 @@ pub record Once (never : Type 0) (live : List Live) (queue : List Waiting) (ran 
   pub zero : Each (λ (q : Waiting). c (number q.load) ≡ 0) queue
   pub came : never → Each (λ (r : Ran). c (number r.load) ≡ done r.outcome.status) ran
   pub idle : Each (Idle c) live
-  pub balance : (n : ℕ) → count (queued_number n) queue + count (ran_number n) ran ≡ count (by_id n) live
-  pub one : (n : ℕ) → count (live_number n) live ≤ 1
+  pub balance : (n : ℕ) → count_by (queued_number n) queue + count_by (ran_number n) ran ≡ count_by (by_id n) live
+  pub one : (n : ℕ) → count_by (live_number n) live ≤ 1
 
 -- and whoever is imported, what is queued is performed once at most
 pub record Inv (never : Type 0) (imported gone : Bool) (live : List Live) (queue : List Waiting) (ran : List Ran) (c : ℕ → ℕ) : Type 0 where
   pub once : imported ≡ true → gone ≡ false → Once never live queue ran c
-  pub most : (n : ℕ) → c n + count (queued_number n) queue ≤ 1
+  pub most : (n : ℕ) → c n + count_by (queued_number n) queue ≤ 1
   pub out : imported ≡ false → (ran ≡ []) × (live ≡ [])
   pub lost : gone ≡ true → live ≡ []
 
@@ -76,7 +77,7 @@ Holds m d c = Inv (NeverCancels m) d.imported d.gone d.live d.queue d.ran c
 abbrev pub without_id : ℕ → Live → Bool
 without_id n l = both (not (goes_by_id l.load.verdict)) (is_number n l.load)
 
-pub by-id-number : (n : ℕ) (xs : List Live) → count (by_id n) xs + count (without_id n) xs ≤ count (live_number n) xs
+pub by-id-number : (n : ℕ) (xs : List Live) → count_by (by_id n) xs + count_by (without_id n) xs ≤ count_by (live_number n) xs
 by-id-number n xs = count-apart (by_id n) (without_id n) (live_number n) (λ l. parts (goes_by_id l.load.verdict) (is_number n l.load)) xs
   where
     parts : (a b : Bool) → weight (both a b) + weight (both (not a) b) ≤ weight b
@@ -105,10 +106,10 @@ pub passed : {X : Type 0} (num value : X → ℕ) (c : ℕ → ℕ) (ep n : ℕ)
 passed num value c ep n [] h k = tt
 passed num value c ep n (x ∷ xs) h k = (ap (λ (b : Bool). cond b (c (num x) + 1) (c (num x))) (away (num x) n h.0) ∙ k.0, passed num value c ep n xs h.1 k.1)
 
-pub found-zero : (n : ℕ) (c : ℕ → ℕ) (qs : List Waiting) → Each (λ (q : Waiting). c (number q.load) ≡ 0) qs → 1 ≤ count (queued_number n) qs → c n ≡ 0
+pub found-zero : (n : ℕ) (c : ℕ → ℕ) (qs : List Waiting) → Each (λ (q : Waiting). c (number q.load) ≡ 0) qs → 1 ≤ count_by (queued_number n) qs → c n ≡ 0
 found-zero n c [] h k = absurd (omega (arith, k))
-found-zero n c (q ∷ qs) h k0 = go (is_number n q.load) refl k0 (found-zero n c qs h.1)
+found-zero n c (q ∷ qs) h k0 = go (is_number n q.load) refl (omega (arith, k0, count-cons (queued_number n) q qs)) (found-zero n c qs h.1)
   where
-    go : (b : Bool) → is_number n q.load ≡ b → 1 ≤ weight b + count (queued_number n) qs → (1 ≤ count (queued_number n) qs → c n ≡ 0) → c n ≡ 0
+    go : (b : Bool) → is_number n q.load ≡ b → 1 ≤ weight b + count_by (queued_number n) qs → (1 ≤ count_by (queued_number n) qs → c n ≡ 0) → c n ≡ 0
     go true e k rest = ap c (sym (eqb-true (number q.load) n e)) ∙ h.0
     go false e k rest = rest (omega (arith, k))

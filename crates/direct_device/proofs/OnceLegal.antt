@@ -1,7 +1,7 @@
 -- What holds along a whole legal trace, and what it says where something is performed, answered or lost.
 use Rattle.std.proofs.Common.{◌≡◌, ℕ, ◌≤◌, Bool, true, false, List, [], ◌∷◌, ◌++◌, Option, Some, None, refl, sym, ap, subst, ◌∙◌, arith, true≢false}
 use Rattle.std.specs.Prelude.{slice_get, IsSomeAnd, IsSome}
-use Rattle.std.specs.List.{find}
+use Rattle.std.specs.List.{find, count_by}
 use Rattle.std.proofs.lemmas.Bool.{eqb-true}
 use Rattle.model_device.specs.Meaning.{Meaning}
 use Rattle.gate_history.proofs.lemmas.Lists.{Each, both, Each-weaker}
@@ -10,7 +10,7 @@ use Rattle.gate_history.specs.client.Ends.{is_waiting}
 use Rattle.direct_device.specs.Direct.{Live, Waiting, Ran, Direct, first_direct, number, is_number, is_at, normal_of}
 use Rattle.direct_device.specs.Acting.{Deed, Perform, Answer, Gone, act}
 use Rattle.direct_device.specs.Legal.{CanAnswerBy, IsAllowed, AreAllowed, acts}
-use Rattle.direct_device.proofs.Counts.{count, any-some, itself, Each-and}
+use Rattle.direct_device.proofs.Counts.{count-cons, any-some, itself, Each-and}
 use Rattle.direct_device.specs.Performed.{times_performed, NeverCancels, FitsPerform}
 use Rattle.direct_device.proofs.Once.{was_performed, counted, counts-on, queued_number, done, by_id, live_number, ran_number, Idle, Once, Holds, found-zero, by-id-number}
 use Rattle.direct_device.proofs.Taken.{weight, weight-true, find-passes, count-taken}
@@ -74,21 +74,21 @@ again-once m d c ep n inv ok = go (find (is_at ep) d.queue) refl ok.1
         }
 
 -- each that goes by an id counts as one
-each-by_id : (xs : List Live) → Each (λ (l : Live). goes_by_id l.load.verdict ≡ true → 1 ≤ count (by_id (number l.load)) xs) xs
+each-by_id : (xs : List Live) → Each (λ (l : Live). goes_by_id l.load.verdict ≡ true → 1 ≤ count_by (by_id (number l.load)) xs) xs
 each-by_id [] = tt
 each-by_id (x ∷ xs) = (
-  (λ goes. let own = ap weight (ap (λ (b : Bool). both b (is_number (number x.load) x.load)) goes ∙ itself (number x.load)) in omega (arith, own)),
-  Each-weaker (λ (l : Live). goes_by_id l.load.verdict ≡ true → 1 ≤ count (by_id (number l.load)) xs) (λ (l : Live). goes_by_id l.load.verdict ≡ true → 1 ≤ count (by_id (number l.load)) (x ∷ xs)) (λ l h goes. let one = h goes in omega (arith, one)) xs (each-by_id xs),
+  (λ goes. let own = ap weight (ap (λ (b : Bool). both b (is_number (number x.load) x.load)) goes ∙ itself (number x.load)) in omega (arith, own, count-cons (by_id (number x.load)) x xs)),
+  Each-weaker (λ (l : Live). goes_by_id l.load.verdict ≡ true → 1 ≤ count_by (by_id (number l.load)) xs) (λ (l : Live). goes_by_id l.load.verdict ≡ true → 1 ≤ count_by (by_id (number l.load)) (x ∷ xs)) (λ l h goes. let one = h goes in omega (arith, one, count-cons (by_id (number l.load)) x xs)) xs (each-by_id xs),
 )
 
 pub loss-once : {S : Type 0} (m : Meaning S) (d : Direct S) (c : ℕ → ℕ) → Holds m d c → IsAllowed m d Gone → Each (λ (l : Live). c (number l.load) ≡ 0) d.live
 loss-once m d c inv ok =
     let o = inv.once ok.0 ok.1 in
-    Each-and (λ (l : Live). goes_by_id l.load.verdict ≡ true → 1 ≤ count (by_id (number l.load)) d.live) (Idle c) (λ (l : Live). c (number l.load) ≡ 0) (λ l h w. go l o (goes_by_id l.load.verdict) refl h w) d.live (each-by_id d.live) o.idle
+    Each-and (λ (l : Live). goes_by_id l.load.verdict ≡ true → 1 ≤ count_by (by_id (number l.load)) d.live) (Idle c) (λ (l : Live). c (number l.load) ≡ 0) (λ l h w. go l o (goes_by_id l.load.verdict) refl h w) d.live (each-by_id d.live) o.idle
   where
-    go : (l : Live) → Once (NeverCancels m) d.live d.queue d.ran c → (b : Bool) → goes_by_id l.load.verdict ≡ b → (goes_by_id l.load.verdict ≡ true → 1 ≤ count (by_id (number l.load)) d.live) → Idle c l → c (number l.load) ≡ 0
+    go : (l : Live) → Once (NeverCancels m) d.live d.queue d.ran c → (b : Bool) → goes_by_id l.load.verdict ≡ b → (goes_by_id l.load.verdict ≡ true → 1 ≤ count_by (by_id (number l.load)) d.live) → Idle c l → c (number l.load) ≡ 0
     go l o true goes h w =
         let some = h goes in
-        let none : count (ran_number (number l.load)) d.ran ≡ 0 = ap (count (ran_number (number l.load))) ok.2 in
+        let none : count_by (ran_number (number l.load)) d.ran ≡ 0 = ap (count_by (ran_number (number l.load))) ok.2 in
         found-zero (number l.load) c d.queue o.zero (omega (arith, some, none, o.balance (number l.load)))
     go l o false goes h w = w goes

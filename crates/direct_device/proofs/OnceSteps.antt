@@ -1,7 +1,7 @@
 -- Unlinks, performs, cancels and answers keep what holds.
 use Rattle.std.proofs.Common.{◌≡◌, ℕ, ◌+◌, ◌≤◌, ◌==◌, Bool, true, false, cond, not, List, [], ◌∷◌, ◌++◌, map, Some, length, take, unwrap_or, slice_index, refl, sym, ap, ◌∙◌, arith}
 use Rattle.std.specs.Prelude.{filter}
-use Rattle.std.specs.List.{find}
+use Rattle.std.specs.List.{find, count_by}
 use Rattle.std.proofs.lemmas.Bool.{eqb-true, and_parts}
 use Rattle.usb_base.specs.Status.{is_success}
 use Rattle.usb_base.specs.declared.transfer.Outcome.{Outcome}
@@ -19,7 +19,7 @@ use Rattle.gate_history.specs.client.Ends.{is_waiting, is_cancelled}
 use Rattle.gate_history.specs.write.Packets.{no_setup}
 use Rattle.direct_device.specs.Direct.{Live, Waiting, Ran, number, is_number, is_at, without_first, cancelled, seen_by}
 use Rattle.direct_device.specs.Acting.{Perform, is_taken, asked_back, marked, is_cancelled_by, without_number}
-use Rattle.direct_device.proofs.Counts.{count, count-append, count-map, zero-count, itself, Each-map, Each-and, count-parts}
+use Rattle.direct_device.proofs.Counts.{count-cons, count-append, count-map, zero-count, itself, Each-map, Each-and, count-parts}
 use Rattle.direct_device.proofs.Taken.{weight, weight-true, weight-false, away, count-same, count-taken, find-passes, filter-only, Each-without, Each-find}
 use Rattle.direct_device.proofs.Once.{counted, done, by_id, live_number, queued_number, ran_number, Idle, Once, without_id, by-id-number, wait-by_id, passed}
 
@@ -38,7 +38,7 @@ unlink-once live queue ran c by target o = record {
     left : List Live
     left = filter (λ l. not (is_taken target l)) live
 
-    fewer : (k : ℕ) → count (by_id k) left ≡ count (by_id k) live
+    fewer : (k : ℕ) → count_by (by_id k) left ≡ count_by (by_id k) live
     fewer k = count-same (by_id k) (is_taken target) (λ l h. wait-by_id k l (and_parts (is_waiting l.load.verdict) (is_number target l.load) h).0) live
 
 -- ---- a perform
@@ -63,7 +63,7 @@ pub performed-once : {never : Type 0} (live : List Live) (queue : List Waiting) 
 performed-once live queue ran c ep n q flushed outcome o first same came =
     let is : number q.load ≡ n = eqb-true (number q.load) n same in
     let own = weight-true (is_number n q.load) same in
-    let few : count (queued_number n) queue + count (ran_number n) ran ≤ 1 = omega (arith, o.balance n, o.one n, by-id-number n live) in
+    let few : count_by (queued_number n) queue + count_by (ran_number n) ran ≤ 1 = omega (arith, o.balance n, o.one n, by-id-number n live) in
     let split = count-taken (queued_number n) (is_at ep) queue q first in
     let none_rest : Each (λ (y : Waiting). queued_number n y ≡ false) rest = zero-count (queued_number n) rest (omega (arith, few, split, own)) in
     let none_ran : Each (λ (r : Ran). ran_number n r ≡ false) ran = zero-count (ran_number n) ran (omega (arith, few, split, own)) in
@@ -107,8 +107,8 @@ performed-once live queue ran c ep n q flushed outcome o first same came =
         ap (λ (b : Bool). cond b (c (number l.load) + 1) (c (number l.load))) (away (number l.load) n apart) ∙ h w
 
 -- it was queued once more than it is then
-pub performed-most : (queue : List Waiting) (c : ℕ → ℕ) (ep n : ℕ) (q : Waiting) (flushed : Waiting → Bool) → find (is_at ep) queue ≡ Some q → is_number n q.load ≡ true → ((k : ℕ) → c k + count (queued_number k) queue ≤ 1) →
-    (k : ℕ) → counted c (Perform ep n) k + count (queued_number k) (filter (λ y. not (flushed y)) (without_first (is_at ep) queue)) ≤ 1
+pub performed-most : (queue : List Waiting) (c : ℕ → ℕ) (ep n : ℕ) (q : Waiting) (flushed : Waiting → Bool) → find (is_at ep) queue ≡ Some q → is_number n q.load ≡ true → ((k : ℕ) → c k + count_by (queued_number k) queue ≤ 1) →
+    (k : ℕ) → counted c (Perform ep n) k + count_by (queued_number k) (filter (λ y. not (flushed y)) (without_first (is_at ep) queue)) ≤ 1
 performed-most queue c ep n q flushed first same most k =
     let own : weight (queued_number k q) ≡ weight (n == k) = ap (λ (i : ℕ). weight (i == k)) (eqb-true (number q.load) n same) in
     omega (arith, most k, own, more (n == k), count-taken (queued_number k) (is_at ep) queue q first, count-parts (queued_number k) flushed (without_first (is_at ep) queue))
@@ -133,9 +133,9 @@ cancelled-once live queue ran c n q o first = record {
 -- ---- an answer
 
 -- the live one that is answered is the only one of its number
-answered-left : (live : List Live) (n : ℕ) (l : Live) → count (live_number n) live ≤ 1 → find (live_number n) live ≡ Some l → (t : Live → Bool) → weight (t l) + count t (without_number n live) ≡ count t live
+answered-left : (live : List Live) (n : ℕ) (l : Live) → count_by (live_number n) live ≤ 1 → find (live_number n) live ≡ Some l → (t : Live → Bool) → weight (t l) + count_by t (without_number n live) ≡ count_by t live
 answered-left live n l one found t =
-    let only = ap (count t) (filter-only (live_number n) live l found one) in
+    let only = ap (count_by t) (filter-only (live_number n) live l found one) in
     omega (arith, only, count-parts t (live_number n) live)
 
 -- one whose answer came goes by an id
@@ -145,7 +145,7 @@ answered-goes live queue c n l r rs o found same =
     let is = weight-true (live_number n l) (find-passes (live_number n) live l found) in
     let ids = answered-left live n l (o.one n) found (by_id n) in
     let all = answered-left live n l (o.one n) found (live_number n) in
-    goes (goes_by_id l.load.verdict) (omega (arith, own, is, ids, all, o.one n, o.balance n, by-id-number n (without_number n live)))
+    goes (goes_by_id l.load.verdict) (omega (arith, own, is, ids, all, o.one n, o.balance n, count-cons (ran_number n) r rs, by-id-number n (without_number n live)))
   where
     goes : (b : Bool) → 1 ≤ weight (both b (is_number n l.load)) → b ≡ true
     goes true h = refl
@@ -157,7 +157,7 @@ answered-once live queue c n l r rs o found same = record {
   zero = o.zero;
   came = λ never. (o.came never).1;
   idle = Each-filter (Idle c) (λ y. not (live_number n y)) live o.idle;
-  balance = λ k. let left = answered-left live n l (o.one n) found (by_id k) in let w = ap weight (one-number k) in omega (arith, o.balance k, left, w);
+  balance = λ k. let left = answered-left live n l (o.one n) found (by_id k) in let w = ap weight (one-number k) in omega (arith, o.balance k, count-cons (ran_number k) r rs, left, w);
   one = λ k. omega (arith, o.one k, count-parts (live_number k) (live_number n) live);
 }
   where

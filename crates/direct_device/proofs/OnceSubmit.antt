@@ -1,7 +1,7 @@
 -- A submit keeps what holds.
 use Rattle.std.proofs.Common.{◌≡◌, ℕ, ◌+◌, ◌≤◌, ◌==◌, Bool, true, false, cond, not, List, [], ◌∷◌, ◌++◌, Option, Some, None, refl, sym, ap, subst, ◌∙◌, arith, append-nil, true≢false}
 use Rattle.std.specs.Prelude.{filter}
-use Rattle.std.specs.List.{list_any}
+use Rattle.std.specs.List.{list_any, count_by}
 use Rattle.std.proofs.lemmas.Bool.{eqb-true}
 use Rattle.gate_history.proofs.lemmas.Lists.{Each, Each-append, Each-filter}
 use Rattle.gate_history.specs.declared.request.Request.{Request}
@@ -14,7 +14,7 @@ use Rattle.gate_history.specs.state.Ups.{Up}
 use Rattle.gate_history.specs.step.Meaning.{by_stream}
 use Rattle.direct_device.specs.Direct.{Load, Live, Waiting, Ran, number}
 use Rattle.direct_device.specs.Acting.{Submit, is_ended, joins_live, joins_queue}
-use Rattle.direct_device.proofs.Counts.{count, count-append, any-none, count-zero, zero-count, itself, Each-and, count-parts}
+use Rattle.direct_device.proofs.Counts.{count-append, any-none, count-zero, zero-count, itself, Each-and, count-parts}
 use Rattle.direct_device.proofs.Taken.{weight, weight-true, weight-false, away, count-same}
 use Rattle.direct_device.proofs.Once.{counted, done, by_id, live_number, queued_number, ran_number, Idle, Once, by-id-number, wait-by_id, reset}
 
@@ -32,11 +32,11 @@ ended-waits (Routed route) (Routed other) h = absurd (true≢false (sym h))
 ended-waits (Routed route) (IsoOut row) h = absurd (true≢false (sym h))
 ended-waits (Routed route) (Stream row) h = refl
 
-joins-same : (m : ℕ) (r : Request) (v : Verdict) → count (queued_number m) (joins_queue (record { request = r; verdict = v })) ≡ count (by_id m) (joins_live (record { request = r; verdict = v }) v)
+joins-same : (m : ℕ) (r : Request) (v : Verdict) → count_by (queued_number m) (joins_queue (record { request = r; verdict = v })) ≡ count_by (by_id m) (joins_live (record { request = r; verdict = v }) v)
 joins-same m r (Now status) = refl
 joins-same m r _ = refl
 
-joins-one : (m : ℕ) (r : Request) (v : Verdict) → count (live_number m) (joins_live (record { request = r; verdict = v }) v) ≤ weight (r.seqnum == m)
+joins-one : (m : ℕ) (r : Request) (v : Verdict) → count_by (live_number m) (joins_live (record { request = r; verdict = v }) v) ≤ weight (r.seqnum == m)
 joins-one m r (Now status) = omega arith
 joins-one m r _ = omega arith
 
@@ -59,7 +59,7 @@ submit-once live queue ran c r v o free =
     let l : Load = record { request = r; verdict = v } in
     let left : List Live = filter (λ y. not (is_ended v y)) live in
     let new : Each (λ (y : Live). live_number r.seqnum y ≡ false) live = any-none (live_number r.seqnum) live free in
-    let none : count (by_id r.seqnum) live ≡ 0 = (let z = count-zero (live_number r.seqnum) live new in omega (arith, z, by-id-number r.seqnum live)) in
+    let none : count_by (by_id r.seqnum) live ≡ 0 = (let z = count-zero (live_number r.seqnum) live new in omega (arith, z, by-id-number r.seqnum live)) in
     let none-queued = zero-count (queued_number r.seqnum) queue (omega (arith, none, o.balance r.seqnum)) in
     let none-ran = zero-count (ran_number r.seqnum) ran (omega (arith, none, o.balance r.seqnum)) in
     record {
@@ -75,9 +75,9 @@ submit-once live queue ran c r v o free =
       one = λ k. few k (r.seqnum == k) refl;
     }
   where
-    few : (k : ℕ) (b : Bool) → (r.seqnum == k) ≡ b → count (live_number k) (filter (λ y. not (is_ended v y)) live ++ joins_live (record { request = r; verdict = v }) v) ≤ 1
+    few : (k : ℕ) (b : Bool) → (r.seqnum == k) ≡ b → count_by (live_number k) (filter (λ y. not (is_ended v y)) live ++ joins_live (record { request = r; verdict = v }) v) ≤ 1
     few k true e =
-        let z : count (live_number k) live ≡ 0 = subst (λ (i : ℕ). count (live_number i) live ≡ 0) (eqb-true r.seqnum k e) (count-zero (live_number r.seqnum) live (any-none (live_number r.seqnum) live free)) in
+        let z : count_by (live_number k) live ≡ 0 = subst (λ (i : ℕ). count_by (live_number i) live ≡ 0) (eqb-true r.seqnum k e) (count-zero (live_number r.seqnum) live (any-none (live_number r.seqnum) live free)) in
         let w = weight-true (r.seqnum == k) e in
         omega (arith, z, w, joins-one k r v, count-parts (live_number k) (is_ended v) live, count-append (live_number k) (filter (λ y. not (is_ended v y)) live) (joins_live (record { request = r; verdict = v }) v))
     few k false e =
@@ -85,33 +85,33 @@ submit-once live queue ran c r v o free =
         omega (arith, w, o.one k, joins-one k r v, count-parts (live_number k) (is_ended v) live, count-append (live_number k) (filter (λ y. not (is_ended v y)) live) (joins_live (record { request = r; verdict = v }) v))
 
 -- one that joins the queue is new there
-pub submit-most : (queue : List Waiting) (c : ℕ → ℕ) (r : Request) (v : Verdict) → ((k : ℕ) → c k + count (queued_number k) queue ≤ 1) → (goes_by_id v ≡ true → count (queued_number r.seqnum) queue ≡ 0) →
-    (k : ℕ) → counted c (Submit r) k + count (queued_number k) (queue ++ joins_queue (record { request = r; verdict = v })) ≤ 1
+pub submit-most : (queue : List Waiting) (c : ℕ → ℕ) (r : Request) (v : Verdict) → ((k : ℕ) → c k + count_by (queued_number k) queue ≤ 1) → (goes_by_id v ≡ true → count_by (queued_number r.seqnum) queue ≡ 0) →
+    (k : ℕ) → counted c (Submit r) k + count_by (queued_number k) (queue ++ joins_queue (record { request = r; verdict = v })) ≤ 1
 submit-most queue c r v most free k = go v free (r.seqnum == k) refl
   where
-    stays : (b : Bool) → cond b 0 (c k) + count (queued_number k) queue ≤ 1
+    stays : (b : Bool) → cond b 0 (c k) + count_by (queued_number k) queue ≤ 1
     stays true = omega (arith, most k)
     stays false = most k
 
-    same : (b : Bool) → count (queued_number k) (queue ++ []) ≡ count (queued_number k) queue
-    same b = ap (count (queued_number k)) (append-nil queue)
+    same : (b : Bool) → count_by (queued_number k) (queue ++ []) ≡ count_by (queued_number k) queue
+    same b = ap (count_by (queued_number k)) (append-nil queue)
 
-    joined : (w : Waiting) → number w.load ≡ r.seqnum → (b : Bool) → (r.seqnum == k) ≡ b → count (queued_number r.seqnum) queue ≡ 0 → cond b 0 (c k) + count (queued_number k) (queue ++ w ∷ []) ≤ 1
+    joined : (w : Waiting) → number w.load ≡ r.seqnum → (b : Bool) → (r.seqnum == k) ≡ b → count_by (queued_number r.seqnum) queue ≡ 0 → cond b 0 (c k) + count_by (queued_number k) (queue ++ w ∷ []) ≤ 1
     joined w is true e none =
-        let z : count (queued_number k) queue ≡ 0 = subst (λ (i : ℕ). count (queued_number i) queue ≡ 0) (eqb-true r.seqnum k e) none in
+        let z : count_by (queued_number k) queue ≡ 0 = subst (λ (i : ℕ). count_by (queued_number i) queue ≡ 0) (eqb-true r.seqnum k e) none in
         let one = weight-true (number w.load == k) (ap (λ (i : ℕ). i == k) is ∙ e) in
         omega (arith, z, one, count-append (queued_number k) queue (w ∷ []))
     joined w is false e none =
         let other = weight-false (number w.load == k) (ap (λ (i : ℕ). i == k) is ∙ e) in
         omega (arith, most k, other, count-append (queued_number k) queue (w ∷ []))
 
-    go : (v : Verdict) → (goes_by_id v ≡ true → count (queued_number r.seqnum) queue ≡ 0) → (b : Bool) → (r.seqnum == k) ≡ b → cond b 0 (c k) + count (queued_number k) (queue ++ joins_queue (record { request = r; verdict = v })) ≤ 1
+    go : (v : Verdict) → (goes_by_id v ≡ true → count_by (queued_number r.seqnum) queue ≡ 0) → (b : Bool) → (r.seqnum == k) ≡ b → cond b 0 (c k) + count_by (queued_number k) (queue ++ joins_queue (record { request = r; verdict = v })) ≤ 1
     go (Wire pipe) free b e = joined (record { load = record { request = r; verdict = Wire pipe }; asked = false }) refl b e (free refl)
     go (Routed route) free b e = joined (record { load = record { request = r; verdict = Routed route }; asked = false }) refl b e (free refl)
     go _ free b e = omega (arith, stays b, same b)
 
 -- in a session nothing of a new number is queued
-pub none-queued : {never : Type 0} (live : List Live) (queue : List Waiting) (ran : List Ran) (c : ℕ → ℕ) (n : ℕ) → Once never live queue ran c → list_any (live_number n) live ≡ false → count (queued_number n) queue ≡ 0
+pub none-queued : {never : Type 0} (live : List Live) (queue : List Waiting) (ran : List Ran) (c : ℕ → ℕ) (n : ℕ) → Once never live queue ran c → list_any (live_number n) live ≡ false → count_by (queued_number n) queue ≡ 0
 none-queued live queue ran c n o free =
     let z = count-zero (live_number n) live (any-none (live_number n) live free) in
     omega (arith, z, by-id-number n live, o.balance n)

@@ -1,4 +1,3 @@
-pub mod Counts
 pub mod Direct
 pub mod Acting
 pub mod Legal

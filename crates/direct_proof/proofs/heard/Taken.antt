@@ -1,6 +1,6 @@
 -- The request that a cancel takes off the queue, at the host and at the device attached directly.
 use Rattle.std.proofs.Common.{◌≡◌, ℕ, ◌==◌, ◌&&◌, not, Bool, true, false, cond, List, [], ◌∷◌, ◌++◌, map, Some, None, refl, sym, ap, ◌∙◌, arith, inl, inr, ◌⊎◌, true≢false}
-use Rattle.std.specs.List.{find, list_any, AllByRecursion as Each}
+use Rattle.std.specs.List.{find, list_any, count_by, AllByRecursion as Each}
 use Rattle.std.proofs.lemmas.Bool.{and_parts}
 use Rattle.usb_base.specs.declared.transfer.Outcome.{Outcome}
 use Rattle.control_route.specs.declared.route.Route.TheVariants as route
@@ -18,7 +18,6 @@ use Rattle.direct_proof.specs.Requests.{Entry, at_queue, form_of, form_by, reset
 use Rattle.direct_proof.specs.Shared.{Shared}
 use Rattle.direct_proof.specs.Related.{Related}
 use Rattle.direct_proof.specs.Loads.{IsLoad, FitsVerdict}
-use Rattle.direct_proof.specs.Ids.{count}
 use Rattle.direct_proof.proofs.lists.Counts.{zero-count, itself}
 use Rattle.direct_proof.proofs.shared.Owed.{count-middle}
 use Rattle.direct_proof.proofs.shared.Ran.{Held}
@@ -108,7 +107,7 @@ alone-numbered m w j front e back rel held = zero-count test (front ++ (back ++ 
     (let n = number e.load in
     let sum = rel.ids.balance (λ i k. k == n) in
     let one = rel.ids.one_number n in
-    let parts = ap (count test) held.inside ∙ count-middle test front e (back ++ j.coming) in
+    let parts = ap (count_by test) held.inside ∙ count-middle test front e (back ++ j.coming) in
     let self : weight (n == n) ≡ 1 = ap weight (itself n) in
     omega (arith, sum, one, parts, self))
   where

@@ -1,6 +1,6 @@
 -- A client lists or imports the device: it gets a reply, and with a success the session begins.
 use Rattle.std.proofs.Common.{◌≡◌, ℕ, suc, ◌&&◌, Bool, true, false, cond, List, [], ◌∷◌, ◌++◌, map, filter, Option, Some, None, is_some, is_none, refl, sym, ap, ◌∙◌, subst, arith, append-nil, true≢false}
-use Rattle.std.specs.List.{flat_map}
+use Rattle.std.specs.List.{flat_map, count_by}
 use Rattle.std.proofs.lemmas.Bool.{both_ways, and_parts}
 use Rattle.usb_base.specs.declared.side.Side.TheVariants.{Client}
 use Rattle.usb_base.specs.declared.reason.Reason.TheVariants.{AlreadyImported}
@@ -32,7 +32,7 @@ use Rattle.direct_proof.specs.Requests.{Debt, at_device, ran_of, debts_of}
 use Rattle.direct_proof.specs.Shared.{Shared, view}
 use Rattle.direct_proof.specs.Tagged.{runs_in}
 use Rattle.direct_proof.specs.Related.{Related}
-use Rattle.direct_proof.specs.Ids.{count}
+use Rattle.direct_proof.proofs.lists.Counts.{count-cons}
 use Rattle.direct_proof.proofs.shared.Sending.{meets-client}
 use Rattle.direct_proof.proofs.shared.Keeps.{Keeps, keeps-quiet, keeps-replied, not-gone}
 use Rattle.direct_proof.proofs.shared.Counted.{replied_world, replied-related}
@@ -90,9 +90,9 @@ imported-made {S = S} w reply = λ i. record {
     live : live_after st (Imports reply) ≡ st.live
     live = asks-none (Imports reply) (λ s. refl) (filter (λ p. is_none (ends (Imports reply) p.submit)) (present st (Imports reply))) ∙ filter-all (present st (Imports reply)) ∙ append-nil st.live
 
-count-all : {X : Type 0} (xs : List X) → count (λ x. true) xs ≡ 0 → xs ≡ []
+count-all : {X : Type 0} (xs : List X) → count_by (λ x. true) xs ≡ 0 → xs ≡ []
 count-all [] h = refl
-count-all (x ∷ xs) h = absurd (omega (arith, h))
+count-all (x ∷ xs) h = absurd (omega (arith, h, count-cons (λ x. true) x xs))
 
 pub keep-import : {S : Type 0} (m : Meaning S) (w : World S) (j : Shared) (place status : ℕ) (busid : List ℕ) → Related m w j → IsSound w.gate → w.gate.sides.imported ≡ false → Keeps m w j (move as_deeds m w (ByClient (Asked place (Op (op.ReqImport status busid)))))
 keep-import {S = S} m w j place status busid rel sound out = go w.gate.sides.client_over refl
@@ -136,8 +136,8 @@ keep-import {S = S} m w j place status busid rel sound out = go w.gate.sides.cli
         unowed : [] ≡ j.debts
         unowed = (λ i. debts_of (map (λ (p : Pending). p.submit) (sym (sound.gone out) i)) ++ debts_of (sym empty i)) ∙ rel.debts there
 
-        zero : count (λ (d : Debt). true) j.debts ≡ 0
-        zero = ap (count (λ (d : Debt). true)) (sym unowed)
+        zero : count_by (λ (d : Debt). true) j.debts ≡ 0
+        zero = ap (count_by (λ (d : Debt). true)) (sym unowed)
 
         no-entry : j.held ++ j.coming ≡ []
         no-entry = count-all (j.held ++ j.coming) (let s = rel.ids.balance (λ i n. true) in omega (arith, s, zero))

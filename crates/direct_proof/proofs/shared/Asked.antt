@@ -1,6 +1,6 @@
 -- Requests that are asked back: what an unlink marks, and the cancels that it sends.
 use Rattle.std.proofs.Common.{◌≡◌, ℕ, ◌+◌, ◌||◌, Bool, true, false, cond, List, [], ◌∷◌, ◌++◌, map, filter, refl, sym, ap, ◌∙◌, subst, arith, true≢false}
-use Rattle.std.specs.List.{AllByRecursion as Each}
+use Rattle.std.specs.List.{count_by, AllByRecursion as Each}
 use Rattle.usb_base.specs.Endpoint.{is_control}
 use Rattle.redir_data.specs.declared.packet.RedirPacket.{RedirPacket}
 use Rattle.redir_host.proofs.lemmas.state.Each.{each_front}
@@ -14,7 +14,7 @@ use Rattle.direct_run.specs.Noted.{number_in}
 use Rattle.direct_device.specs.Direct.{number, is_number, normal_of}
 use Rattle.direct_proof.specs.Requests.{Entry, Coming, Debt, at_host, debts_of, load_of}
 use Rattle.direct_proof.specs.Shared.{lines, at_hosts}
-use Rattle.direct_proof.specs.Ids.{Ids, count, Agrees}
+use Rattle.direct_proof.specs.Ids.{Ids, Agrees}
 use Rattle.direct_proof.specs.Cancels.{IsAsked, IsAsking, Behind, is_change, any_change, CancelsFit}
 use Rattle.direct_proof.proofs.lists.Counts.{count-map, Each-map, Each-swap}
 use Rattle.direct_proof.proofs.shared.Streaming.{IsQuiet}
@@ -35,9 +35,8 @@ module _ (f : Entry → Entry) (same_id : (e : Entry) → (f e).id ≡ e.id) (sa
     ran_agrees = ids.ran_agrees;
   }
     where
-      counted : (test : ℕ → ℕ → Bool) (xs : List Entry) → count (λ (x : Entry). test (f x).id (number (f x).load)) xs ≡ count (λ (x : Entry). test x.id (number x.load)) xs
-      counted test [] = refl
-      counted test (x ∷ xs) = λ i. cond (test (same_id x i) (number (same_load x i))) 1 0 + counted test xs i
+      counted : (test : ℕ → ℕ → Bool) (xs : List Entry) → count_by (λ (x : Entry). test (f x).id (number (f x).load)) xs ≡ count_by (λ (x : Entry). test x.id (number x.load)) xs
+      counted test xs = λ i. count_by (λ (x : Entry). test (same_id x i) (number (same_load x i))) xs
 
   pub changes-ask : (es : List Entry) → any_change (map f es) ≡ any_change es
   changes-ask [] = refl

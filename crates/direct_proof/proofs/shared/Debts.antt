@@ -1,7 +1,8 @@
 -- What the host owes, and which of the gateway's submits an answer is for.
 use Rattle.std.proofs.Common.{◌≡◌, ℕ, suc, ◌+◌, ◌≤◌, ◌==◌, ◌&&◌, not, Bool, true, false, cond, List, [], ◌∷◌, ◌++◌, map, filter, length, Some, refl, sym, ap, ◌∙◌, arith}
-use Rattle.std.specs.List.{find}
+use Rattle.std.specs.List.{find, count_by}
 use Rattle.std.proofs.lemmas.List.{map-append}
+use Rattle.std.proofs.lemmas.List.Sums.{length-filter}
 use Rattle.usb_base.specs.declared.transfer.Transfer.{Transfer}
 use Rattle.gate_history.specs.declared.verdict.Verdict.{Verdict}
 use Rattle.gate_history.specs.declared.verdict.Verdict.TheVariants.{Wire, Routed}
@@ -15,7 +16,7 @@ use Rattle.gate_history.proofs.lemmas.Lists.{every, both, filter-same, filter-tw
 use Rattle.direct_run.specs.declared.submitted.Submitted.{Submitted}
 use Rattle.direct_device.specs.Direct.{Load, number, is_number}
 use Rattle.direct_proof.specs.Requests.{Entry, Coming, Debt, debts_of, load_of}
-use Rattle.direct_proof.specs.Ids.{Ids, count}
+use Rattle.direct_proof.specs.Ids.{Ids}
 use Rattle.direct_proof.specs.Loads.{FitsVerdict}
 use Rattle.direct_proof.proofs.lists.Counts.{same_test, itself}
 use Rattle.direct_proof.proofs.shared.Owed.{IsOwed, owed}
@@ -99,12 +100,6 @@ pub record IsLiveFor (st : State) (c : Coming) : Type 0 where
   pub load-is : load_of pending.submit ≡ c.load
   pub one-is : AreOne c.id (number c.load) st.live
 
-count-length : {X : Type 0} (p : X → Bool) (xs : List X) → count p xs ≡ length (filter p xs)
-count-length p [] = refl
-count-length p (x ∷ xs) =
-    let rest = count-length p xs in
-    elim (p x) as (λ b. cond b 1 0 + count p xs ≡ length (cond b (x ∷ filter p xs) (filter p xs))) [ true ↦ omega (arith, rest) | false ↦ omega (arith, rest) ]
-
 pub is-live-for : (st : State) (debts : List Debt) (names : List Submitted) (es : List Entry) (c : Coming) (ran : List Coming) → IsSound st → Ids debts names es (c ∷ ran) → debts_of (submits st) ≡ debts → IsLiveFor st c
 is-live-for st debts names es c ran sound ids same = record { pending = p; only = s.1; load-is = load-is; one-is = same_test has named st.live few_has few_named some }
   where
@@ -131,12 +126,12 @@ is-live-for st debts names es c ran sound ids same = record { pending = p; only 
     load-is : load_of p.submit ≡ c.load
     load-is = ap (λ (d : Debt). d.load) s.2 ∙ o.same_load
 
-    few_has : count has st.live ≤ 1
-    few_has = let a = count-length has st.live in let b = ap length s.1 in omega (arith, a, b)
+    few_has : count_by has st.live ≤ 1
+    few_has = let a = length-filter has st.live in let b = ap length s.1 in omega (arith, a, b)
 
-    few_named : count named st.live ≤ 1
+    few_named : count_by named st.live ≤ 1
     few_named =
-        let a = count-length named st.live in
+        let a = length-filter named st.live in
         let b = ap length (filter-map (is_numbered (number c.load)) (λ (x : Pending). x.submit) st.live) in
         omega (arith, a, b, sound.numbers (number c.load), length-map (filter named st.live))
       where
@@ -144,8 +139,8 @@ is-live-for st debts names es c ran sound ids same = record { pending = p; only 
         length-map [] = refl
         length-map (x ∷ xs) = ap suc (length-map xs)
 
-    some : 1 ≤ count (λ x. both (has x) (named x)) st.live
+    some : 1 ≤ count_by (λ x. both (has x) (named x)) st.live
     some =
-        let a = count-length (λ x. both (has x) (named x)) st.live in
+        let a = length-filter (λ x. both (has x) (named x)) st.live in
         let b = ap length (sym (filter-twice named has st.live) ∙ ap (filter named) s.1 ∙ ap (λ (t : Bool). cond t (p ∷ []) []) (ap (λ (l : Load). is_number (number c.load) l) load-is ∙ itself (number c.load))) in
         omega (arith, a, b)

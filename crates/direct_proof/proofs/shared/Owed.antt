@@ -7,11 +7,11 @@ use Rattle.direct_run.specs.declared.submitted.Submitted.{Submitted}
 use Rattle.direct_run.specs.Noted.{number_in}
 use Rattle.direct_device.specs.Direct.{Load, number}
 use Rattle.direct_proof.specs.Requests.{Entry, Coming, Debt}
-use Rattle.direct_proof.specs.Ids.{count, Ids, Agrees}
+use Rattle.direct_proof.specs.Ids.{Ids, Agrees}
 use Rattle.direct_proof.proofs.shared.New.{IsNew}
-use Rattle.direct_proof.proofs.lists.Counts.{count-append, count-parts, count-zero, count-both, single, itself, Each-found}
+use Rattle.direct_proof.proofs.lists.Counts.{count-cons, count-append, count-parts, count-zero, count-both, single, itself, Each-found}
 use Rattle.std.specs.Prelude.{find, reverse}
-use Rattle.std.specs.List.{AllByRecursion as Each}
+use Rattle.std.specs.List.{count_by, AllByRecursion as Each}
 use Rattle.std.specs.Option.{option_map_or}
 
 abbrev weight : Bool → ℕ
@@ -30,17 +30,17 @@ pair-itself : (id n : ℕ) → pair id n id n ≡ true
 pair-itself id n = ap (λ (b : Bool). both b (n == n)) (itself id) ∙ itself n
 
 -- what is under way has the id of a debt
-debts-some : (id n : ℕ) (ds : List Debt) → IsNew id ds → count (λ (d : Debt). pair id n d.id (number d.load)) ds ≡ 0
+debts-some : (id n : ℕ) (ds : List Debt) → IsNew id ds → count_by (λ (d : Debt). pair id n d.id (number d.load)) ds ≡ 0
 debts-some id n ds h = let z = count-zero (λ (d : Debt). d.id == id) ds h in let le = count-both (λ (d : Debt). d.id == id) (λ (d : Debt). number d.load == n) ds in omega (arith, z, le)
 
 -- so what has a new id isn't under way; what is under way has an id and a load
-names-old : {X : Type 0} (id_of : X → ℕ) (load_of : X → Load) (ds : List Debt) (xs : List X) → ((i n : ℕ) → count (λ (x : X). pair i n (id_of x) (number (load_of x))) xs ≤ count (λ (d : Debt). pair i n d.id (number d.load)) ds) → (id : ℕ) → IsNew id ds → Each (λ (x : X). (id == id_of x) ≡ false) xs
+names-old : {X : Type 0} (id_of : X → ℕ) (load_of : X → Load) (ds : List Debt) (xs : List X) → ((i n : ℕ) → count_by (λ (x : X). pair i n (id_of x) (number (load_of x))) xs ≤ count_by (λ (d : Debt). pair i n d.id (number d.load)) ds) → (id : ℕ) → IsNew id ds → Each (λ (x : X). (id == id_of x) ≡ false) xs
 names-old {X = X} id_of load_of ds xs owed id new =
-    Each-weaker (λ (x : X). 1 ≤ count (λ (y : X). pair (id_of x) (number (load_of x)) (id_of y) (number (load_of y))) xs) (λ (x : X). (id == id_of x) ≡ false)
+    Each-weaker (λ (x : X). 1 ≤ count_by (λ (y : X). pair (id_of x) (number (load_of x)) (id_of y) (number (load_of y))) xs) (λ (x : X). (id == id_of x) ≡ false)
     (λ x h. go x (id == id_of x) refl h) xs
     (Each-found (λ (x y : X). pair (id_of x) (number (load_of x)) (id_of y) (number (load_of y))) (λ x. pair-itself (id_of x) (number (load_of x))) xs)
   where
-    go : (x : X) (b : Bool) → (id == id_of x) ≡ b → 1 ≤ count (λ (y : X). pair (id_of x) (number (load_of x)) (id_of y) (number (load_of y))) xs → b ≡ false
+    go : (x : X) (b : Bool) → (id == id_of x) ≡ b → 1 ≤ count_by (λ (y : X). pair (id_of x) (number (load_of x)) (id_of y) (number (load_of y))) xs → b ≡ false
     go x false i h = refl
     go x true i h =
         let same : id ≡ id_of x = grind (arith, i) in
@@ -67,10 +67,10 @@ agree-more : {X : Type 0} (id_of : X → ℕ) (load_of : X → Load) (ds : List 
 agree-more id_of load_of ds d [] h k = tt
 agree-more id_of load_of ds d (x ∷ xs) h k = (Each-append (λ (y : Debt). Agrees y (id_of x) (load_of x)) ds (d ∷ []) h.0 ((λ z. absurd (false-true (sym k.0 ∙ z))), tt), agree-more id_of load_of ds d xs h.1 k.1)
 
-one-more : {X : Type 0} (p : X → Bool) (xs : List X) (x : X) → count p xs ≤ 1 → (p x ≡ true → count p xs ≡ 0) → count p (xs ++ x ∷ []) ≤ 1
+one-more : {X : Type 0} (p : X → Bool) (xs : List X) (x : X) → count_by p xs ≤ 1 → (p x ≡ true → count_by p xs ≡ 0) → count_by p (xs ++ x ∷ []) ≤ 1
 one-more p xs x h k = go (p x) refl
   where
-    go : (b : Bool) → p x ≡ b → count p (xs ++ x ∷ []) ≤ 1
+    go : (b : Bool) → p x ≡ b → count_by p (xs ++ x ∷ []) ≤ 1
     go true i = let z = k i in let w = ap weight i in omega (arith, z, w, count-append p xs (x ∷ []))
     go false i = let w = ap weight i in omega (arith, h, w, count-append p xs (x ∷ []))
 
@@ -108,9 +108,8 @@ pub each-parts : {X : Type 0} (P : X → Type 0) (xs : List X) (x : X) (ys : Lis
 each-parts P [] x ys h = (h.0, h.1)
 each-parts P (z ∷ xs) x ys h = let r = each-parts P xs x ys h.1 in (r.0, (h.0, r.1))
 
-pub count-middle : {X : Type 0} (p : X → Bool) (xs : List X) (x : X) (ys : List X) → count p (xs ++ x ∷ ys) ≡ cond (p x) 1 0 + count p (xs ++ ys)
-count-middle p [] x ys = refl
-count-middle p (z ∷ xs) x ys = let r = count-middle p xs x ys in omega (arith, r)
+pub count-middle : {X : Type 0} (p : X → Bool) (xs : List X) (x : X) (ys : List X) → count_by p (xs ++ x ∷ ys) ≡ cond (p x) 1 0 + count_by p (xs ++ ys)
+count-middle p xs x ys = omega (arith, count-append p xs (x ∷ ys), count-append p xs ys, count-cons p x ys)
 
 pub ids-perform : (ds : List Debt) (names : List Submitted) (front back : List Entry) (e : Entry) (ran : List Coming) (configuration : ℕ) (o : Outcome) → Ids ds names (front ++ e ∷ back) ran →
     Ids ds names (front ++ back) (ran ++ record { id = e.id; load = e.load; configuration = configuration; outcome = o } ∷ [])
@@ -138,8 +137,8 @@ pub record IsOwed (ds : List Debt) (c : Coming) : Type 0 where
 each-one : {X : Type 0} (P : X → Type 0) (p : X → Bool) (xs : List X) (x : X) → Each P xs → filter p xs ≡ x ∷ [] → P x
 each-one P p xs x h e = (subst (Each P) e (Each-filter P p xs h)).0
 
-pub owed-some : (ds : List Debt) (names : List Submitted) (es : List Entry) (ran : List Coming) (c : Coming) → Ids ds names es (c ∷ ran) → 1 ≤ count (λ (d : Debt). both (d.id == c.id) (number d.load == number c.load)) ds
-owed-some ds names es ran c ids = let w = ap weight (pair-itself c.id (number c.load)) in omega (arith, w, ids.balance (pair c.id (number c.load)))
+pub owed-some : (ds : List Debt) (names : List Submitted) (es : List Entry) (ran : List Coming) (c : Coming) → Ids ds names es (c ∷ ran) → 1 ≤ count_by (λ (d : Debt). both (d.id == c.id) (number d.load == number c.load)) ds
+owed-some ds names es ran c ids = let w = ap weight (pair-itself c.id (number c.load)) in omega (arith, w, ids.balance (pair c.id (number c.load)), count-cons (λ (x : Coming). pair c.id (number c.load) x.id (number x.load)) c ran)
 
 pub owed : (ds : List Debt) (names : List Submitted) (es : List Entry) (ran : List Coming) (c : Coming) → Ids ds names es (c ∷ ran) → IsOwed ds c
 owed ds names es ran c ids =
@@ -156,9 +155,9 @@ pub ids-answer : (ds : List Debt) (names : List Submitted) (es : List Entry) (ra
 ids-answer ds names es ran c ids = record {
   balance = λ test. (
       let p : Debt → Bool = λ d. test d.id (number d.load) in
-      let gone = ap (count p) o.only in
+      let gone = ap (count_by p) o.only in
       let same : weight (test o.debt.id (number o.debt.load)) ≡ weight (test c.id (number c.load)) = (λ i. weight (test (o.same_id i) (number (o.same_load i)))) in
-      omega (arith, ids.balance test, count-parts p (λ (d : Debt). d.id == c.id) ds, gone, same));
+      omega (arith, ids.balance test, count-cons (λ (x : Coming). test x.id (number x.load)) c ran, count-parts p (λ (d : Debt). d.id == c.id) ds, gone, same));
   one_id = λ i. (let a = count-parts (λ (d : Debt). d.id == i) (λ (d : Debt). d.id == c.id) ds in let b = ids.one_id i in omega (arith, a, b));
   one_number = λ n. (let a = count-parts (λ (d : Debt). number d.load == n) (λ (d : Debt). d.id == c.id) ds in let b = ids.one_number n in omega (arith, a, b));
   named = ids.named;

@@ -1,7 +1,7 @@
 -- Both machines say the same of a submit: with no change live the gateway knows the device's endpoints, and with one it
 -- needn't.
 use Rattle.std.proofs.Common.{◌≡◌, ℕ, ◌≤◌, ◌<◌, ◌==◌, ◌||◌, nat_le, Bool, true, false, cond, List, [], ◌∷◌, ◌++◌, map, filter, length, Option, Some, None, is_some, refl, sym, ap, ◌∙◌, subst, arith, append-nil, true≢false}
-use Rattle.std.specs.List.{list_any, AllByRecursion as Each}
+use Rattle.std.specs.List.{list_any, count_by, AllByRecursion as Each}
 use Rattle.std.proofs.lemmas.List.{length-map}
 use Rattle.std.proofs.lemmas.Bool.{or_left}
 use Rattle.usbip_urb.specs.declared.code.TheConstants.{MAX_LIVE}
@@ -38,7 +38,7 @@ use Rattle.direct_proof.specs.Requests.{Entry, Coming, Debt, debts_of, live_of}
 use Rattle.direct_proof.specs.Shared.{Shared, view}
 use Rattle.direct_proof.specs.Tagged.{Tagged, Greeted, Plugged, ToldTable, ToldFaces, Answered, Packed, Stated, Bye, on_wire, told, runs_in}
 use Rattle.direct_proof.specs.Related.{Related}
-use Rattle.direct_proof.specs.Ids.{Ids, count, Agrees}
+use Rattle.direct_proof.specs.Ids.{Ids, Agrees}
 use Rattle.direct_proof.specs.Cancels.{any_change, is_change}
 use Rattle.direct_proof.specs.Stale.{Clean, ends, is_stale}
 use Rattle.direct_proof.specs.Session.{down_in}
@@ -56,18 +56,18 @@ pair-itself id n = ap (λ (b : Bool). both b (n == n)) (itself id) ∙ itself n
 
 -- ---- what holds of each debt holds of what is under way
 
-of-debt : (P : Load → Type 0) (ds : List Debt) (id : ℕ) (l : Load) → count (λ (d : Debt). d.id == id) ds ≤ 1 → 1 ≤ count (λ (d : Debt). pair id (number l) d.id (number d.load)) ds → Each (λ (d : Debt). Agrees d id l) ds → Each (λ (d : Debt). P d.load) ds → P l
+of-debt : (P : Load → Type 0) (ds : List Debt) (id : ℕ) (l : Load) → count_by (λ (d : Debt). d.id == id) ds ≤ 1 → 1 ≤ count_by (λ (d : Debt). pair id (number l) d.id (number d.load)) ds → Each (λ (d : Debt). Agrees d id l) ds → Each (λ (d : Debt). P d.load) ds → P l
 of-debt P ds id l one some agree holds =
     let s = single (λ (d : Debt). d.id == id) (λ (d : Debt). number d.load == number l) ds one some in
     let only : Each (λ (d : Debt). Agrees d id l) (s.0 ∷ []) = subst (Each (λ (d : Debt). Agrees d id l)) s.1 (Each-filter (λ (d : Debt). Agrees d id l) (λ (d : Debt). d.id == id) ds agree) in
     let has : Each (λ (d : Debt). P d.load) (s.0 ∷ []) = subst (Each (λ (d : Debt). P d.load)) s.1 (Each-filter (λ (d : Debt). P d.load) (λ (d : Debt). d.id == id) ds holds) in
     subst P (only.0 s.2) has.0
 
-owed-each : {X : Type 0} (id_of : X → ℕ) (load_of : X → Load) (P : Load → Type 0) (ds : List Debt) (xs : List X) → ((i : ℕ) → count (λ (d : Debt). d.id == i) ds ≤ 1) → ((i n : ℕ) → count (λ (x : X). pair i n (id_of x) (number (load_of x))) xs ≤ count (λ (d : Debt). pair i n d.id (number d.load)) ds) →
+owed-each : {X : Type 0} (id_of : X → ℕ) (load_of : X → Load) (P : Load → Type 0) (ds : List Debt) (xs : List X) → ((i : ℕ) → count_by (λ (d : Debt). d.id == i) ds ≤ 1) → ((i n : ℕ) → count_by (λ (x : X). pair i n (id_of x) (number (load_of x))) xs ≤ count_by (λ (d : Debt). pair i n d.id (number d.load)) ds) →
     Each (λ (x : X). Each (λ (d : Debt). Agrees d (id_of x) (load_of x)) ds) xs → Each (λ (d : Debt). P d.load) ds → Each (λ (x : X). P (load_of x)) xs
 owed-each {X = X} id_of load_of P ds xs one owed agree holds = go xs agree (Each-found (λ (x y : X). pair (id_of x) (number (load_of x)) (id_of y) (number (load_of y))) (λ x. pair-itself (id_of x) (number (load_of x))) xs)
   where
-    go : (ys : List X) → Each (λ (x : X). Each (λ (d : Debt). Agrees d (id_of x) (load_of x)) ds) ys → Each (λ (x : X). 1 ≤ count (λ (y : X). pair (id_of x) (number (load_of x)) (id_of y) (number (load_of y))) xs) ys → Each (λ (x : X). P (load_of x)) ys
+    go : (ys : List X) → Each (λ (x : X). Each (λ (d : Debt). Agrees d (id_of x) (load_of x)) ds) ys → Each (λ (x : X). 1 ≤ count_by (λ (y : X). pair (id_of x) (number (load_of x)) (id_of y) (number (load_of y))) xs) ys → Each (λ (x : X). P (load_of x)) ys
     go [] a c = tt
     go (x ∷ ys) a c = (of-debt P ds (id_of x) (load_of x) (one (id_of x)) (let b = owed (id_of x) (number (load_of x)) in let z = c.0 in omega (arith, b, z)) a.0 holds, go ys a.1 c.1)
 

@@ -1,15 +1,14 @@
 -- Lists, of which one in the middle is taken out.
 use Rattle.std.proofs.Common.{◌≡◌, ℕ, zero, suc, ◌≤◌, not, Bool, true, false, cond, List, [], ◌∷◌, ◌++◌, filter, Some, refl, ap, ◌∙◌, arith}
-use Rattle.std.specs.List.{find, AllByRecursion as Each}
+use Rattle.std.specs.List.{find, count_by, AllByRecursion as Each}
 use Rattle.std.specs.Prelude.{slice_set}
 use Rattle.direct_device.specs.Direct.{Live, is_number}
-use Rattle.direct_proof.specs.Ids.{count}
-use Rattle.direct_proof.proofs.lists.Counts.{count-append, zero-count}
+use Rattle.direct_proof.proofs.lists.Counts.{count-cons, count-append, zero-count}
 
 -- ---- lists
 
 abbrev pub AreApart : List Live → Type 0
-AreApart ls = (n : ℕ) → count (λ (l : Live). is_number n l.load) ls ≤ 1
+AreApart ls = (n : ℕ) → count_by (λ (l : Live). is_number n l.load) ls ≤ 1
 
 pub set-twice : {X : Type 0} (xs : List X) (i : ℕ) (a b : X) → slice_set (slice_set xs i a) i b ≡ slice_set xs i b
 set-twice [] i a b = refl
@@ -32,11 +31,12 @@ abbrev pub weight : Bool → ℕ
 weight b = cond b 1 0
 
 -- the others have other numbers
-pub others : {X : Type 0} (p : X → Bool) (xs : List X) (x : X) (ys : List X) → count p (xs ++ x ∷ ys) ≤ 1 → p x ≡ true → Each (λ y. p y ≡ false) xs × Each (λ y. p y ≡ false) ys
+pub others : {X : Type 0} (p : X → Bool) (xs : List X) (x : X) (ys : List X) → count_by p (xs ++ x ∷ ys) ≤ 1 → p x ≡ true → Each (λ y. p y ≡ false) xs × Each (λ y. p y ≡ false) ys
 others p xs x ys few k =
     let w : weight (p x) ≡ 1 = ap weight k in
     let c = count-append p xs (x ∷ ys) in
-    (zero-count p xs (omega (arith, few, w, c)), zero-count p ys (omega (arith, few, w, c)))
+    let d = count-cons p x ys in
+    (zero-count p xs (omega (arith, few, w, c, d)), zero-count p ys (omega (arith, few, w, c, d)))
 
 pub apart-middle : (xs : List Live) (x : Live) (ys : List Live) → AreApart (xs ++ x ∷ ys) → AreApart (xs ++ ys)
-apart-middle xs x ys h = λ n. let p : Live → Bool = λ l. is_number n l.load in let few = h n in omega (arith, few, count-append p xs (x ∷ ys), count-append p xs ys)
+apart-middle xs x ys h = λ n. let p : Live → Bool = λ l. is_number n l.load in let few = h n in omega (arith, few, count-append p xs (x ∷ ys), count-append p xs ys, count-cons p x ys)

@@ -1,6 +1,6 @@
 -- What packets fill at the gateway is what they fill at the device attached directly.
 use Rattle.std.proofs.Common.{◌≡◌, ℕ, ◌≤◌, ◌==◌, Bool, true, false, cond, List, [], ◌∷◌, ◌++◌, map, filter, Option, Some, None, is_none, refl, ap, ◌∙◌, arith}
-use Rattle.std.specs.List.{flat_map, AllByRecursion as Each}
+use Rattle.std.specs.List.{flat_map, count_by, AllByRecursion as Each}
 use Rattle.std.specs.Option.{option_map}
 use Rattle.usbip_urb.specs.declared.packet.UrbPacket.{UrbPacket}
 use Rattle.usb_base.specs.declared.transfer.StreamPacket.{StreamPacket}
@@ -13,8 +13,7 @@ use Rattle.gate_history.specs.write.Answers.{with_given}
 use Rattle.gate_history.specs.write.Notes.{is_by_answer}
 use Rattle.direct_device.specs.Direct.{Live}
 use Rattle.direct_proof.specs.Requests.{live_of}
-use Rattle.direct_proof.specs.Ids.{count}
-use Rattle.direct_proof.proofs.lists.Counts.{zero-count, itself}
+use Rattle.direct_proof.proofs.lists.Counts.{count-cons, zero-count, itself}
 use Rattle.direct_proof.proofs.streams.fills.Filling.{Filled, fill_one, fill_by, fill_all, with_live, with_answer}
 use Rattle.direct_proof.proofs.streams.fills.FillLists.{weight}
 
@@ -29,7 +28,7 @@ abbrev pub has_seqnum : ℕ → Pending → Bool
 has_seqnum n p = p.submit.request.seqnum == n
 
 abbrev pub Differ : List Pending → Type 0
-Differ ps = (n : ℕ) → count (has_seqnum n) ps ≤ 1
+Differ ps = (n : ℕ) → count_by (has_seqnum n) ps ≤ 1
 
 -- these fillings, of which these packets are left, are those of the device attached directly
 pub record AreFills (ep : ℕ) (ps : List Pending) (f : Fill) (g : Filled) : Type 0 where
@@ -108,10 +107,10 @@ are-fills max ep [] held d = record { left = refl; live = refl; outs = refl; num
 are-fills max ep (p ∷ ps) held d = go (waits_at ep p.submit) refl (λ left. are-fills max ep ps left rest)
   where
     rest : Differ ps
-    rest n = let z = d n in omega (arith, z)
+    rest n = let z = d n in omega (arith, z, count-cons (has_seqnum n) p ps)
 
     others : Each (λ (q : Pending). has_seqnum p.submit.request.seqnum q ≡ false) ps
-    others = let z = d p.submit.request.seqnum in let w = ap weight (itself p.submit.request.seqnum) in zero-count (has_seqnum p.submit.request.seqnum) ps (omega (arith, z, w))
+    others = let z = d p.submit.request.seqnum in let w = ap weight (itself p.submit.request.seqnum) in zero-count (has_seqnum p.submit.request.seqnum) ps (omega (arith, z, w, count-cons (has_seqnum p.submit.request.seqnum) p ps))
 
     go : (b : Bool) → waits_at ep p.submit ≡ b → ((left : List StreamPacket) → AreFills ep ps (fill max (asking_at ep ps) left) (fill_all max ep (map live_of ps) left)) →
         AreFills ep (p ∷ ps) (fill max (map (λ (q : Pending). q.submit.request) (cond b (p ∷ filter (λ (q : Pending). waits_at ep q.submit) ps) (filter (λ (q : Pending). waits_at ep q.submit) ps))) held)

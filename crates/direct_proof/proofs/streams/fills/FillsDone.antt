@@ -1,5 +1,7 @@
 -- What the gateway makes of packets that fill requests is a chain of answers of the device attached directly.
-use Rattle.std.proofs.Common.{◌≡◌, ℕ, ◌+◌, ◌<◌, ◌⊎◌, inl, inr, Bool, true, false, cond, List, [], ◌∷◌, length, map, filter, Option, Some, refl, sym, ap, ◌∙◌, subst, arith}
+use Rattle.std.proofs.Common.{◌≡◌, ℕ, ◌<◌, ◌⊎◌, inl, inr, true, List, [], length, map, filter, Option, Some, refl, sym, ap, ◌∙◌, subst, arith}
+use Rattle.std.specs.List.{count_by}
+use Rattle.std.proofs.lemmas.List.Sums.{length-filter}
 use Rattle.usbip_urb.specs.declared.client.ClientPacket.TheVariants.{Urb}
 use Rattle.usbip_urb.specs.declared.packet.UrbPacket.{UrbPacket}
 use Rattle.usb_base.specs.declared.transfer.StreamPacket.{StreamPacket}
@@ -15,7 +17,6 @@ use Rattle.direct_device.specs.Direct.{Live, Direct, is_number}
 use Rattle.direct_device.specs.Acting.{Deed, Answer}
 use Rattle.direct_proof.specs.Requests.{live_of}
 use Rattle.direct_proof.specs.Kinds.{IsIn}
-use Rattle.direct_proof.specs.Ids.{count}
 use Rattle.direct_proof.proofs.lists.Counts.{count-map}
 use Rattle.direct_proof.proofs.streams.Keeping.{Does, does-nothing}
 use Rattle.direct_proof.proofs.shared.UpsFound.{in-place, by-address}
@@ -26,22 +27,14 @@ use Rattle.direct_proof.proofs.streams.reads.Arriving.{stay_by, told_by_fills, s
 
 -- ---- numbers
 
-count-length : {X : Type 0} (p : X → Bool) (xs : List X) → length (filter p xs) ≡ count p xs
-count-length p [] = refl
-count-length p (x ∷ xs) = go (p x) (count-length p xs)
-  where
-    go : (b : Bool) → length (filter p xs) ≡ count p xs → length (cond b (x ∷ filter p xs) (filter p xs)) ≡ cond b 1 0 + count p xs
-    go true e = omega (arith, e)
-    go false e = omega (arith, e)
-
 pub differ-of : (st : State) → IsSound st → Differ st.live
 differ-of st sound n =
     let few = sound.numbers n in
-    let same : length (filter (has_seq n) (submits st)) ≡ count (has_seqnum n) st.live = count-length (has_seq n) (submits st) ∙ count-map (has_seq n) (λ (p : Pending). p.submit) st.live in
+    let same : length (filter (has_seq n) (submits st)) ≡ count_by (has_seqnum n) st.live = length-filter (has_seq n) (submits st) ∙ count-map (has_seq n) (λ (p : Pending). p.submit) st.live in
     omega (arith, few, same)
 
 pub apart-of : (ps : List Pending) → Differ ps → AreApart (map live_of ps)
-apart-of ps d n = let few = d n in let same : count (λ (l : Live). is_number n l.load) (map live_of ps) ≡ count (has_seqnum n) ps = count-map (λ (l : Live). is_number n l.load) live_of ps in omega (arith, few, same)
+apart-of ps d n = let few = d n in let same : count_by (λ (l : Live). is_number n l.load) (map live_of ps) ≡ count_by (has_seqnum n) ps = count-map (λ (l : Live). is_number n l.load) live_of ps in omega (arith, few, same)
 
 -- ---- what is done
 

@@ -1,7 +1,7 @@
 -- What the gateway's laws say where it accepts a submit that waits: its id is free, and its number differs.
 use Rattle.direct_proof.proofs.streams.submits.Drawn.{any-back}
 use Rattle.std.proofs.Common.{◌≡◌, ℕ, ◌≤◌, ◌==◌, Bool, true, false, List, [], ◌∷◌, ◌++◌, map, refl, ap, subst, arith}
-use Rattle.std.specs.List.{AllByRecursion as Each}
+use Rattle.std.specs.List.{count_by, AllByRecursion as Each}
 use Rattle.usb_base.specs.declared.endpoint.EpRow.{EpRow}
 use Rattle.gate_history.specs.declared.request.Request.{Request}
 use Rattle.gate_history.specs.state.Flight.{wide_ids, ids_of}
@@ -14,7 +14,6 @@ use Rattle.gate_history.specs.state.Sound.{IsSound}
 use Rattle.gate_history.specs.state.State.{State, submits, flying, next_ids, has_number, is_number as has_seq}
 use Rattle.gate_history.proofs.lemmas.state.StreamIds.{AreLong}
 use Rattle.direct_proof.proofs.shared.New.{next_id}
-use Rattle.direct_proof.specs.Ids.{count}
 use Rattle.direct_proof.proofs.lists.Counts.{count-append, count-zero, any-none}
 use Rattle.direct_proof.proofs.streams.fills.FillLists.{weight}
 use Rattle.direct_proof.proofs.streams.fills.Fills.{Differ, has_seqnum}
@@ -40,10 +39,10 @@ differ-more st r row d new n = go (r.seqnum == n) refl
         unmapped [] h = tt
         unmapped (p ∷ ps) h = (h.0, unmapped ps h.1)
 
-    go : (b : Bool) → (r.seqnum == n) ≡ b → count (has_seqnum n) (with_waiter st r row) ≤ 1
+    go : (b : Bool) → (r.seqnum == n) ≡ b → count_by (has_seqnum n) (with_waiter st r row) ≤ 1
     go false e = let few = d n in let z : weight (r.seqnum == n) ≡ weight false = ap weight e in omega (arith, few, z, count-append (has_seqnum n) st.live (fresh (waiter st r row) ∷ []))
     go true e =
         let same : r.seqnum ≡ n = grind (arith, e) in
         let z : weight (r.seqnum == n) ≡ weight true = ap weight e in
-        let c : count (has_seqnum n) st.live ≡ 0 = subst (λ (k : ℕ). count (has_seqnum k) st.live ≡ 0) same (count-zero (has_seqnum r.seqnum) st.live none) in
+        let c : count_by (has_seqnum n) st.live ≡ 0 = subst (λ (k : ℕ). count_by (has_seqnum k) st.live ≡ 0) same (count-zero (has_seqnum r.seqnum) st.live none) in
         omega (arith, c, z, count-append (has_seqnum n) st.live (fresh (waiter st r row) ∷ []))
