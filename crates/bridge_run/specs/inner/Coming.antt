@@ -21,5 +21,5 @@ CanRecord (Taken side taken) made contents = (made ≡ false) × (contents ≡ N
 -- what is served stands for these events, and the coming one is behind them: still to be taken, or taken, and what it
 -- sends is there
 abbrev pub StandsAt : {C : Type 0} → (C → List PastLinkEvent → Type 0) → (List PastLinkEvent → PastLinkEvent → List ℕ → List ℕ → Type 0) → Prescribed → List ℕ → Coming → C → Sent → List PastLinkEvent → Type 0
-StandsAt stands runs_out p piece (Event event) core sent = stands core
-StandsAt stands runs_out p piece (Taken side taken) core sent = λ events. IsTaken taken (stands core) runs_out p events (SidePiece side piece) nothing sent
+StandsAt stands runs_out p piece (Event event) served sent = stands served
+StandsAt stands runs_out p piece (Taken side taken) served sent = λ events. IsTaken taken (stands served) runs_out p events (SidePiece side piece) nothing sent

@@ -18,11 +18,10 @@ use gate_outside::{Doors, Side, Sink};
 use session_tape::NoTape;
 use std::alloc::Global;
 
-/// Makes a door, and goes in rounds, as `run_between` does, with no tape: `core` is what is served. The host's side has
-/// no link.
+/// Makes a door, and goes in rounds, as `run_between` does, with no tape. The host's side has no link.
 pub fn run_at_door<C: Served + Drop, D: Doors, K: Sink>(
     alloc: Global,
-    core: C,
+    served: C,
     listen: &str,
     idle: u64,
     budget: u64,
@@ -34,10 +33,10 @@ pub fn run_at_door<C: Served + Drop, D: Doors, K: Sink>(
     requires idle { 1 ≤ idle }
     requires budget { 1 ≤ budget }
     // Over doors that tell, and a sink that may.
-    ensures leaves { (first : C.First) (c : Course) → IsJustMade (C.stands first core) (C.sends first) → NothingYet idle budget c → Tells (outside (D.link doors.old) (D.door doors.old)) (written (K.contents out.old) (K.contents out.old) None) c
+    ensures leaves { (first : C.First) (c : Course) → IsJustMade (C.stands first served) (C.sends first) → NothingYet idle budget c → Tells (outside (D.link doors.old) (D.door doors.old)) (written (K.contents out.old) (K.contents out.old) None) c
         → Leaves result (C.runs_out first) (record { served = C.sends first; idle = idle }) (Goes AtDoor c) (outside (D.link doors.new) (D.door doors.new)) (written (K.contents out.old) (K.contents out.new) None) }
     // Over any doors, and any sink.
-    ensures log { (first : C.First) → IsJustMade (C.stands first core) (C.sends first)
+    ensures log { (first : C.First) → IsJustMade (C.stands first served) (C.sends first)
         → Logged result D.call_gives (C.runs_out first) (Told K.write_gives out.old out.new) (record { host = None; door = listen.now; taped = false; idle = idle; budget = budget }) (C.sends first) doors.old doors.new }
     ensures cause { HasCause result (outside (D.link doors.old) (D.door doors.old)) (outside (D.link doors.new) (D.door doors.new)) (faults (K.faults out.old) (counts 0 0)) (faults (K.faults out.new) (counts 0 0)) }
     ensures reason { HasReason result idle (outside (D.link doors.old) (D.door doors.old)) (outside (D.link doors.new) (D.door doors.new)) }
@@ -49,6 +48,6 @@ pub fn run_at_door<C: Served + Drop, D: Doors, K: Sink>(
     if let Err(_) = doors.listen(listen) {
         return ServeEnd::LinkFault(Side::Client);
     }
-    let mut session = Session::new(alloc, core, Rounds::new(idle, budget));
+    let mut session = Session::new(alloc, served, Rounds::new(idle, budget));
     session.run(&mut buf, doors, out, &mut NoTape)
 }

@@ -34,17 +34,16 @@ pub struct RunTerms<'a> {
     pub budget: u64,
 }
 
-/// Dials the host, makes the clients' door, writes to the host what the making of what is served (`core`) has sent
-/// (`hello`), and goes in rounds. A round asks for a client where none is there, and polls the client and then the
-/// host, whose link is up. What comes is an event of what is served. Its line is written to the tape, where that is
-/// made, and a comment for each refusal. What an event sends is written to the client and then to the host, where that
-/// link is up. Then a side that it refuses has its link closed, and its line is written to `out`; and a client that is
-/// let go has its link closed, too. The end of a client whose link is closed so comes next. It ends after `idle` rounds
-/// in a row that bring nothing, and once `budget` bytes have come, where each client counts as one. The first call that
-/// fails is the last.
+/// Dials the host, makes the clients' door, writes to the host what the making of `served` has sent (`hello`), and goes
+/// in rounds. A round asks for a client where none is there, and polls the client and then the host, whose link is up.
+/// What comes is an event of what is served. Its line is written to the tape, where that is made, and a comment for
+/// each refusal. What an event sends is written to the client and then to the host, where that link is up. Then a side
+/// that it refuses has its link closed, and its line is written to `out`; and a client that is let go has its link
+/// closed, too. The end of a client whose link is closed so comes next. It ends after `idle` rounds in a row that bring
+/// nothing, and once `budget` bytes have come, where each client counts as one. The first call that fails is the last.
 pub fn run_between<C: Served + Drop, D: Doors, K: Sink, T: Tape>(
     alloc: Global,
-    core: C,
+    served: C,
     hello: &[u8],
     terms: RunTerms<'_>,
     doors: &mut D,
@@ -56,10 +55,10 @@ pub fn run_between<C: Served + Drop, D: Doors, K: Sink, T: Tape>(
     requires idle { 1 ≤ terms.idle }
     requires budget { 1 ≤ terms.budget }
     // Over doors that tell, and a sink and a tape that may.
-    ensures leaves { (first : C.First) (c : Course) → IsJustMade (C.stands first core) (C.sends first) → hello.now ≡ (C.sends first).to_host [] → NothingYet terms.entry.idle terms.entry.budget c → Tells (outside (D.link doors.old) (D.door doors.old)) (written (K.contents out.old) (K.contents out.old) (T.contents tape.old)) c
+    ensures leaves { (first : C.First) (c : Course) → IsJustMade (C.stands first served) (C.sends first) → hello.now ≡ (C.sends first).to_host [] → NothingYet terms.entry.idle terms.entry.budget c → Tells (outside (D.link doors.old) (D.door doors.old)) (written (K.contents out.old) (K.contents out.old) (T.contents tape.old)) c
         → Leaves result (C.runs_out first) (record { served = C.sends first; idle = terms.entry.idle }) (Goes Making c) (outside (D.link doors.new) (D.door doors.new)) (written (K.contents out.old) (K.contents out.new) (T.contents tape.new)) }
     // Over any doors, any sink and any tape.
-    ensures log { (first : C.First) → IsJustMade (C.stands first core) (C.sends first) → hello.now ≡ (C.sends first).to_host []
+    ensures log { (first : C.First) → IsJustMade (C.stands first served) (C.sends first) → hello.now ≡ (C.sends first).to_host []
         → Logged result D.call_gives (C.runs_out first) (Told K.write_gives out.old out.new) (record { host = Some terms.entry.host.now; door = terms.entry.listen.now; taped = T.made tape.old; idle = terms.entry.idle; budget = terms.entry.budget }) (C.sends first) doors.old doors.new }
     ensures cause { HasCause result (outside (D.link doors.old) (D.door doors.old)) (outside (D.link doors.new) (D.door doors.new)) (faults (K.faults out.old) (T.counts tape.old)) (faults (K.faults out.new) (T.counts tape.new)) }
     ensures reason { HasReason result terms.entry.idle (outside (D.link doors.old) (D.door doors.old)) (outside (D.link doors.new) (D.door doors.new)) }
@@ -75,7 +74,7 @@ pub fn run_between<C: Served + Drop, D: Doors, K: Sink, T: Tape>(
         host_up: true,
         ..Rounds::new(terms.idle, terms.budget)
     };
-    let mut session = Session::new(alloc, core, rounds);
+    let mut session = Session::new(alloc, served, rounds);
     session.run(&mut buf, doors, out, tape)
 }
 

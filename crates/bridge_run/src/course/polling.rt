@@ -23,7 +23,7 @@ pub struct Came {
 /// Polls the side's link. Where nothing is recorded, what is served takes the bytes as they come, straight into its
 /// memory, and what that sends is put to `sent`; else, or where it can't, they come into the buffer.
 pub fn poll<C: Served, D: Doors>(
-    core: &mut C,
+    served: &mut C,
     side: Side,
     buf: &mut [u8],
     doors: &mut D,
@@ -34,11 +34,11 @@ pub fn poll<C: Served, D: Doors>(
     requires up { IsTrue (D.link doors.old side).up }
     requires room { length buf.old ≡ LIMIT }
     ensures { (room : List ℕ) × IsPolled D.link D.door D.call_gives side LIMIT result.polled room doors.old doors.new
-        × Brings C.stands C.runs_out C.sends side taped result.polled result.taken room buf.new core.old core.new sent.old sent.new }
+        × Brings C.stands C.runs_out C.sends side taped result.polled result.taken room buf.new served.old served.new sent.old sent.new }
 {
     if !taped {
         let mut link = LinkReader::new(doors, side);
-        if let Some(taken) = core.take_from(side, POLL_LIMIT, &mut link, sent) {
+        if let Some(taken) = served.take_from(side, POLL_LIMIT, &mut link, sent) {
             return Came {
                 polled: link.polled,
                 taken: Some(taken),

@@ -38,7 +38,7 @@ use usb_base::{Bytes, Memory};
 #[derive(Drop)]
 pub struct Session<C> {
     alloc: Global,
-    core: C,
+    served: C,
     rounds: Rounds,
     /// What the event at hand sends, and the lines that tell its refusals.
     sent: Sent,
@@ -49,14 +49,14 @@ pub struct Session<C> {
 
 impl<C: Served + Drop> Session<C> {
     /// Nothing is sent yet, which takes no memory.
-    pub fn new(alloc: Global, core: C, rounds: Rounds) -> Self
-        ensures core { result.core ≡ core }
+    pub fn new(alloc: Global, served: C, rounds: Rounds) -> Self
+        ensures served { result.served ≡ served }
         ensures rounds { result.rounds ≡ rounds }
         ensures waiting { result.waiting ≡ [] }
     {
         Session {
             alloc,
-            core,
+            served,
             rounds,
             sent: Sent::new(alloc),
             lines: Bytes::new(alloc),
@@ -66,9 +66,9 @@ impl<C: Served + Drop> Session<C> {
 
     /// Has the event taken, and keeps what that sends, and the lines of its refusals.
     fn prepare(&mut self, coming: Coming) -> Result<(), Memory>
-        ensures stands { OnOk result ((first : C.First) (piece : List ℕ) (past : List PastLinkEvent) → StandsAt (C.stands first) (C.runs_out first) (C.sends first) piece coming.entry self.old.core self.old.sent past → C.stands first self.new.core (event_with piece coming.entry ∷ past)) }
-        ensures prepared { OnOk result ((first : C.First) (piece : List ℕ) (past : List PastLinkEvent) → StandsAt (C.stands first) (C.runs_out first) (C.sends first) piece coming.entry self.old.core self.old.sent past → Prepared (C.sends first) past (event_with piece coming.entry) self.new.sent self.new.lines) }
-        ensures stops { OnErr result ((first : C.First) (piece : List ℕ) (past : List PastLinkEvent) → StandsAt (C.stands first) (C.runs_out first) (C.sends first) piece coming.entry self.old.core self.old.sent past → IsPart (C.runs_out first) (C.sends first) past (event_with piece coming.entry) self.new.sent.to_client self.new.sent.to_host) }
+        ensures stands { OnOk result ((first : C.First) (piece : List ℕ) (past : List PastLinkEvent) → StandsAt (C.stands first) (C.runs_out first) (C.sends first) piece coming.entry self.old.served self.old.sent past → C.stands first self.new.served (event_with piece coming.entry ∷ past)) }
+        ensures prepared { OnOk result ((first : C.First) (piece : List ℕ) (past : List PastLinkEvent) → StandsAt (C.stands first) (C.runs_out first) (C.sends first) piece coming.entry self.old.served self.old.sent past → Prepared (C.sends first) past (event_with piece coming.entry) self.new.sent self.new.lines) }
+        ensures stops { OnErr result ((first : C.First) (piece : List ℕ) (past : List PastLinkEvent) → StandsAt (C.stands first) (C.runs_out first) (C.sends first) piece coming.entry self.old.served self.old.sent past → IsPart (C.runs_out first) (C.sends first) past (event_with piece coming.entry) self.new.sent.to_client self.new.sent.to_host) }
         ensures quiet { OnOk result (is_quiet (event_with [] coming.entry) ≡ true → self.new.sent.refusals ≡ []) }
         ensures stays { OnOk result (is_quiet (event_with [] coming.entry) ≡ true → self.new.sent.lets_go ≡ false) }
         ensures rounds { self.new.rounds ≡ self.old.rounds }
@@ -81,9 +81,9 @@ impl<C: Served + Drop> Session<C> {
 
     /// Has the event taken, unless what is served has taken it as it came: then what that sends is kept already.
     fn take(&mut self, coming: Coming) -> Result<(), Memory>
-        ensures stands { OnOk result ((first : C.First) (piece : List ℕ) (past : List PastLinkEvent) → StandsAt (C.stands first) (C.runs_out first) (C.sends first) piece coming.entry self.old.core self.old.sent past → C.stands first self.new.core (event_with piece coming.entry ∷ past)) }
-        ensures sends { OnOk result ((first : C.First) (piece : List ℕ) (past : List PastLinkEvent) → StandsAt (C.stands first) (C.runs_out first) (C.sends first) piece coming.entry self.old.core self.old.sent past → SendsAll (C.sends first) past (event_with piece coming.entry) nothing self.new.sent) }
-        ensures stops { OnErr result ((first : C.First) (piece : List ℕ) (past : List PastLinkEvent) → StandsAt (C.stands first) (C.runs_out first) (C.sends first) piece coming.entry self.old.core self.old.sent past → SendsPart (C.runs_out first) (C.sends first) past (event_with piece coming.entry) nothing self.new.sent) }
+        ensures stands { OnOk result ((first : C.First) (piece : List ℕ) (past : List PastLinkEvent) → StandsAt (C.stands first) (C.runs_out first) (C.sends first) piece coming.entry self.old.served self.old.sent past → C.stands first self.new.served (event_with piece coming.entry ∷ past)) }
+        ensures sends { OnOk result ((first : C.First) (piece : List ℕ) (past : List PastLinkEvent) → StandsAt (C.stands first) (C.runs_out first) (C.sends first) piece coming.entry self.old.served self.old.sent past → SendsAll (C.sends first) past (event_with piece coming.entry) nothing self.new.sent) }
+        ensures stops { OnErr result ((first : C.First) (piece : List ℕ) (past : List PastLinkEvent) → StandsAt (C.stands first) (C.runs_out first) (C.sends first) piece coming.entry self.old.served self.old.sent past → SendsPart (C.runs_out first) (C.sends first) past (event_with piece coming.entry) nothing self.new.sent) }
         ensures quiet { OnOk result (is_quiet (event_with [] coming.entry) ≡ true → self.new.sent.refusals ≡ []) }
         ensures stays { OnOk result (is_quiet (event_with [] coming.entry) ≡ true → self.new.sent.lets_go ≡ false) }
         ensures rounds { self.new.rounds ≡ self.old.rounds }
@@ -92,7 +92,7 @@ impl<C: Served + Drop> Session<C> {
         match coming {
             Coming::Event(event) => {
                 self.sent.clear();
-                self.core.take(event, &mut self.sent)
+                self.served.take(event, &mut self.sent)
             }
             Coming::Taken(_, taken) => taken,
         }
@@ -158,10 +158,10 @@ impl<C: Served + Drop> Session<C> {
     ) -> Result<bool, ServeEnd>
         requires agrees { Agrees self.old.rounds (outside (D.link doors.old) (D.door doors.old)) }
         requires records { CanRecord coming (T.made tape.old) (T.contents tape.old) }
-        ensures course { (first : C.First) (piece : List ℕ) (begun : Option (List ℕ)) (c : Course) → IsServing (StandsAt (C.stands first) (C.runs_out first) (C.sends first) piece coming.entry self.old.core self.old.sent) (C.sends first) self.old.rounds (outside (D.link doors.old) (D.door doors.old)) (gathering begun (K.contents out.old) (T.contents tape.old) self.old.waiting) c
-            → Puts result (C.stands first self.new.core) (C.runs_out first) (C.sends first) (event_with piece coming.entry) self.new.rounds (outside (D.link doors.new) (D.door doors.new)) (gathering begun (K.contents out.new) (T.contents tape.new) self.new.waiting) c }
-        ensures log { (first : C.First) (piece : List ℕ) (terms : Terms) (asks : List Ask) (begun : D) (begun_out : K) → terms.taped ≡ T.made tape.old → IsTaking D.call_gives (StandsAt (C.stands first) (C.runs_out first) (C.sends first) piece coming.entry self.old.core self.old.sent) (Told K.write_gives begun_out out.old) terms (C.sends first) asks (event_with piece coming.entry) self.old.rounds begun doors.old
-            → PutLogs result D.call_gives (C.stands first self.new.core) (C.runs_out first) (Told K.write_gives begun_out out.new) terms (C.sends first) asks (event_with piece coming.entry) self.new.rounds begun doors.new }
+        ensures course { (first : C.First) (piece : List ℕ) (begun : Option (List ℕ)) (c : Course) → IsServing (StandsAt (C.stands first) (C.runs_out first) (C.sends first) piece coming.entry self.old.served self.old.sent) (C.sends first) self.old.rounds (outside (D.link doors.old) (D.door doors.old)) (gathering begun (K.contents out.old) (T.contents tape.old) self.old.waiting) c
+            → Puts result (C.stands first self.new.served) (C.runs_out first) (C.sends first) (event_with piece coming.entry) self.new.rounds (outside (D.link doors.new) (D.door doors.new)) (gathering begun (K.contents out.new) (T.contents tape.new) self.new.waiting) c }
+        ensures log { (first : C.First) (piece : List ℕ) (terms : Terms) (asks : List Ask) (begun : D) (begun_out : K) → terms.taped ≡ T.made tape.old → IsTaking D.call_gives (StandsAt (C.stands first) (C.runs_out first) (C.sends first) piece coming.entry self.old.served self.old.sent) (Told K.write_gives begun_out out.old) terms (C.sends first) asks (event_with piece coming.entry) self.old.rounds begun doors.old
+            → PutLogs result D.call_gives (C.stands first self.new.served) (C.runs_out first) (Told K.write_gives begun_out out.new) terms (C.sends first) asks (event_with piece coming.entry) self.new.rounds begun doors.new }
         ensures faults { HasFaults result (outside (D.link doors.old) (D.door doors.old)) (outside (D.link doors.new) (D.door doors.new)) (faults (K.faults out.old) (T.counts tape.old)) (faults (K.faults out.new) (T.counts tape.new)) }
         ensures cut { IfErr result IsCutEnd }
         ensures agrees { OnOk result (Agrees self.new.rounds (outside (D.link doors.new) (D.door doors.new))) }
@@ -208,10 +208,10 @@ impl<C: Served + Drop> Session<C> {
     ) -> Result<(), ServeEnd>
         requires agrees { Agrees self.old.rounds (outside (D.link doors.old) (D.door doors.old)) }
         requires records { CanRecord coming (T.made tape.old) (T.contents tape.old) }
-        ensures course { (first : C.First) (piece : List ℕ) (begun : Option (List ℕ)) (next : Next) (c : Course) → IsServing (StandsAt (C.stands first) (C.runs_out first) (C.sends first) piece coming.entry self.old.core self.old.sent) (C.sends first) self.old.rounds (outside (D.link doors.old) (D.door doors.old)) (gathering begun (K.contents out.old) (T.contents tape.old) self.old.waiting) c
-            → RunsOn result (C.stands first self.new.core) (C.runs_out first) (setting (C.sends first) self.old.rounds) self.new.rounds (outside (D.link doors.new) (D.door doors.new)) (gathering begun (K.contents out.new) (T.contents tape.new) self.new.waiting) (Goes (Takes (event_with piece coming.entry) next) c) next }
-        ensures log { (first : C.First) (piece : List ℕ) (terms : Terms) (asks : List Ask) (begun : D) (begun_out : K) → terms.taped ≡ T.made tape.old → IsTaking D.call_gives (StandsAt (C.stands first) (C.runs_out first) (C.sends first) piece coming.entry self.old.core self.old.sent) (Told K.write_gives begun_out out.old) terms (C.sends first) asks (event_with piece coming.entry) self.old.rounds begun doors.old
-            → HappenLogs result D.call_gives (C.stands first self.new.core) (C.runs_out first) (Told K.write_gives begun_out out.new) terms (C.sends first) asks self.new.rounds begun doors.new }
+        ensures course { (first : C.First) (piece : List ℕ) (begun : Option (List ℕ)) (next : Next) (c : Course) → IsServing (StandsAt (C.stands first) (C.runs_out first) (C.sends first) piece coming.entry self.old.served self.old.sent) (C.sends first) self.old.rounds (outside (D.link doors.old) (D.door doors.old)) (gathering begun (K.contents out.old) (T.contents tape.old) self.old.waiting) c
+            → RunsOn result (C.stands first self.new.served) (C.runs_out first) (setting (C.sends first) self.old.rounds) self.new.rounds (outside (D.link doors.new) (D.door doors.new)) (gathering begun (K.contents out.new) (T.contents tape.new) self.new.waiting) (Goes (Takes (event_with piece coming.entry) next) c) next }
+        ensures log { (first : C.First) (piece : List ℕ) (terms : Terms) (asks : List Ask) (begun : D) (begun_out : K) → terms.taped ≡ T.made tape.old → IsTaking D.call_gives (StandsAt (C.stands first) (C.runs_out first) (C.sends first) piece coming.entry self.old.served self.old.sent) (Told K.write_gives begun_out out.old) terms (C.sends first) asks (event_with piece coming.entry) self.old.rounds begun doors.old
+            → HappenLogs result D.call_gives (C.stands first self.new.served) (C.runs_out first) (Told K.write_gives begun_out out.new) terms (C.sends first) asks self.new.rounds begun doors.new }
         ensures faults { HasFaults result (outside (D.link doors.old) (D.door doors.old)) (outside (D.link doors.new) (D.door doors.new)) (faults (K.faults out.old) (T.counts tape.old)) (faults (K.faults out.new) (T.counts tape.new)) }
         ensures agrees { OnOk result (Agrees self.new.rounds (outside (D.link doors.new) (D.door doors.new))) }
         ensures wears { Wears self.old.rounds self.new.rounds }
@@ -239,10 +239,10 @@ impl<C: Served + Drop> Session<C> {
     ) -> Result<(), ServeEnd>
         requires agrees { Agrees self.old.rounds (outside (D.link doors.old) (D.door doors.old)) }
         requires left { 0 < self.old.rounds.left }
-        ensures course { (first : C.First) (begun : Option (List ℕ)) (c : Course) → IsServing (C.stands first self.old.core) (C.sends first) self.old.rounds (outside (D.link doors.old) (D.door doors.old)) (gathering begun (K.contents out.old) (T.contents tape.old) self.old.waiting) c
-            → RunsOn result (C.stands first self.new.core) (C.runs_out first) (setting (C.sends first) self.old.rounds) self.new.rounds (outside (D.link doors.new) (D.door doors.new)) (gathering begun (K.contents out.new) (T.contents tape.new) self.new.waiting) (Goes AtDoor c) AtClient }
-        ensures log { (first : C.First) (terms : Terms) (begun : D) (begun_out : K) → terms.taped ≡ T.made tape.old → IsAsking AtDoor D.call_gives (C.stands first self.old.core) (Told K.write_gives begun_out out.old) terms (C.sends first) self.old.rounds begun doors.old
-            → Logs result AtClient D.call_gives (C.stands first self.new.core) (C.runs_out first) (Told K.write_gives begun_out out.new) terms (C.sends first) self.new.rounds begun doors.new }
+        ensures course { (first : C.First) (begun : Option (List ℕ)) (c : Course) → IsServing (C.stands first self.old.served) (C.sends first) self.old.rounds (outside (D.link doors.old) (D.door doors.old)) (gathering begun (K.contents out.old) (T.contents tape.old) self.old.waiting) c
+            → RunsOn result (C.stands first self.new.served) (C.runs_out first) (setting (C.sends first) self.old.rounds) self.new.rounds (outside (D.link doors.new) (D.door doors.new)) (gathering begun (K.contents out.new) (T.contents tape.new) self.new.waiting) (Goes AtDoor c) AtClient }
+        ensures log { (first : C.First) (terms : Terms) (begun : D) (begun_out : K) → terms.taped ≡ T.made tape.old → IsAsking AtDoor D.call_gives (C.stands first self.old.served) (Told K.write_gives begun_out out.old) terms (C.sends first) self.old.rounds begun doors.old
+            → Logs result AtClient D.call_gives (C.stands first self.new.served) (C.runs_out first) (Told K.write_gives begun_out out.new) terms (C.sends first) self.new.rounds begun doors.new }
         ensures faults { HasFaults result (outside (D.link doors.old) (D.door doors.old)) (outside (D.link doors.new) (D.door doors.new)) (faults (K.faults out.old) (T.counts tape.old)) (faults (K.faults out.new) (T.counts tape.new)) }
         ensures agrees { OnOk result (Agrees self.new.rounds (outside (D.link doors.new) (D.door doors.new))) }
         ensures wears { Wears self.old.rounds self.new.rounds }
@@ -275,10 +275,10 @@ impl<C: Served + Drop> Session<C> {
     ) -> Result<(), ServeEnd>
         requires agrees { Agrees self.old.rounds (outside (D.link doors.old) (D.door doors.old)) }
         requires left { 0 < self.old.rounds.left }
-        ensures course { (first : C.First) (begun : Option (List ℕ)) (next : Next) (c : Course) → IsServing (C.stands first self.old.core) (C.sends first) self.old.rounds (outside (D.link doors.old) (D.door doors.old)) (gathering begun (K.contents out.old) (T.contents tape.old) self.old.waiting) c
-            → RunsOn result (C.stands first self.new.core) (C.runs_out first) (setting (C.sends first) self.old.rounds) self.new.rounds (outside (D.link doors.new) (D.door doors.new)) (gathering begun (K.contents out.new) (T.contents tape.new) self.new.waiting) (Goes (quiet side next) c) next }
-        ensures log { (first : C.First) (terms : Terms) (asks : List Ask) (begun : D) (begun_out : K) → terms.taped ≡ T.made tape.old → IsResting side D.call_gives (C.stands first self.old.core) (Told K.write_gives begun_out out.old) terms (C.sends first) asks self.old.rounds begun doors.old
-            → HappenLogs result D.call_gives (C.stands first self.new.core) (C.runs_out first) (Told K.write_gives begun_out out.new) terms (C.sends first) asks self.new.rounds begun doors.new }
+        ensures course { (first : C.First) (begun : Option (List ℕ)) (next : Next) (c : Course) → IsServing (C.stands first self.old.served) (C.sends first) self.old.rounds (outside (D.link doors.old) (D.door doors.old)) (gathering begun (K.contents out.old) (T.contents tape.old) self.old.waiting) c
+            → RunsOn result (C.stands first self.new.served) (C.runs_out first) (setting (C.sends first) self.old.rounds) self.new.rounds (outside (D.link doors.new) (D.door doors.new)) (gathering begun (K.contents out.new) (T.contents tape.new) self.new.waiting) (Goes (quiet side next) c) next }
+        ensures log { (first : C.First) (terms : Terms) (asks : List Ask) (begun : D) (begun_out : K) → terms.taped ≡ T.made tape.old → IsResting side D.call_gives (C.stands first self.old.served) (Told K.write_gives begun_out out.old) terms (C.sends first) asks self.old.rounds begun doors.old
+            → HappenLogs result D.call_gives (C.stands first self.new.served) (C.runs_out first) (Told K.write_gives begun_out out.new) terms (C.sends first) asks self.new.rounds begun doors.new }
         ensures faults { HasFaults result (outside (D.link doors.old) (D.door doors.old)) (outside (D.link doors.new) (D.door doors.new)) (faults (K.faults out.old) (T.counts tape.old)) (faults (K.faults out.new) (T.counts tape.new)) }
         ensures agrees { OnOk result (Agrees self.new.rounds (outside (D.link doors.new) (D.door doors.new))) }
         ensures wears { Wears self.old.rounds self.new.rounds }
@@ -305,10 +305,10 @@ impl<C: Served + Drop> Session<C> {
         requires agrees { Agrees self.old.rounds (outside (D.link doors.old) (D.door doors.old)) }
         requires left { 0 < self.old.rounds.left }
         requires room { length buf.old ≡ POLL_LIMIT }
-        ensures course { (first : C.First) (begun : Option (List ℕ)) (c : Course) → IsServing (C.stands first self.old.core) (C.sends first) self.old.rounds (outside (D.link doors.old) (D.door doors.old)) (gathering begun (K.contents out.old) (T.contents tape.old) self.old.waiting) c
-            → RunsOn result (C.stands first self.new.core) (C.runs_out first) (setting (C.sends first) self.old.rounds) self.new.rounds (outside (D.link doors.new) (D.door doors.new)) (gathering begun (K.contents out.new) (T.contents tape.new) self.new.waiting) (Goes (polls side) c) (behind side) }
-        ensures log { (first : C.First) (terms : Terms) (begun : D) (begun_out : K) → terms.taped ≡ T.made tape.old → IsAsking (polls side) D.call_gives (C.stands first self.old.core) (Told K.write_gives begun_out out.old) terms (C.sends first) self.old.rounds begun doors.old
-            → Logs result (behind side) D.call_gives (C.stands first self.new.core) (C.runs_out first) (Told K.write_gives begun_out out.new) terms (C.sends first) self.new.rounds begun doors.new }
+        ensures course { (first : C.First) (begun : Option (List ℕ)) (c : Course) → IsServing (C.stands first self.old.served) (C.sends first) self.old.rounds (outside (D.link doors.old) (D.door doors.old)) (gathering begun (K.contents out.old) (T.contents tape.old) self.old.waiting) c
+            → RunsOn result (C.stands first self.new.served) (C.runs_out first) (setting (C.sends first) self.old.rounds) self.new.rounds (outside (D.link doors.new) (D.door doors.new)) (gathering begun (K.contents out.new) (T.contents tape.new) self.new.waiting) (Goes (polls side) c) (behind side) }
+        ensures log { (first : C.First) (terms : Terms) (begun : D) (begun_out : K) → terms.taped ≡ T.made tape.old → IsAsking (polls side) D.call_gives (C.stands first self.old.served) (Told K.write_gives begun_out out.old) terms (C.sends first) self.old.rounds begun doors.old
+            → Logs result (behind side) D.call_gives (C.stands first self.new.served) (C.runs_out first) (Told K.write_gives begun_out out.new) terms (C.sends first) self.new.rounds begun doors.new }
         ensures faults { HasFaults result (outside (D.link doors.old) (D.door doors.old)) (outside (D.link doors.new) (D.door doors.new)) (faults (K.faults out.old) (T.counts tape.old)) (faults (K.faults out.new) (T.counts tape.new)) }
         ensures agrees { OnOk result (Agrees self.new.rounds (outside (D.link doors.new) (D.door doors.new))) }
         ensures wears { Wears self.old.rounds self.new.rounds }
@@ -323,7 +323,7 @@ impl<C: Served + Drop> Session<C> {
         }
         self.sent.clear();
         let taped = tape.is_made();
-        let came = poll(&mut self.core, side, buf, doors, taped, &mut self.sent);
+        let came = poll(&mut self.served, side, buf, doors, taped, &mut self.sent);
         match came.polled {
             Polled::Took(n) => {
                 self.rounds.take(n);
@@ -355,10 +355,10 @@ impl<C: Served + Drop> Session<C> {
         requires agrees { Agrees self.old.rounds (outside (D.link doors.old) (D.door doors.old)) }
         requires live { IsLive self.old.rounds }
         requires room { length buf.old ≡ POLL_LIMIT }
-        ensures course { (first : C.First) (begun : Option (List ℕ)) (c : Course) → IsServing (C.stands first self.old.core) (C.sends first) self.old.rounds (outside (D.link doors.old) (D.door doors.old)) (gathering begun (K.contents out.old) (T.contents tape.old) self.old.waiting) c
-            → RunsOn result (C.stands first self.new.core) (C.runs_out first) (setting (C.sends first) self.old.rounds) self.new.rounds (outside (D.link doors.new) (D.door doors.new)) (gathering begun (K.contents out.new) (T.contents tape.new) self.new.waiting) (Goes AtDoor c) AtDoor }
-        ensures log { (first : C.First) (terms : Terms) (begun : D) (begun_out : K) → terms.taped ≡ T.made tape.old → IsAsking AtDoor D.call_gives (C.stands first self.old.core) (Told K.write_gives begun_out out.old) terms (C.sends first) self.old.rounds begun doors.old
-            → Logs result AtDoor D.call_gives (C.stands first self.new.core) (C.runs_out first) (Told K.write_gives begun_out out.new) terms (C.sends first) self.new.rounds begun doors.new }
+        ensures course { (first : C.First) (begun : Option (List ℕ)) (c : Course) → IsServing (C.stands first self.old.served) (C.sends first) self.old.rounds (outside (D.link doors.old) (D.door doors.old)) (gathering begun (K.contents out.old) (T.contents tape.old) self.old.waiting) c
+            → RunsOn result (C.stands first self.new.served) (C.runs_out first) (setting (C.sends first) self.old.rounds) self.new.rounds (outside (D.link doors.new) (D.door doors.new)) (gathering begun (K.contents out.new) (T.contents tape.new) self.new.waiting) (Goes AtDoor c) AtDoor }
+        ensures log { (first : C.First) (terms : Terms) (begun : D) (begun_out : K) → terms.taped ≡ T.made tape.old → IsAsking AtDoor D.call_gives (C.stands first self.old.served) (Told K.write_gives begun_out out.old) terms (C.sends first) self.old.rounds begun doors.old
+            → Logs result AtDoor D.call_gives (C.stands first self.new.served) (C.runs_out first) (Told K.write_gives begun_out out.new) terms (C.sends first) self.new.rounds begun doors.new }
         ensures faults { HasFaults result (outside (D.link doors.old) (D.door doors.old)) (outside (D.link doors.new) (D.door doors.new)) (faults (K.faults out.old) (T.counts tape.old)) (faults (K.faults out.new) (T.counts tape.new)) }
         ensures agrees { OnOk result (Agrees self.new.rounds (outside (D.link doors.new) (D.door doors.new))) }
         ensures live { OnOk result (IsLive self.new.rounds) }
@@ -387,9 +387,9 @@ impl<C: Served + Drop> Session<C> {
         requires live { IsLive self.old.rounds }
         requires room { length buf.old ≡ POLL_LIMIT }
         requires fresh { self.old.rounds.waits ≡ self.old.rounds.idle }
-        ensures course { (first : C.First) (begun : Option (List ℕ)) (c : Course) → IsServing (C.stands first self.old.core) (C.sends first) self.old.rounds (outside (D.link doors.old) (D.door doors.old)) (gathering begun (K.contents out.old) (T.contents tape.old) self.old.waiting) c
+        ensures course { (first : C.First) (begun : Option (List ℕ)) (c : Course) → IsServing (C.stands first self.old.served) (C.sends first) self.old.rounds (outside (D.link doors.old) (D.door doors.old)) (gathering begun (K.contents out.old) (T.contents tape.old) self.old.waiting) c
             → Leaves result (C.runs_out first) (setting (C.sends first) self.old.rounds) (Goes AtDoor c) (outside (D.link doors.new) (D.door doors.new)) (written begun (K.contents out.new) (T.contents tape.new)) }
-        ensures log { (first : C.First) (terms : Terms) (begun : D) (begun_out : K) → terms.taped ≡ T.made tape.old → IsAsking AtDoor D.call_gives (C.stands first self.old.core) (Told K.write_gives begun_out out.old) terms (C.sends first) self.old.rounds begun doors.old
+        ensures log { (first : C.First) (terms : Terms) (begun : D) (begun_out : K) → terms.taped ≡ T.made tape.old → IsAsking AtDoor D.call_gives (C.stands first self.old.served) (Told K.write_gives begun_out out.old) terms (C.sends first) self.old.rounds begun doors.old
             → Logged result D.call_gives (C.runs_out first) (Told K.write_gives begun_out out.new) terms (C.sends first) begun doors.new }
         ensures cause { HasCause result (outside (D.link doors.old) (D.door doors.old)) (outside (D.link doors.new) (D.door doors.new)) (faults (K.faults out.old) (T.counts tape.old)) (faults (K.faults out.new) (T.counts tape.new)) }
         ensures reason { HasReason result self.old.rounds.idle (outside (D.link doors.old) (D.door doors.old)) (outside (D.link doors.new) (D.door doors.new)) }

@@ -31,11 +31,11 @@ returns-clause-leaves g c = λ first k fresh b t.
     let w = outside (g.D.Doors.link c.listen.new.self) (g.D.Doors.door c.listen.new.self) in
     let ends = outside (g.D.Doors.link c.run.new.doors) (g.D.Doors.door c.run.new.doors) in
     let out = written (g.K.Sink.contents c.args.out.now) (g.K.Sink.contents c.args.out.now) None in
-    let stands = g.C.Served.stands first c.new-session.result.core in
+    let stands = g.C.Served.stands first c.new-session.result.served in
     subst (λ (q : Rounds). IsServing stands p q w (gathering (g.K.Sink.contents c.args.out.now) (g.K.Sink.contents c.args.out.now) None c.new-session.result.waiting) k → Leaves c.run.result (g.C.Served.runs_out first) (setting p q) (Goes AtDoor k) ends (written (g.K.Sink.contents c.args.out.now) (g.K.Sink.contents c.run.new.out) None)) (c.new-session.ensures.rounds ∙ c.new.ensures) (c.run.ensures.course first (g.K.Sink.contents c.args.out.now) k)
     (subst (λ (l : List ℕ). IsServing stands p (begun c.args.idle c.args.budget) w (gathering (g.K.Sink.contents c.args.out.now) (g.K.Sink.contents c.args.out.now) None l) k) (sym c.new-session.ensures.waiting)
     (door-follows stands p c.args.idle c.args.budget
-    (outside (g.D.Doors.link c.args.doors.now) (g.D.Doors.door c.args.doors.now)) w out k b (subst (λ x. g.C.Served.stands first x []) (sym c.new-session.ensures.core) fresh.stands_for) fresh.refuses_none t
+    (outside (g.D.Doors.link c.args.doors.now) (g.D.Doors.door c.args.doors.now)) w out k b (subst (λ x. g.C.Served.stands first x []) (sym c.new-session.ensures.served) fresh.stands_for) fresh.refuses_none t
     c.in_default.ensures.listens.1 c.in_default.ensures.other c.in_default.ensures.listens.0))
 
 pub returns-clause-cause : goal.returns-clause-cause
@@ -64,5 +64,5 @@ returns-in-Err-listen-clause-log g c = λ first fresh.
 pub returns-clause-log : goal.returns-clause-log
 returns-clause-log g c = λ first fresh.
     c.run.ensures.log first (no_host c.args.listen.now c.args.idle c.args.budget) c.args.doors.now c.args.out.now refl
-    (door-at g.D.Doors.call_gives (g.C.Served.stands first c.new-session.result.core) (Told g.K.Sink.write_gives c.args.out.now c.args.out.now) (g.C.Served.sends first) c.new-session.result.rounds c.args.idle c.args.budget c.args.listen.now _ c.args.doors.now c.listen.new.self c.in_default.ensures.gives
-    (subst (λ x. g.C.Served.stands first x []) (sym c.new-session.ensures.core) fresh.stands_for) (told-none g.K.Sink.write_gives c.args.out.now) fresh.refuses_none c.requires.idle c.requires.budget (c.new-session.ensures.rounds ∙ c.new.ensures))
+    (door-at g.D.Doors.call_gives (g.C.Served.stands first c.new-session.result.served) (Told g.K.Sink.write_gives c.args.out.now c.args.out.now) (g.C.Served.sends first) c.new-session.result.rounds c.args.idle c.args.budget c.args.listen.now _ c.args.doors.now c.listen.new.self c.in_default.ensures.gives
+    (subst (λ x. g.C.Served.stands first x []) (sym c.new-session.ensures.served) fresh.stands_for) (told-none g.K.Sink.write_gives c.args.out.now) fresh.refuses_none c.requires.idle c.requires.budget (c.new-session.ensures.rounds ∙ c.new.ensures))

@@ -34,12 +34,12 @@ returns-clause-leaves g c = λ first k fresh hello b t.
     let w = outside (g.D.Doors.link c.open.new.doors) (g.D.Doors.door c.open.new.doors) in
     let ends = outside (g.D.Doors.link c.run.new.doors) (g.D.Doors.door c.run.new.doors) in
     let out = written (g.K.Sink.contents c.args.out.now) (g.K.Sink.contents c.args.out.now) (g.T.Tape.contents c.args.tape.now) in
-    let stands = g.C.Served.stands first c.new-session.result.core in
+    let stands = g.C.Served.stands first c.new-session.result.served in
     leaves-then c.run.result (g.C.Served.runs_out first) s (Goes Making k) AtDoor (make p k) ends (written (g.K.Sink.contents c.args.out.now) (g.K.Sink.contents c.run.new.out) (g.T.Tape.contents c.run.new.tape))
     (reaches-call s (Goes Making k) Making k (Goes AtDoor (make p k)) (reaches-none s (Goes Making k)) refl)
     (subst (λ (q : Rounds). IsServing stands p q w (gathering (g.K.Sink.contents c.args.out.now) (g.K.Sink.contents c.args.out.now) (g.T.Tape.contents c.args.tape.now) c.new-session.result.waiting) (make p k) → Leaves c.run.result (g.C.Served.runs_out first) (setting p q) (Goes AtDoor (make p k)) ends (written (g.K.Sink.contents c.args.out.now) (g.K.Sink.contents c.run.new.out) (g.T.Tape.contents c.run.new.tape))) (c.new-session.ensures.rounds ∙ ap (λ (q : Rounds). record q { host_up = true }) c.new.ensures) (c.run.ensures.course first (g.K.Sink.contents c.args.out.now) (make p k))
     (subst (λ (l : List ℕ). IsServing stands p (record (begun c.args.terms.idle c.args.terms.budget) { host_up = true }) w (gathering (g.K.Sink.contents c.args.out.now) (g.K.Sink.contents c.args.out.now) (g.T.Tape.contents c.args.tape.now) l) (make p k)) (sym c.new-session.ensures.waiting)
-    (begun-follows stands p c.args.terms.idle c.args.terms.budget w out k b (subst (λ x. g.C.Served.stands first x []) (sym c.new-session.ensures.core) fresh.stands_for) fresh.refuses_none (c.in_default.ensures.course p k out hello b.client_down t))))
+    (begun-follows stands p c.args.terms.idle c.args.terms.budget w out k b (subst (λ x. g.C.Served.stands first x []) (sym c.new-session.ensures.served) fresh.stands_for) fresh.refuses_none (c.in_default.ensures.course p k out hello b.client_down t))))
 
 pub returns-clause-cause : goal.returns-clause-cause
 returns-clause-cause g c =
@@ -69,10 +69,10 @@ returns-in-Err-open-clause-log g c = λ first fresh hello.
 pub returns-clause-log : goal.returns-clause-log
 returns-clause-log g c = λ first fresh hello.
     let p = g.C.Served.sends first in
-    let stands = g.C.Served.stands first c.new-session.result.core in
+    let stands = g.C.Served.stands first c.new-session.result.served in
     let tells = Told g.K.Sink.write_gives c.args.out.now c.args.out.now in
     c.run.ensures.log first (with_host c.args.terms.host.now c.args.terms.listen.now (g.T.Tape.made c.args.tape.now) c.args.terms.idle c.args.terms.budget) c.args.doors.now c.args.out.now refl
     (opened-at g.D.Doors.call_gives stands tells c.args.terms.host.now c.args.terms.listen.now (g.T.Tape.made c.args.tape.now) c.args.terms.idle c.args.terms.budget p c.new-session.result.rounds c.args.doors.now c.open.new.doors
     (c.in_default.ensures.log (g.T.Tape.made c.args.tape.now) c.args.terms.idle c.args.terms.budget p hello)
-    (subst (λ x. g.C.Served.stands first x []) (sym c.new-session.ensures.core) fresh.stands_for)
+    (subst (λ x. g.C.Served.stands first x []) (sym c.new-session.ensures.served) fresh.stands_for)
     (told-none g.K.Sink.write_gives c.args.out.now) fresh.refuses_none c.requires.idle c.requires.budget (c.new-session.ensures.rounds ∙ ap (λ (q : Rounds). record q { host_up = true }) c.new.ensures))

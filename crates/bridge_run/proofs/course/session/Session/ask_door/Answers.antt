@@ -25,10 +25,10 @@ returns-in-Ok-true-clause-course g c = λ first begun k f.
     let w2 = outside (g.D.Doors.link c.happen.new.doors) (g.D.Doors.door c.happen.new.doors) in
     let out = gathering begun (g.K.Sink.contents c.args.out.now) (g.T.Tape.contents c.args.tape.now) c.args.self.now.waiting in
     let out2 = gathering begun (g.K.Sink.contents c.happen.new.out) (g.T.Tape.contents c.happen.new.tape) c.happen.new.self.waiting in
-    let stands2 = g.C.Served.stands first c.happen.new.self.core in
+    let stands2 = g.C.Served.stands first c.happen.new.self.served in
     let from = Goes AtDoor k in
     let down = sym f.client_up ∙ c.if-self.false in
-    let a = accepted (g.C.Served.stands first c.args.self.now.core) p kept c.come.new.self w w1 out k f
+    let a = accepted (g.C.Served.stands first c.args.self.now.served) p kept c.come.new.self w w1 out k f
     (subst (λ (b : Bool). Accepts {E = Fault} (Ok b) w.door w1.door w.client w1.client) c.in-Ok-true.field-0-test c.in-Ok-true.ensures.accepts) c.in-Ok-true.ensures.other c.come.ensures in
     let next = Takes ClientComes AtClient in
     runs-then c.happen.result stands2 (g.C.Served.runs_out first) s c.happen.new.self.rounds w2 out2 from next a.course AtClient
@@ -44,7 +44,7 @@ returns-in-Ok-false-clause-course g c = λ first begun k f.
     let w1 = outside (g.D.Doors.link c.accept.new.self) (g.D.Doors.door c.accept.new.self) in
     let from = Goes AtDoor k in
     let down = sym f.client_up ∙ c.if-self.false in
-    let a = waited (g.C.Served.stands first c.args.self.now.core) p kept w w1 (gathering begun (g.K.Sink.contents c.args.out.now) (g.T.Tape.contents c.args.tape.now) c.args.self.now.waiting) k f
+    let a = waited (g.C.Served.stands first c.args.self.now.served) p kept w w1 (gathering begun (g.K.Sink.contents c.args.out.now) (g.T.Tape.contents c.args.tape.now) c.args.self.now.waiting) k f
     (subst (λ (b : Bool). Accepts {E = Fault} (Ok b) w.door w1.door w.client w1.client) c.in-Ok-false.field-0-test c.in-Ok-false.ensures.accepts) c.in-Ok-false.ensures.other in
     record {
       course = k;
@@ -66,7 +66,7 @@ returns-in-Err-clause-course g c = λ first begun k f.
 
 pub returns-then-self-clause-log : goal.returns-then-self-clause-log
 returns-then-self-clause-log g c = λ first terms begun begun_out taped a.
-    there-asking g.D.Doors.call_gives (g.C.Served.stands first c.args.self.now.core) (Told g.K.Sink.write_gives begun_out c.args.out.now) terms (g.C.Served.sends first) c.args.self.now.rounds begun c.args.doors.now c.if-self.true a
+    there-asking g.D.Doors.call_gives (g.C.Served.stands first c.args.self.now.served) (Told g.K.Sink.write_gives begun_out c.args.out.now) terms (g.C.Served.sends first) c.args.self.now.rounds begun c.args.doors.now c.if-self.true a
 
 pub returns-in-Ok-true-clause-log : goal.returns-in-Ok-true-clause-log
 returns-in-Ok-true-clause-log g c = λ first terms begun begun_out taped a.
@@ -75,16 +75,16 @@ returns-in-Ok-true-clause-log g c = λ first terms begun begun_out taped a.
     let k = c.args.self.now.rounds in
     let answered = subst (λ (b : Bool). gives c.args.doors.now (Accept (Ok b)) c.accept.new.self) c.in-Ok-true.field-0-test c.in-Ok-true.ensures.gives in
     let h = c.happen.ensures.log first [] terms (ForClient (Ok true) ∷ a.asks) begun begun_out taped
-    (came-taking gives (g.C.Served.stands first c.args.self.now.core) (Told g.K.Sink.write_gives begun_out c.args.out.now) terms p k c.come.new.self begun c.args.doors.now c.accept.new.self c.if-self.false a answered c.come.ensures) in
-    client-logs c.happen.result gives (g.C.Served.stands first c.happen.new.self.core) (g.C.Served.runs_out first) (Told g.K.Sink.write_gives begun_out c.happen.new.out) terms p a.asks k c.come.new.self c.happen.new.self.rounds begun c.happen.new.doors h a.patient
+    (came-taking gives (g.C.Served.stands first c.args.self.now.served) (Told g.K.Sink.write_gives begun_out c.args.out.now) terms p k c.come.new.self begun c.args.doors.now c.accept.new.self c.if-self.false a answered c.come.ensures) in
+    client-logs c.happen.result gives (g.C.Served.stands first c.happen.new.self.served) (g.C.Served.runs_out first) (Told g.K.Sink.write_gives begun_out c.happen.new.out) terms p a.asks k c.come.new.self c.happen.new.self.rounds begun c.happen.new.doors h a.patient
     (ap (λ (q : Rounds). q.busy) c.come.ensures) (ap (λ (q : Rounds). q.idle) c.come.ensures) (ap (λ (q : Rounds). q.waits) c.come.ensures) c.happen.ensures.wears
 
 pub returns-in-Ok-false-clause-log : goal.returns-in-Ok-false-clause-log
 returns-in-Ok-false-clause-log g c = λ first terms begun begun_out taped a.
     let gives = g.D.Doors.call_gives in
-    nobody-at gives (g.C.Served.stands first c.args.self.now.core) (Told g.K.Sink.write_gives begun_out c.args.out.now) terms (g.C.Served.sends first) c.args.self.now.rounds begun c.args.doors.now c.accept.new.self a c.if-self.false
+    nobody-at gives (g.C.Served.stands first c.args.self.now.served) (Told g.K.Sink.write_gives begun_out c.args.out.now) terms (g.C.Served.sends first) c.args.self.now.rounds begun c.args.doors.now c.accept.new.self a c.if-self.false
     (subst (λ (b : Bool). gives c.args.doors.now (Accept (Ok b)) c.accept.new.self) c.in-Ok-false.field-0-test c.in-Ok-false.ensures.gives)
 
 pub returns-in-Err-clause-log : goal.returns-in-Err-clause-log
 returns-in-Err-clause-log g c = λ first terms begun begun_out taped a.
-    accept-failed g.D.Doors.call_gives (g.C.Served.stands first c.args.self.now.core) (g.C.Served.runs_out first) (Told g.K.Sink.write_gives begun_out c.args.out.now) terms (g.C.Served.sends first) _ c.args.self.now.rounds begun c.args.doors.now c.accept.new.self c.if-self.false a c.in-Err.ensures.gives
+    accept-failed g.D.Doors.call_gives (g.C.Served.stands first c.args.self.now.served) (g.C.Served.runs_out first) (Told g.K.Sink.write_gives begun_out c.args.out.now) terms (g.C.Served.sends first) _ c.args.self.now.rounds begun c.args.doors.now c.accept.new.self c.if-self.false a c.in-Err.ensures.gives

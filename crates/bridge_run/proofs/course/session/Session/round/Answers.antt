@@ -19,8 +19,8 @@ returns-in_err-ask-clause-course g c = λ first begun k f.
     let p = g.C.Served.sends first in
     let k0 = c.args.self.now.rounds in
     let a = c.in_ok-ask_door.ensures.course first begun k f in
-    err-runs c.from_residual-in_err-ask.result c.in_err-ask.field-0.0 c.from_residual-in_err-ask.ensures.1 (g.C.Served.stands first c.ask.new.self.core) (g.C.Served.runs_out first) (setting p k0) c.ask.new.self.rounds (outside (g.D.Doors.link c.ask.new.doors) (g.D.Doors.door c.ask.new.doors)) (gathering begun (g.K.Sink.contents c.ask.new.out) (g.T.Tape.contents c.ask.new.tape) c.ask.new.self.waiting) (Goes AtDoor k) AtDoor
-    (goes-on {T = Unit {0}} (Err c.in_err-ask.field-0.0) _ (g.C.Served.stands first c.ask.new.self.core) (g.C.Served.runs_out first) p k0 c.ask_door.new.self.rounds c.ask.new.self.rounds _ (outside (g.D.Doors.link c.ask.new.doors) (g.D.Doors.door c.ask.new.doors)) _ (gathering begun (g.K.Sink.contents c.ask.new.out) (g.T.Tape.contents c.ask.new.tape) c.ask.new.self.waiting) _ _ AtDoor a c.ask_door.ensures.wears.idle (c.in_err-ask.ensures.course first begun a.course a.follows))
+    err-runs c.from_residual-in_err-ask.result c.in_err-ask.field-0.0 c.from_residual-in_err-ask.ensures.1 (g.C.Served.stands first c.ask.new.self.served) (g.C.Served.runs_out first) (setting p k0) c.ask.new.self.rounds (outside (g.D.Doors.link c.ask.new.doors) (g.D.Doors.door c.ask.new.doors)) (gathering begun (g.K.Sink.contents c.ask.new.out) (g.T.Tape.contents c.ask.new.tape) c.ask.new.self.waiting) (Goes AtDoor k) AtDoor
+    (goes-on {T = Unit {0}} (Err c.in_err-ask.field-0.0) _ (g.C.Served.stands first c.ask.new.self.served) (g.C.Served.runs_out first) p k0 c.ask_door.new.self.rounds c.ask.new.self.rounds _ (outside (g.D.Doors.link c.ask.new.doors) (g.D.Doors.door c.ask.new.doors)) _ (gathering begun (g.K.Sink.contents c.ask.new.out) (g.T.Tape.contents c.ask.new.tape) c.ask.new.self.waiting) _ _ AtDoor a c.ask_door.ensures.wears.idle (c.in_err-ask.ensures.course first begun a.course a.follows))
 
 pub returns-in_err-ask-2-clause-course : goal.returns-in_err-ask-2-clause-course
 returns-in_err-ask-2-clause-course g c = λ first begun k f.
@@ -28,8 +28,8 @@ returns-in_err-ask-2-clause-course g c = λ first begun k f.
     let k0 = c.args.self.now.rounds in
     let a = c.in_ok-ask_door.ensures.course first begun k f in
     let b = goes-ok p k0 a c.ask_door.ensures.wears.idle (c.in_ok-ask.ensures.course first begun a.course a.follows) in
-    err-runs c.from_residual-in_err-ask-2.result c.in_err-ask-2.field-0.0 c.from_residual-in_err-ask-2.ensures.1 (g.C.Served.stands first c.ask-2.new.self.core) (g.C.Served.runs_out first) (setting p k0) c.ask-2.new.self.rounds (outside (g.D.Doors.link c.ask-2.new.doors) (g.D.Doors.door c.ask-2.new.doors)) (gathering begun (g.K.Sink.contents c.ask-2.new.out) (g.T.Tape.contents c.ask-2.new.tape) c.ask-2.new.self.waiting) (Goes AtDoor k) AtDoor
-    (goes-on {T = Unit {0}} (Err c.in_err-ask-2.field-0.0) _ (g.C.Served.stands first c.ask-2.new.self.core) (g.C.Served.runs_out first) p k0 c.ask.new.self.rounds c.ask-2.new.self.rounds _ (outside (g.D.Doors.link c.ask-2.new.doors) (g.D.Doors.door c.ask-2.new.doors)) _ (gathering begun (g.K.Sink.contents c.ask-2.new.out) (g.T.Tape.contents c.ask-2.new.tape) c.ask-2.new.self.waiting) _ _ AtDoor b (c.ask.ensures.wears.idle ∙ c.ask_door.ensures.wears.idle) (c.in_err-ask-2.ensures.course first begun b.course b.follows))
+    err-runs c.from_residual-in_err-ask-2.result c.in_err-ask-2.field-0.0 c.from_residual-in_err-ask-2.ensures.1 (g.C.Served.stands first c.ask-2.new.self.served) (g.C.Served.runs_out first) (setting p k0) c.ask-2.new.self.rounds (outside (g.D.Doors.link c.ask-2.new.doors) (g.D.Doors.door c.ask-2.new.doors)) (gathering begun (g.K.Sink.contents c.ask-2.new.out) (g.T.Tape.contents c.ask-2.new.tape) c.ask-2.new.self.waiting) (Goes AtDoor k) AtDoor
+    (goes-on {T = Unit {0}} (Err c.in_err-ask-2.field-0.0) _ (g.C.Served.stands first c.ask-2.new.self.served) (g.C.Served.runs_out first) p k0 c.ask.new.self.rounds c.ask-2.new.self.rounds _ (outside (g.D.Doors.link c.ask-2.new.doors) (g.D.Doors.door c.ask-2.new.doors)) _ (gathering begun (g.K.Sink.contents c.ask-2.new.out) (g.T.Tape.contents c.ask-2.new.tape) c.ask-2.new.self.waiting) _ _ AtDoor b (c.ask.ensures.wears.idle ∙ c.ask_door.ensures.wears.idle) (c.in_err-ask-2.ensures.course first begun b.course b.follows))
 
 pub returns-in_err-write_waiting-clause-course : goal.returns-in_err-write_waiting-clause-course
 returns-in_err-write_waiting-clause-course g c = λ first begun k f.
@@ -42,7 +42,7 @@ returns-in_err-write_waiting-clause-course g c = λ first begun k f.
     let from = Goes AtDoor k in
     let w = outside (g.D.Doors.link c.ask-2.new.doors) (g.D.Doors.door c.ask-2.new.doors) in
     let out = gathering begun (g.K.Sink.contents c.ask-2.new.out) (g.T.Tape.contents c.write_waiting.new.tape) c.write_waiting.new.waiting in
-    err-runs c.from_residual-in_err-write_waiting.result c.in_err-write_waiting.field-0.0 c.from_residual-in_err-write_waiting.ensures.1 (g.C.Served.stands first c.ask-2.new.self.core) (g.C.Served.runs_out first) s c.ask-2.new.self.rounds w out from AtDoor
+    err-runs c.from_residual-in_err-write_waiting.result c.in_err-write_waiting.field-0.0 c.from_residual-in_err-write_waiting.ensures.1 (g.C.Served.stands first c.ask-2.new.self.served) (g.C.Served.runs_out first) s c.ask-2.new.self.rounds w out from AtDoor
     (cut-leaves c.in_err-write_waiting.field-0.0 (g.C.Served.runs_out first) s from w out c.in_err-write_waiting.ensures.cut
     (cut-next s from AtEnd d.course (course_of (rest s d.course)) w out d.reaches refl (rest-cut s c.ask-2.new.self.rounds.busy w (gathering begun (g.K.Sink.contents c.ask-2.new.out) (g.T.Tape.contents c.ask-2.new.tape) c.ask-2.new.self.waiting) out d.course d.follows.busy d.follows.tells d.follows.tells.told c.in_err-write_waiting.ensures.err)))
 
@@ -73,7 +73,7 @@ returns-in_err-write_waiting-clause-log g c = λ first terms begun begun_out tap
     let gives = g.D.Doors.call_gives in
     let tells = Told g.K.Sink.write_gives begun_out c.ask-2.new.out in
     let p = g.C.Served.sends first in
-    let stands = g.C.Served.stands first c.ask-2.new.self.core in
+    let stands = g.C.Served.stands first c.ask-2.new.self.served in
     let k = c.ask-2.new.self.rounds in
     let asked = c.in_ok-ask-2.ensures.log first terms begun begun_out (taped ∙ sym c.ask_door.ensures.made ∙ sym c.ask.ensures.made) (c.in_ok-ask.ensures.log first terms begun begun_out (taped ∙ sym c.ask_door.ensures.made) (c.in_ok-ask_door.ensures.log first terms begun begun_out taped a)) in
     let runs_out = g.C.Served.runs_out first in
@@ -87,7 +87,7 @@ returns-clause-course g c = λ first begun k f.
     let a = c.in_ok-ask_door.ensures.course first begun k f in
     let b = goes-ok p k0 a c.ask_door.ensures.wears.idle (c.in_ok-ask.ensures.course first begun a.course a.follows) in
     let d = goes-ok p k0 b (c.ask.ensures.wears.idle ∙ c.ask_door.ensures.wears.idle) (c.in_ok-ask-2.ensures.course first begun b.course b.follows) in
-    rests c.rest.result (g.C.Served.stands first c.ask-2.new.self.core) (g.C.Served.runs_out first) p k0.idle c.ask-2.new.self.rounds c.rest.new.self (outside (g.D.Doors.link c.ask-2.new.doors) (g.D.Doors.door c.ask-2.new.doors)) (gathering begun (g.K.Sink.contents c.ask-2.new.out) (g.T.Tape.contents c.ask-2.new.tape) c.ask-2.new.self.waiting) (gathering begun (g.K.Sink.contents c.ask-2.new.out) (g.T.Tape.contents c.write_waiting.new.tape) c.write_waiting.new.waiting) (Goes AtDoor k) d.course c.rest.ensures
+    rests c.rest.result (g.C.Served.stands first c.ask-2.new.self.served) (g.C.Served.runs_out first) p k0.idle c.ask-2.new.self.rounds c.rest.new.self (outside (g.D.Doors.link c.ask-2.new.doors) (g.D.Doors.door c.ask-2.new.doors)) (gathering begun (g.K.Sink.contents c.ask-2.new.out) (g.T.Tape.contents c.ask-2.new.tape) c.ask-2.new.self.waiting) (gathering begun (g.K.Sink.contents c.ask-2.new.out) (g.T.Tape.contents c.write_waiting.new.tape) c.write_waiting.new.waiting) (Goes AtDoor k) d.course c.rest.ensures
     (c.ask-2.ensures.wears.idle ∙ c.ask.ensures.wears.idle ∙ c.ask_door.ensures.wears.idle) d.follows (record { told = λ bytes is. is; tape = c.in_ok-write_waiting.ensures.ok; waits = c.in_ok-write_waiting.ensures.waits }) d.reaches
 
 pub returns-clause-faults : goal.returns-clause-faults
@@ -133,20 +133,20 @@ returns-clause-idles g c = round-idles c.rest.result c.args.self.now.rounds c.as
 
 pub returns-in_err-ask_door-clause-log : goal.returns-in_err-ask_door-clause-log
 returns-in_err-ask_door-clause-log g c = λ first terms begun begun_out taped a.
-    subst (λ (r : Result (Unit {0}) ServeEnd). Logs r AtDoor g.D.Doors.call_gives (g.C.Served.stands first c.ask_door.new.self.core) (g.C.Served.runs_out first) (Told g.K.Sink.write_gives begun_out c.ask_door.new.out) terms (g.C.Served.sends first) c.ask_door.new.self.rounds begun c.ask_door.new.doors) (sym (is-err c.from_residual.result c.in_err-ask_door.field-0.0 c.from_residual.ensures.1))
+    subst (λ (r : Result (Unit {0}) ServeEnd). Logs r AtDoor g.D.Doors.call_gives (g.C.Served.stands first c.ask_door.new.self.served) (g.C.Served.runs_out first) (Told g.K.Sink.write_gives begun_out c.ask_door.new.out) terms (g.C.Served.sends first) c.ask_door.new.self.rounds begun c.ask_door.new.doors) (sym (is-err c.from_residual.result c.in_err-ask_door.field-0.0 c.from_residual.ensures.1))
     (c.in_err-ask_door.ensures.log first terms begun begun_out taped a)
 
 pub returns-in_err-ask-clause-log : goal.returns-in_err-ask-clause-log
 returns-in_err-ask-clause-log g c = λ first terms begun begun_out taped a.
-    subst (λ (r : Result (Unit {0}) ServeEnd). Logs r AtDoor g.D.Doors.call_gives (g.C.Served.stands first c.ask.new.self.core) (g.C.Served.runs_out first) (Told g.K.Sink.write_gives begun_out c.ask.new.out) terms (g.C.Served.sends first) c.ask.new.self.rounds begun c.ask.new.doors) (sym (is-err c.from_residual-in_err-ask.result c.in_err-ask.field-0.0 c.from_residual-in_err-ask.ensures.1))
+    subst (λ (r : Result (Unit {0}) ServeEnd). Logs r AtDoor g.D.Doors.call_gives (g.C.Served.stands first c.ask.new.self.served) (g.C.Served.runs_out first) (Told g.K.Sink.write_gives begun_out c.ask.new.out) terms (g.C.Served.sends first) c.ask.new.self.rounds begun c.ask.new.doors) (sym (is-err c.from_residual-in_err-ask.result c.in_err-ask.field-0.0 c.from_residual-in_err-ask.ensures.1))
     (c.in_err-ask.ensures.log first terms begun begun_out (taped ∙ sym c.ask_door.ensures.made) (c.in_ok-ask_door.ensures.log first terms begun begun_out taped a))
 
 pub returns-in_err-ask-2-clause-log : goal.returns-in_err-ask-2-clause-log
 returns-in_err-ask-2-clause-log g c = λ first terms begun begun_out taped a.
-    subst (λ (r : Result (Unit {0}) ServeEnd). Logs r AtDoor g.D.Doors.call_gives (g.C.Served.stands first c.ask-2.new.self.core) (g.C.Served.runs_out first) (Told g.K.Sink.write_gives begun_out c.ask-2.new.out) terms (g.C.Served.sends first) c.ask-2.new.self.rounds begun c.ask-2.new.doors) (sym (is-err c.from_residual-in_err-ask-2.result c.in_err-ask-2.field-0.0 c.from_residual-in_err-ask-2.ensures.1))
+    subst (λ (r : Result (Unit {0}) ServeEnd). Logs r AtDoor g.D.Doors.call_gives (g.C.Served.stands first c.ask-2.new.self.served) (g.C.Served.runs_out first) (Told g.K.Sink.write_gives begun_out c.ask-2.new.out) terms (g.C.Served.sends first) c.ask-2.new.self.rounds begun c.ask-2.new.doors) (sym (is-err c.from_residual-in_err-ask-2.result c.in_err-ask-2.field-0.0 c.from_residual-in_err-ask-2.ensures.1))
     (c.in_err-ask-2.ensures.log first terms begun begun_out (taped ∙ sym c.ask_door.ensures.made ∙ sym c.ask.ensures.made) (c.in_ok-ask.ensures.log first terms begun begun_out (taped ∙ sym c.ask_door.ensures.made) (c.in_ok-ask_door.ensures.log first terms begun begun_out taped a)))
 
 pub returns-clause-log : goal.returns-clause-log
 returns-clause-log g c = λ first terms begun begun_out taped a.
-    rested-logs c.rest.result g.D.Doors.call_gives (g.C.Served.stands first c.ask-2.new.self.core) (g.C.Served.runs_out first) (Told g.K.Sink.write_gives begun_out c.ask-2.new.out) terms (g.C.Served.sends first) c.ask-2.new.self.rounds c.rest.new.self begun c.ask-2.new.doors c.rest.ensures
+    rested-logs c.rest.result g.D.Doors.call_gives (g.C.Served.stands first c.ask-2.new.self.served) (g.C.Served.runs_out first) (Told g.K.Sink.write_gives begun_out c.ask-2.new.out) terms (g.C.Served.sends first) c.ask-2.new.self.rounds c.rest.new.self begun c.ask-2.new.doors c.rest.ensures
     (c.in_ok-ask-2.ensures.log first terms begun begun_out (taped ∙ sym c.ask_door.ensures.made ∙ sym c.ask.ensures.made) (c.in_ok-ask.ensures.log first terms begun begun_out (taped ∙ sym c.ask_door.ensures.made) (c.in_ok-ask_door.ensures.log first terms begun begun_out taped a)))

@@ -13,7 +13,7 @@ pub returns-in-Err-clause-course : goal.returns-in-Err-clause-course
 returns-in-Err-clause-course g c = λ first begun k f.
     let a = c.rounds.invariant.comes first begun k f in
     leaves-written c.in-Err.end (g.C.Served.runs_out first) (setting (g.C.Served.sends first) c.args.self.now.rounds) AtDoor k (outside (g.D.Doors.link c.round.new.doors) (g.D.Doors.door c.round.new.doors)) begun (g.K.Sink.contents c.round.new.out) (g.T.Tape.contents c.round.new.tape) c.round.new.self.waiting
-    (goes-on {T = Unit {0}} (Err c.in-Err.end) (g.C.Served.stands first c.rounds.self.core) (g.C.Served.stands first c.round.new.self.core) (g.C.Served.runs_out first) (g.C.Served.sends first) c.args.self.now.rounds c.rounds.self.rounds c.round.new.self.rounds (outside (g.D.Doors.link c.rounds.doors) (g.D.Doors.door c.rounds.doors)) (outside (g.D.Doors.link c.round.new.doors) (g.D.Doors.door c.round.new.doors))
+    (goes-on {T = Unit {0}} (Err c.in-Err.end) (g.C.Served.stands first c.rounds.self.served) (g.C.Served.stands first c.round.new.self.served) (g.C.Served.runs_out first) (g.C.Served.sends first) c.args.self.now.rounds c.rounds.self.rounds c.round.new.self.rounds (outside (g.D.Doors.link c.rounds.doors) (g.D.Doors.door c.rounds.doors)) (outside (g.D.Doors.link c.round.new.doors) (g.D.Doors.door c.round.new.doors))
     (gathering begun (g.K.Sink.contents c.rounds.out) (g.T.Tape.contents c.rounds.tape) c.rounds.self.waiting) (gathering begun (g.K.Sink.contents c.round.new.out) (g.T.Tape.contents c.round.new.tape) c.round.new.self.waiting) (Goes AtDoor k) AtDoor AtDoor a c.rounds.invariant.idle (c.in-Err.ensures.course first begun a.course a.follows))
 
 pub rounds-preserved : goal.rounds-preserved
@@ -26,7 +26,7 @@ rounds-preserved g c = record {
   faults = faults-then {T = Unit {0}} (Ok tt) (outside (g.D.Doors.link c.args.doors.now) (g.D.Doors.door c.args.doors.now)) (outside (g.D.Doors.link c.rounds.doors) (g.D.Doors.door c.rounds.doors)) (outside (g.D.Doors.link c.round.new.doors) (g.D.Doors.door c.round.new.doors)) (faults (g.K.Sink.faults c.args.out.now) (g.T.Tape.counts c.args.tape.now)) (faults (g.K.Sink.faults c.rounds.out) (g.T.Tape.counts c.rounds.tape)) (faults (g.K.Sink.faults c.round.new.out) (g.T.Tape.counts c.round.new.tape)) c.rounds.invariant.faults c.in_default.ensures.faults;
   comes = λ first begun k f.
       let a = c.rounds.invariant.comes first begun k f in
-      goes-on {T = Unit {0}} (Ok tt) (g.C.Served.stands first c.rounds.self.core) (g.C.Served.stands first c.round.new.self.core) (g.C.Served.runs_out first) (g.C.Served.sends first) c.args.self.now.rounds c.rounds.self.rounds c.round.new.self.rounds (outside (g.D.Doors.link c.rounds.doors) (g.D.Doors.door c.rounds.doors)) (outside (g.D.Doors.link c.round.new.doors) (g.D.Doors.door c.round.new.doors))
+      goes-on {T = Unit {0}} (Ok tt) (g.C.Served.stands first c.rounds.self.served) (g.C.Served.stands first c.round.new.self.served) (g.C.Served.runs_out first) (g.C.Served.sends first) c.args.self.now.rounds c.rounds.self.rounds c.round.new.self.rounds (outside (g.D.Doors.link c.rounds.doors) (g.D.Doors.door c.rounds.doors)) (outside (g.D.Doors.link c.round.new.doors) (g.D.Doors.door c.round.new.doors))
       (gathering begun (g.K.Sink.contents c.rounds.out) (g.T.Tape.contents c.rounds.tape) c.rounds.self.waiting) (gathering begun (g.K.Sink.contents c.round.new.out) (g.T.Tape.contents c.round.new.tape) c.round.new.self.waiting) (Goes AtDoor k) AtDoor AtDoor a c.rounds.invariant.idle (c.in_default.ensures.course first begun a.course a.follows);
   log = λ first terms begun begun_out taped a. c.in_default.ensures.log first terms begun begun_out (taped ∙ sym c.rounds.invariant.made) (c.rounds.invariant.log first terms begun begun_out taped a);
   made = c.round.ensures.made ∙ c.rounds.invariant.made;

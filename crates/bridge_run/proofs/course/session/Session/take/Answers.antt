@@ -12,6 +12,6 @@ pub returns-in-Event-clause-stops : goal.returns-in-Event-clause-stops
 returns-in-Event-clause-stops g c =
     on_err_weaker c.take.result
     (λ stops first piece past. subst
-    (λ (x : Coming). StandsAt (g.C.Served.stands first) (g.C.Served.runs_out first) (g.C.Served.sends first) piece x c.args.self.now.core c.args.self.now.sent past → SendsPart (g.C.Served.runs_out first) (g.C.Served.sends first) past (event_with piece x) nothing c.take.new.sent) (sym c.in-Event.is)
+    (λ (x : Coming). StandsAt (g.C.Served.stands first) (g.C.Served.runs_out first) (g.C.Served.sends first) piece x c.args.self.now.served c.args.self.now.sent past → SendsPart (g.C.Served.runs_out first) (g.C.Served.sends first) past (event_with piece x) nothing c.take.new.sent) (sym c.in-Event.is)
     (λ at. subst (λ (s : Sent). SendsPart (g.C.Served.runs_out first) (g.C.Served.sends first) past (event_of c.in-Event.event) s c.take.new.sent) (cleared c.clear.new.self c.clear.ensures.client c.clear.ensures.host c.clear.ensures.refusals c.clear.ensures.lets_go) (stops first past at)))
     c.take.ensures.stops
