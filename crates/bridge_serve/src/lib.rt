@@ -6,6 +6,7 @@ mod lending;
 mod served;
 mod serving;
 
+pub use bridge_run::RunTerms;
 pub use lending::serve_host;
 pub use served::after_loss::AfterLoss;
 pub use serving::{ServeTerms, serve};

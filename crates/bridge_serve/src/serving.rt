@@ -26,11 +26,8 @@ pub struct ServeTerms<'a> {
     pub first_id: u64,
     /// What becomes of the link of a client whose imported device is lost.
     pub after_loss: AfterLoss,
-    /// The rest is as in `RunTerms`.
-    pub host: &'a str,
-    pub listen: &'a str,
-    pub idle: u64,
-    pub budget: u64,
+    /// Between whom, and how long.
+    pub run: RunTerms<'a>,
 }
 
 /// Serves a gate that draws its ids from `first_id` on, as `run_between` does: what comes is an event of it, and where
@@ -44,16 +41,16 @@ pub fn serve<D: Doors, K: Sink, T: Tape>(
 ) -> ServeEnd
     requires client_down { (D.link doors.old Client).up ≡ false }
     requires host_down { (D.link doors.old Host).up ≡ false }
-    requires idle { 1 ≤ terms.idle }
-    requires budget { 1 ≤ terms.budget }
+    requires idle { 1 ≤ terms.run.idle }
+    requires budget { 1 ≤ terms.run.budget }
     requires first_id { (1 ≤ terms.first_id) × (terms.first_id ≤ u32.MAX) }
     // Over doors that tell, and a sink and a tape that may.
-    ensures leaves { (c : Course) → NothingYet terms.entry.idle terms.entry.budget c → Tells (outside (D.link doors.old) (D.door doors.old)) (written (K.contents out.old) (K.contents out.old) (T.contents tape.old)) c
-        → Leaves result (gate_runs_out terms.entry.first_id) (record { served = gate_sends terms.entry.after_loss terms.entry.first_id; idle = terms.entry.idle }) (Goes Making c) (outside (D.link doors.new) (D.door doors.new)) (written (K.contents out.old) (K.contents out.new) (T.contents tape.new)) }
+    ensures leaves { (c : Course) → NothingYet terms.entry.run.idle terms.entry.run.budget c → Tells (outside (D.link doors.old) (D.door doors.old)) (written (K.contents out.old) (K.contents out.old) (T.contents tape.old)) c
+        → Leaves result (gate_runs_out terms.entry.first_id) (record { served = gate_sends terms.entry.after_loss terms.entry.first_id; idle = terms.entry.run.idle }) (Goes Making c) (outside (D.link doors.new) (D.door doors.new)) (written (K.contents out.old) (K.contents out.new) (T.contents tape.new)) }
     // Over any doors, any sink and any tape.
-    ensures log { Logged result D.call_gives (gate_runs_out terms.entry.first_id) (Told K.write_gives out.old out.new) (record { host = Some terms.entry.host.now; door = terms.entry.listen.now; taped = T.made tape.old; idle = terms.entry.idle; budget = terms.entry.budget }) (gate_sends terms.entry.after_loss terms.entry.first_id) doors.old doors.new }
+    ensures log { Logged result D.call_gives (gate_runs_out terms.entry.first_id) (Told K.write_gives out.old out.new) (record { host = Some terms.entry.run.host.now; door = terms.entry.run.listen.now; taped = T.made tape.old; idle = terms.entry.run.idle; budget = terms.entry.run.budget }) (gate_sends terms.entry.after_loss terms.entry.first_id) doors.old doors.new }
     ensures cause { HasCause result (outside (D.link doors.old) (D.door doors.old)) (outside (D.link doors.new) (D.door doors.new)) (faults (K.faults out.old) (T.counts tape.old)) (faults (K.faults out.new) (T.counts tape.new)) }
-    ensures reason { HasReason result terms.entry.idle (outside (D.link doors.old) (D.door doors.old)) (outside (D.link doors.new) (D.door doors.new)) }
+    ensures reason { HasReason result terms.entry.run.idle (outside (D.link doors.old) (D.door doors.old)) (outside (D.link doors.new) (D.door doors.new)) }
 {
     let mut greeting = Bytes::new(alloc);
     let gate = match Gate::make(alloc, terms.first_id, &mut greeting) {
@@ -64,12 +61,6 @@ pub fn serve<D: Doors, K: Sink, T: Tape>(
         gate,
         after_loss: terms.after_loss,
     };
-    let run_terms = RunTerms {
-        host: terms.host,
-        listen: terms.listen,
-        idle: terms.idle,
-        budget: terms.budget,
-    };
     let hello = greeting.as_slice();
-    run_between(alloc, gateway, hello, run_terms, doors, out, tape)
+    run_between(alloc, gateway, hello, terms.run, doors, out, tape)
 }

@@ -3,7 +3,7 @@
 ghost use Rattle.std.specs.Prelude.{◌≡◌, ◌≤◌, false};
 ghost use Rattle.usb_base.specs.declared.side.Side.TheVariants.{Client, Host};
 
-use bridge_serve::{AfterLoss, ServeTerms, serve, serve_host};
+use bridge_serve::{AfterLoss, RunTerms, ServeTerms, serve, serve_host};
 use gate_outside::{Doors, Sink};
 use model_device::Loopback;
 use session_tape::NoTape;
@@ -29,12 +29,14 @@ pub fn spend<D: Doors, K: Sink>(
     match words {
         ["serve"] => {
             let terms = ServeTerms {
-                host: "a:1",
-                listen: "b:2",
-                idle: IDLE,
-                budget,
                 first_id: 1,
                 after_loss: AfterLoss::Keep,
+                run: RunTerms {
+                    host: "a:1",
+                    listen: "b:2",
+                    idle: IDLE,
+                    budget,
+                },
             };
             ended_as(serve(alloc, terms, doors, out, &mut NoTape))
         }

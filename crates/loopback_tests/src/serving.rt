@@ -8,7 +8,7 @@ use crate::peer::Peer;
 use crate::peers::Peers;
 use crate::played::Played;
 use bridge_run::ServeEnd;
-use bridge_serve::{AfterLoss, ServeTerms, serve};
+use bridge_serve::{AfterLoss, RunTerms, ServeTerms, serve};
 use gate_outside::{Doors, TextSink};
 use gate_sockets::TcpDoors;
 use session_tape::NoTape;
@@ -83,12 +83,14 @@ fn between<D: Doors + Drop, R: Net<Stream = TcpStream, Listener = TcpListener>>(
     requires host_down { (D.link doors Host).up ≡ false }
 {
     let terms = ServeTerms {
-        host,
-        listen: peers.door,
-        idle: IDLE,
-        budget: BUDGET,
         first_id: 1,
         after_loss,
+        run: RunTerms {
+            host,
+            listen: peers.door,
+            idle: IDLE,
+            budget: BUDGET,
+        },
     };
     let mut out = TextSink::make(alloc, ROOM, ROOM, &[])?;
     let mut played = Played { doors, peers };

@@ -15,7 +15,7 @@ ghost use Rattle.usbgate_commands.specs.links.Serves.{Known, known_of, EndsOf, s
 
 use crate::links::ended::ended_as;
 use crate::words::serving::Serving;
-use bridge_serve::ServeTerms;
+use bridge_serve::{RunTerms, ServeTerms};
 use gate_outside::{Doors, Sink};
 use session_tape::{MakeTape, NoTape, Tape, Unmade, first_comment};
 use std::alloc::Global;
@@ -97,12 +97,14 @@ fn between<D: Doors, K: Sink, T: Tape>(
         EndsOf (gate_runs_out serving.now.first_id) (setting_of serving.now) Making result (known doors.old out.old tape.old) (known doors.new out.new tape.new) }
 {
     let terms = ServeTerms {
-        host: serving.host,
-        listen: serving.listen,
-        idle: u64::from(serving.idle),
-        budget: BUDGET,
         first_id: u64::from(serving.first_id),
         after_loss: serving.after_loss,
+        run: RunTerms {
+            host: serving.host,
+            listen: serving.listen,
+            idle: u64::from(serving.idle),
+            budget: BUDGET,
+        },
     };
     ended_as(bridge_serve::serve(alloc, terms, doors, out, tape))
 }
