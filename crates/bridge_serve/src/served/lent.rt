@@ -28,11 +28,11 @@ pub enum Use {
 /// The host of a device, and what it has sent.
 #[derive(Drop)]
 pub struct Lent<G: Gadget> {
-    pub core: HostCore<G>,
+    pub(crate) core: HostCore<G>,
     /// The guest has come.
-    pub has_come: bool,
+    pub(crate) has_come: bool,
     /// What was sent before.
-    pub waiting: Bytes,
+    pub(crate) waiting: Bytes,
 }
 
 impl<G: Gadget> Lent<G> {
