@@ -1,6 +1,7 @@
 -- What a change does: a new configuration, an alternate setting, or a reset. Which endpoints it touches goes by the
 -- device's table before it; none touches endpoint 0.
 use Rattle.std.specs.Prelude.{ℕ, ◌&&◌, not, Bool, if◌then◌else◌, [], ◌++◌, map, filter, Option, Some, None}
+use Rattle.std.specs.Option.{option_map_or}
 use Rattle.usb_base.specs.Endpoint.{is_control, row_of}
 use Rattle.usb_base.specs.declared.endpoint.EpTable.{EpTable}
 use Rattle.control_route.specs.Changes.{touches}
@@ -49,3 +50,7 @@ abbrev pub changed : {S : Type 0} → Meaning S → Route → EpTable → Bool �
 changed {S = S} m r table success h =
     let v : Move S = cleared success r table h in
     record v { sent = v.sent ++ facts_of h.guest.caps m h.gadget }
+
+-- what a request does that is a change, or none
+abbrev pub changed_by : {S : Type 0} → Meaning S → Option Route → EpTable → Bool → Host S → Move S
+changed_by m change table success h = option_map_or (λ r. changed m r table success h) change (quiet h)

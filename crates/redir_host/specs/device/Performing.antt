@@ -18,14 +18,14 @@ use Rattle.usb_base.specs.Firsts.{without_first}
 use Rattle.redir_host.specs.state.Queues.{is_at}
 use Rattle.redir_host.specs.guest.Asking.{routed}
 use Rattle.redir_host.specs.write.Answers.{answer}
-use Rattle.redir_host.specs.device.Changes.{change_of, changed}
+use Rattle.redir_host.specs.device.Changes.{change_of, changed, changed_by}
 use Rattle.redir_host.specs.step.Moves.{Move, quiet, then_sends, behind}
 
 -- the device did this for a request that is a change, or none: what the change does, and then the answer; the table is
 -- that of before
 abbrev pub done_by : {S : Type 0} → Meaning S → EpTable → Host S → Request → Option Route → Outcome → Move S
 done_by m table h q change o =
-    then_sends (option_map_or (λ r. changed m r table (is_success o.status) h) change (quiet h)) (answer (m.configuration h.gadget) q o)
+    then_sends (changed_by m change table (is_success o.status) h) (answer (m.configuration h.gadget) q o)
 
 -- none where the device isn't ready for it
 abbrev pub does : {S : Type 0} → Meaning S → Host S → Request → Option Route → Option (S × Outcome) → Option (Move S)

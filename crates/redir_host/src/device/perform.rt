@@ -8,7 +8,7 @@ ghost use Rattle.model_device.specs.Transfer.{IsOutcome};
 ghost use Rattle.usb_base.specs.Writes.{Begins};
 ghost use Rattle.redir_host.specs.declared.state.request.Request.{Request as Asked};
 ghost use Rattle.redir_host.specs.write.Answers.{answer};
-ghost use Rattle.redir_host.specs.device.Changes.{changed, cleared};
+ghost use Rattle.redir_host.specs.device.Changes.{changed_by, cleared};
 ghost use Rattle.redir_host.specs.device.Facts.{facts_of};
 ghost use Rattle.redir_data.specs.Sent.{sent_packet_bytes};
 ghost use Rattle.redir_host.specs.step.Makes.{Makes, TellsPerformed, Tells};
@@ -112,7 +112,7 @@ impl<G: Gadget> Host<G> {
             | Form::SetConfiguration { .. }
             | Form::SetAlt { .. }
             | Form::GetAlt { .. } => {
-                self.change(alloc, &Route::Reset, &table, outcome.status, out)?;
+                self.change(alloc, Some(Route::Reset), &table, outcome.status, out)?;
                 self.carry_out(alloc, request, out)
             }
         }
@@ -160,14 +160,8 @@ impl<G: Gadget> Host<G> {
         ensures ok { OnOk result (Tells (done_by G.meaning table.now self.old request.now change outcome) self.new out.old out.new) }
         ensures err { OnErr result (Begins out.old out.new) }
     {
-        match change {
-            Some(route) => {
-                let status = outcome.status;
-                self.change(alloc, &route, table, status, out)?;
-                self.answer(request, outcome, out)
-            }
-            None => self.answer(request, outcome, out),
-        }
+        self.change(alloc, change, table, outcome.status, out)?;
+        self.answer(request, outcome, out)
     }
 
     /// Answers a request.
@@ -181,21 +175,26 @@ impl<G: Gadget> Host<G> {
         write_answer(configuration, request, outcome, self.guest.caps, out)
     }
 
-    /// Does what a change does that came to this status. The table is that of before.
+    /// Does what a change does that came to this status: nothing where there is none. The table is that of before.
     fn change(
         &mut self,
         alloc: Global,
-        route: &Route,
+        change: Option<Route>,
         table: &EpTable,
         status: UsbStatus,
         out: &mut Bytes,
     ) -> Result<(), Memory>
         requires { IsSound self.old }
-        ensures ok { OnOk result (Tells (changed G.meaning route.now table.now (is_success_status status) self.old) self.new out.old out.new) }
+        ensures ok { OnOk result (Tells (changed_by G.meaning change table.now (is_success_status status) self.old) self.new out.old out.new) }
         ensures err { OnErr result (Begins out.old out.new) }
     {
-        self.clear(alloc, route, table, status, out)?;
-        self.tell_facts(alloc, out)
+        match change {
+            Some(route) => {
+                self.clear(alloc, &route, table, status, out)?;
+                self.tell_facts(alloc, out)
+            }
+            None => Ok(()),
+        }
     }
 
     /// Tells the endpoints and the interfaces as they are now.

@@ -24,7 +24,7 @@ use Rattle.redir_host.specs.declared.state.request.Form.TheVariants as form
 use Rattle.redir_host.specs.declared.state.request.Request.{Request}
 use Rattle.chapter9.specs.Standard.{ended}
 use Rattle.redir_host.specs.write.Answers.{answer, answer_by, cancelled}
-use Rattle.redir_host.specs.device.Changes.{change_of, cleared, changed, runs_on, stays, touched}
+use Rattle.redir_host.specs.device.Changes.{change_of, cleared, changed, changed_by, runs_on, stays, touched}
 use Rattle.redir_host.specs.device.Facts.{facts_of}
 use Rattle.redir_data.specs.Sent.{sent_packet_bytes}
 use Rattle.redir_host.specs.step.Machine.{bytes_of}
@@ -100,23 +100,20 @@ tells_changed {S = S} m r t success h new o0 o1 o2 made e fit =
       in_range = each_joined InRange v.sent facts (cleared_ranges success r t h) (subst (Each InRange) (ap told made.host ∙ kept) fit);
     }
 
--- a change and then the answer
-pub tells_change : {S : Type 0} (m : Meaning S) (t : EpTable) (h new : Host S) (q : Request) (r : Route) (success : Bool) (o : Outcome) (o0 o1 o2 : List ℕ) → success ≡ is_success o.status →
-    Tells (changed m r t success h) new o0 o1 → o2 ≡ o1 ++ sent_packet_bytes new.guest.caps (answer (m.configuration new.gadget) q o) → Tells (done_by m t h q (Some r) o) new o0 o2
-tells_change {S = S} m t h new q r success o o0 o1 o2 is made e =
-    let made' : Tells (changed m r t (is_success o.status) h) new o0 o1 = subst (λ (b : Bool). Tells (changed m r t b h) new o0 o1) is made in
-    let kept : h.gadget ≡ new.gadget = sym (cleared_gadget (is_success o.status) r t h) ∙ sym (ap (λ (x : Host S). x.gadget) made'.makes.host) in
-    record {
-      makes = makes_then (changed m r t (is_success o.status) h) (answer (m.configuration h.gadget) q o) (answer (m.configuration new.gadget) q o) new o0 o1 o2 made'.makes (ap (λ (s : S). answer (m.configuration s) q o) kept) e;
-      in_range = each_appended InRange (changed m r t (is_success o.status) h).sent (answer (m.configuration h.gadget) q o) made'.in_range (answer_ranges (m.configuration h.gadget) q.id q.form q.transfer.ep o);
-    }
+gadget_by : {S : Type 0} (m : Meaning S) (change : Option Route) (t : EpTable) (success : Bool) (h : Host S) → (changed_by m change t success h).host.gadget ≡ h.gadget
+gadget_by m None t success h = refl
+gadget_by m (Some r) t success h = cleared_gadget success r t h
 
--- the answer alone
-pub tells_answer : {S : Type 0} (m : Meaning S) (t : EpTable) (h : Host S) (q : Request) (o : Outcome) (o0 o1 : List ℕ) → o1 ≡ o0 ++ sent_packet_bytes h.guest.caps (answer (m.configuration h.gadget) q o) → Tells (done_by m t h q None o) h o0 o1
-tells_answer m t h q o o0 o1 e = record {
-  makes = record { host = refl; sent = e ∙ ap (λ bs. o0 ++ bs) (sym (append-nil (sent_packet_bytes h.guest.caps (answer (m.configuration h.gadget) q o)))) };
-  in_range = (answer_ranges (m.configuration h.gadget) q.id q.form q.transfer.ep o, tt);
-}
+-- a change, or none, and then the answer
+pub tells_done : {S : Type 0} (m : Meaning S) (t : EpTable) (h new : Host S) (q : Request) (change : Option Route) (o : Outcome) (o0 o1 o2 : List ℕ) → Tells (changed_by m change t (is_success o.status) h) new o0 o1 →
+    o2 ≡ o1 ++ sent_packet_bytes new.guest.caps (answer (m.configuration new.gadget) q o) → Tells (done_by m t h q change o) new o0 o2
+tells_done {S = S} m t h new q change o o0 o1 o2 made e =
+    let v : Move S = changed_by m change t (is_success o.status) h in
+    let kept : h.gadget ≡ new.gadget = sym (gadget_by m change t (is_success o.status) h) ∙ sym (ap (λ (x : Host S). x.gadget) made.makes.host) in
+    record {
+      makes = makes_then v (answer (m.configuration h.gadget) q o) (answer (m.configuration new.gadget) q o) new o0 o1 o2 made.makes (ap (λ (s : S). answer (m.configuration s) q o) kept) e;
+      in_range = each_appended InRange v.sent (answer (m.configuration h.gadget) q o) made.in_range (answer_ranges (m.configuration h.gadget) q.id q.form q.transfer.ep o);
+    }
 
 -- ---- requests that are performed
 
@@ -194,9 +191,9 @@ pub changed_guest : {S : Type 0} (m : Meaning S) (r : Route) (t : EpTable) (b : 
 changed_guest m r t true h = refl
 changed_guest m r t false h = refl
 
-pub done_guest : {S : Type 0} (m : Meaning S) (t : EpTable) (h : Host S) (q : Request) (r : Option Route) (o : Outcome) → (done_by m t h q r o).host.guest ≡ h.guest
-done_guest m t h q None o = refl
-done_guest m t h q (Some r) o = changed_guest m r t (is_success o.status) h
+guest_by : {S : Type 0} (m : Meaning S) (change : Option Route) (t : EpTable) (b : Bool) (h : Host S) → (changed_by m change t b h).host.guest ≡ h.guest
+guest_by m None t b h = refl
+guest_by m (Some r) t b h = changed_guest m r t b h
 
 -- the guest's requests stand as before, or some of them do
 pub cleared_sound : {S : Type 0} (m : Meaning S) (r : Route) (t : EpTable) (b : Bool) (h : Host S) → IsSound h → IsSound (changed m r t b h).host
@@ -206,9 +203,9 @@ cleared_sound m r t false h s = s
 pub changed_sound : {S : Type 0} (m : Meaning S) (r : Route) (t : EpTable) (b : Bool) (h new : Host S) (o0 o1 : List ℕ) → IsSound h → Makes (changed m r t b h) new o0 o1 → IsSound new
 changed_sound {S = S} m r t b h new o0 o1 s made = let Says : Host S → Type 0 = λ x. IsSound x in subst Says (sym made.host) (cleared_sound m r t b h s)
 
-pub changed_request : {S : Type 0} (m : Meaning S) (r : Route) (t : EpTable) (b : Bool) (h new : Host S) (o0 o1 : List ℕ) (q : Request) → IsGuestRequest h.guest q → Makes (changed m r t b h) new o0 o1 → IsGuestRequest new.guest q
-changed_request {S = S} m r t b h new o0 o1 q is made =
-    let same : h.guest ≡ new.guest = sym (changed_guest m r t b h) ∙ sym (ap (λ (x : Host S). x.guest) made.host) in
+pub changed_request : {S : Type 0} (m : Meaning S) (change : Option Route) (t : EpTable) (b : Bool) (h new : Host S) (o0 o1 : List ℕ) (q : Request) → IsGuestRequest h.guest q → Makes (changed_by m change t b h) new o0 o1 → IsGuestRequest new.guest q
+changed_request {S = S} m change t b h new o0 o1 q is made =
+    let same : h.guest ≡ new.guest = sym (guest_by m change t b h) ∙ sym (ap (λ (x : Host S). x.guest) made.host) in
     subst (λ (g : RedirState). IsGuestRequest g q) same is
 
 made_behind : {S : Type 0} (v w : Move S) (before new : Host S) (o0 o1 o2 : List ℕ) → w.host.guest ≡ v.host.guest → Tells v before o0 o1 → Tells w new o1 o2 → Tells (behind v w) new o0 o2
@@ -230,7 +227,7 @@ does_behind : {S : Type 0} (m : Meaning S) (v : Move S) (q : Request) (r : Optio
 does_behind m v q r None before new o0 o1 o2 a b = absurd b
 does_behind {S = S} m v q r (Some done) before new o0 o1 o2 a b =
     let g : Host S = record v.host { gadget = done.0 } in
-    made_behind v (done_by m (m.table v.host.gadget) g q r done.1) before new o0 o1 o2 (done_guest m (m.table v.host.gadget) g q r done.1) a b
+    made_behind v (done_by m (m.table v.host.gadget) g q r done.1) before new o0 o1 o2 (guest_by m r (m.table v.host.gadget) (is_success done.1.status) g) a b
 
 pub now_behind : {S : Type 0} (m : Meaning S) (v : Move S) (q : Request) (before new : Host S) (o0 o1 o2 : List ℕ) → Tells v before o0 o1 → PerformsNow (performs m before q) new o1 o2 → PerformsNow (option_map (behind v) (performs m v.host q)) new o0 o2
 now_behind {S = S} m v q before new o0 o1 o2 a b =

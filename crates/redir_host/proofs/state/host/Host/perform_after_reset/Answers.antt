@@ -30,7 +30,7 @@ carry_out-requires-clause-sound g c =
 pub carry_out-requires-clause-request : goal.carry_out-requires-clause-request
 carry_out-requires-clause-request g c =
     let m = g.G.Gadget.meaning in
-    changed_request m route.Reset c.table-table.result (is_success c.in_ok-outcome.outcome.status) c.reset.new.self c.change.new.self c.args.out.now c.change.new.out c.args.request.now (reset_request m c.args.self.now c.reset.new.self c.in_ok-outcome.outcome c.args.request.now c.requires.request c.in_ok-outcome.ensures) c.in_ok-change-in-Control.ensures.ok.makes
+    changed_request m (Some route.Reset) c.table-table.result (is_success c.in_ok-outcome.outcome.status) c.reset.new.self c.change.new.self c.args.out.now c.change.new.out c.args.request.now (reset_request m c.args.self.now c.reset.new.self c.in_ok-outcome.outcome c.args.request.now c.requires.request c.in_ok-outcome.ensures) c.in_ok-change-in-Control.ensures.ok.makes
 
 pub returns-in_ok-change-in-Control-clause-ok : goal.returns-in_ok-change-in-Control-clause-ok
 returns-in_ok-change-in-Control-clause-ok g c =
