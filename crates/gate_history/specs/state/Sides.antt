@@ -66,7 +66,8 @@ turned starts stops e before = if starts e then true else (if stops e then false
 abbrev pub no_sides : Sides
 no_sides = record { agreed = no_caps; imported = false; lost = false; client_over = false; host_over = false }
 
--- a client is over from its refusal until its end, after which the next one may come
+-- the present client has imported the device where its import succeeded, and it isn't gone; the device is lost where no
+-- import came after its loss; and a client is over from its refusal until its end, after which the next one may come
 abbrev pub sides_after : Effect → Sides → Sides
 sides_after e s = record {
   agreed = unwrap_or (agrees e) s.agreed;
