@@ -28,15 +28,16 @@ pub fn spend<D: Doors, K: Sink>(
 {
     match words {
         ["serve"] => {
+            let run = RunTerms {
+                host: "a:1",
+                listen: "b:2",
+                idle: IDLE,
+                budget,
+            };
             let terms = ServeTerms {
                 first_id: 1,
                 after_loss: AfterLoss::Keep,
-                run: RunTerms {
-                    host: "a:1",
-                    listen: "b:2",
-                    idle: IDLE,
-                    budget,
-                },
+                run,
             };
             ended_as(serve(alloc, terms, doors, out, &mut NoTape))
         }
