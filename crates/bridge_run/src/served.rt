@@ -43,7 +43,7 @@ pub trait Served {
         ensures wants { OnErr result (takes_memory (event_of event.entry) ≡ true) };
 
     /// Has the next piece of a side come straight into its memory, at most `limit` bytes, and takes it as `take` takes
-    /// an event. `None` where it can't: nothing was asked for any then.
+    /// an event. `None` where it can't: then nothing was read.
     fn take_from<I: Incoming>(
         &mut self,
         side: Side,

@@ -1,4 +1,5 @@
--- The requests that a device answers, by bmRequestType and bRequest (USB 2.0, tables 9-3 and 9-4, and 11.24.2.13).
+-- The requests that a device answers, by bmRequestType and bRequest, and those of features by wValue (USB 2.0, tables
+-- 9-3 and 9-4, and 11.24.2.13).
 use Rattle.std.specs.Prelude.{ℕ, Bool, ◌==◌, ◌&&◌, Option, Some, None, if◌then◌else◌}
 use Rattle.usb_base.specs.declared.setup.Setup.{Setup}
 use Rattle.usb_base.specs.declared.request.TheConstants.{TO_DEVICE, TO_INTERFACE, TO_ENDPOINT, TO_PORT, FROM_DEVICE, FROM_INTERFACE, FROM_ENDPOINT}

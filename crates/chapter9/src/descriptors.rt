@@ -43,7 +43,7 @@ impl From<Memory> for WalkError {
 /// Reads a configuration: its own descriptor and all those after it, as GET_DESCRIPTOR gives them (USB 2.0,
 /// 9.4.3), in one pass. The first descriptor is wrong where it isn't a whole configuration descriptor that
 /// tells the blob's own length, a later one where its length is below 2 or passes the end, or where an
-/// interface or an endpoint is too short, or the endpoint has no address.
+/// interface or an endpoint is too short, or one of bits 4 to 6 of an endpoint's address is set.
 pub fn walk(alloc: Global, blob: &[u8]) -> Result<Parts, WalkError>
     ensures right { IfOk result (λ parts. wrong_place blob.now ≡ None) }
     ensures parts { IfOk result (λ parts. parts ≡ parts_of blob.now) }
@@ -124,7 +124,7 @@ fn interface(bytes: &[u8]) -> Part
     }
 }
 
-/// The endpoint, if it has an address.
+/// The endpoint, if bits 4 to 6 of its address are clear.
 fn endpoint(bytes: &[u8]) -> Option<Part>
     requires { 7 ≤ length bytes.now }
     ensures { result ≡ (if is_address (byte_at 2 bytes.now) then Some (endpoint_at bytes.now) else None) }

@@ -27,7 +27,7 @@ pub enum ControlRead {
     GetInterface,
 }
 
-/// A request without data, which changes the device's state.
+/// A request without data. All but SET_ADDRESS can change the device's state.
 #[derive(Clone, Copy)]
 pub enum ControlWrite {
     /// CLEAR_FEATURE of an endpoint's halt (USB 2.0, 9.4.1).

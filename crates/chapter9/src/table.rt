@@ -13,7 +13,7 @@ const CONTROL_OUT: usize = 0;
 /// The index of endpoint 0 from the device.
 const CONTROL_IN: usize = 16;
 
-/// Both of them.
+/// The row of each of them.
 const CONTROL: EpRow = EpRow {
     kind: EpKind::Control,
     interval: 0,
@@ -54,7 +54,7 @@ fn add_setting(table: &mut EpTable, parts: &Parts, alt: u8)
     }
 }
 
-/// Adds the endpoint of a descriptor that stands behind one of this interface, if it is one.
+/// Adds the endpoint of a descriptor, where that is an endpoint's and stands behind one of this interface.
 fn add_endpoint(table: &mut EpTable, interface: Option<u8>, part: &Part)
     ensures { table.new.rows ≡ with_rows table.old.rows (endpoint_rows part.now interface) }
 {

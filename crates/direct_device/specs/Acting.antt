@@ -108,7 +108,7 @@ unlinked d by target = record d {
   queue = map (marked target) d.queue;
 }
 
--- a submit that waits for a stream is taken back at once; another may still win
+-- a submit that waits for a stream is taken back at once; of any other its own answer tells whether it was
 abbrev pub unlink_answers : {S : Type 0} → Direct S → ℕ → ℕ → List UrbPacket
 unlink_answers d by target =
     if list_any (is_taken target) d.live then ret_unlink by ECONNRESET ∷ []

@@ -23,7 +23,7 @@ pub record Load : Type 0 where
   pub request : Request
   pub verdict : Verdict
 
--- a submit without an answer, with the number of the unlink that asks for it
+-- a submit without an answer, with the number of the unlink that asks it back
 pub record Live : Type 0 where
   pub load : Load
   pub unlinker : Option ℕ
@@ -38,7 +38,7 @@ pub record Ran : Type 0 where
   pub load : Load
   pub outcome : Outcome
 
--- `way` has, of each IN endpoint's address, the packets that its stream has sent and the client hasn't got
+-- `way` has, of each IN endpoint's address, the packets that its stream has sent and that haven't arrived
 pub record Direct (S : Type 0) : Type 0 where
   pub gadget : S
   pub live : List Live

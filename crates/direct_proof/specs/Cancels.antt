@@ -23,11 +23,12 @@ IsAsking (Plain (plain.Hello x)) = ⊥
 IsAsking (Plain _) = Unit {0}
 IsAsking (Carrying d) = CanAsk (asking_of d)
 
--- a cancel on the wire names one that was asked back, if it is waiting ahead of it
+-- a cancel on the wire names one that was asked back, if one of its id waits ahead of it
 abbrev pub IsAsked : ℕ → Entry → Type 0
 IsAsked id e = (e.id == id) ≡ true → e.asked ≡ true
 
--- what stands ahead of a packet: the entries before it, and how many of those that come it has behind it
+-- what stands ahead of a packet: the entries that are held, and of those that come one for each packet before it that
+-- begins one
 abbrev pub is_request : Asking → Bool
 is_request (Asks f t) = true
 is_request _ = false

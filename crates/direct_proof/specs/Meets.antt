@@ -7,7 +7,7 @@ use Rattle.direct_run.specs.Packets.{both_caps}
 use Rattle.direct_proof.specs.Shared.{Shared}
 use Rattle.direct_proof.specs.Tagged.{Bye, Greeted, Plugged, Tagged}
 
--- the device is there: its end hasn't been read
+-- the device's end
 abbrev pub is_bye : Tagged → Bool
 is_bye Bye = true
 is_bye _ = false

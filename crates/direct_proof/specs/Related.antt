@@ -57,7 +57,7 @@ pub record Related {S : Type 0} (m : Meaning S) (w : World S) (j : Shared) : Typ
   pub answers : w.to_gate ≡ map on_wire j.back
   pub tagged : AllByRecursion (TaggedOfKind w.gate.streams) j.back
   pub ids : Ids j.debts w.submits (j.held ++ j.coming) (runs_in j.back)
-  -- an id that is owed is none of those that go by no id
+  -- no id that is owed is 0, which stands where there is none
   pub real : AllByRecursion (λ (d : Debt). (d.id == 0) ≡ false) j.debts
   -- the streams that run are of IN endpoints
   pub runs_at_in : AllByRecursion (λ (s : Running). IsIn s.ep) w.host.running

@@ -22,7 +22,7 @@ use Rattle.direct_device.specs.Direct.{Live, Load, Ran, Waiting, normal_of, seen
 
 -- ---- how a submit stands at the host
 
--- the packet by which it is asked for; of a reset the one that its answer answers
+-- the packet by which it is asked for; of a reset, which has no answer of its own, the one behind it that has
 abbrev pub route_form : Route → Form
 route_form (route.SetConfig configuration) = form.SetConfiguration configuration
 route_form (route.SetAlt interface alt) = form.SetAlt interface alt

@@ -21,7 +21,7 @@ lines (p ∷ ps) = in_line p ++ lines ps
 
 -- ---- what is shared, and the device that it stands for
 
--- `half` says that of the first that comes, a reset, the one packet has come and the other hasn't
+-- `half` says that the first that comes is a reset, of whose two packets the first has come and the second hasn't
 pub record Shared : Type 0 where
   pub held : List Entry
   pub half : Bool

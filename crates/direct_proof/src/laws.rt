@@ -35,7 +35,8 @@ pub fn moves_are_direct<G: Gadget>()
 /// A law: the simulation. For every device that meets *Gadget*, and every list of steps on bytes whose course is known,
 /// as that of a system is: the items that they told are a legal trace of the device attached directly, with the
 /// requests of the submits that were accepted; what clients were sent, list and import replies aside, is just its
-/// answers, and each client got its replies before its answers; and neither gateway nor host refuses the other.
+/// answers, and each client got its replies before its answers; neither gateway nor host refuses the other; and behind
+/// an unplugging the device performs and sends nothing.
 pub fn simulation<G: Gadget>()
     ensures { (first : G) (steps : List PastStep) → IsKnown G.meaning first (course G.meaning first steps)
         → Simulates G.meaning first steps }

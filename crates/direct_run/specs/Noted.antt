@@ -43,7 +43,7 @@ abbrev pub item_of_host : List Submitted → HostNote → List Item
 item_of_host submits (host_note.Cancelled id) = item.Cancel (number_in id submits) ∷ []
 item_of_host submits (host_note.Refused place reason) = []
 
--- endpoint 0 has one queue
+-- the address that names an endpoint's queue: endpoint 0 has one for both directions
 abbrev pub queue_byte : ℕ → ℕ
 queue_byte ep = if ep == 128 then 0 else ep
 

@@ -106,7 +106,7 @@ impl<G: Gadget> Inner<G> {
         }
     }
 
-    /// The same, where memory has not run out. Nothing is told yet, here and in each call below.
+    /// The same, where memory has not run out. Nothing is told yet, here and in each call below but `tell`.
     fn take(&mut self, step: &Step, told: &mut Told) -> Result<(), Memory>
         requires { told.old ≡ untold }
         ensures { OnOk result ((first : G) (past : ListOf PastStep) → SystemStands G.meaning first (kept_of self.old) past

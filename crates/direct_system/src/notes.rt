@@ -78,7 +78,7 @@ pub fn push_performed(
     }
 }
 
-/// Endpoint 0 has one queue.
+/// The address that names an endpoint's queue: endpoint 0 has one for both directions.
 fn queue_address(ep: EpAddr) -> EpAddr
     ensures { result ≡ queue_byte ep }
 {

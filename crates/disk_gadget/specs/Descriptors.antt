@@ -21,7 +21,7 @@ disk_set =
 abbrev pub fresh : Course
 fresh = record { stage = Waits; sense = None }
 
--- what it keeps beside its blocks begins anew after each change that succeeds; its bulk endpoints are another page's
+-- what it keeps beside its blocks begins anew after each change that succeeds; what its bulk endpoints do is in Turns
 unfoldable pub described : Device Course
 described = record {
   set = disk_set;

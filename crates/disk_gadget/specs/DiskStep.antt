@@ -21,7 +21,7 @@ use Rattle.disk_gadget.specs.Accesses.{Access, blocks_after, count_of}
 use Rattle.disk_gadget.specs.Descriptors.{described, fresh}
 use Rattle.disk_gadget.specs.Turns.{Reply, Plain, OfBlocks, Turn, given_by, taken_by}
 
--- ---- all but the bytes of the blocks, of which there are so many
+-- ---- all but the bytes of the blocks; `blocks` is how many blocks there are
 
 pub record Step : Type 0 where
   pub state : State Course

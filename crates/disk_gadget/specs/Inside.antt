@@ -1,4 +1,4 @@
--- The disk as the code keeps it, and what a turn makes of each of its parts.
+-- What a turn, a command and a request make of each part that the code keeps of the disk.
 use Rattle.std.specs.Prelude.{ℕ, Bool, List, Option, Some, None, if◌then◌else◌}
 use Rattle.usb_base.specs.declared.transfer.Outcome.{Outcome}
 use Rattle.usb_base.specs.declared.setup.Setup.{Setup}

@@ -73,7 +73,7 @@ acted blocks sense w bytes body =
     let act = act_of blocks sense w bytes in
     record (turn_to (record { stage = Reports (report_of w act.status); sense = act.sense }) (Plain (taken (length body)))) { access = act.access }
 
--- its answer is cut to its length, none of which is given yet
+-- the answer is cut to the wrapper's length, of which nothing is given yet
 abbrev pub answering : ℕ → Option Sense → Wrapper → List ℕ → Turn
 answering blocks sense w body =
     let act = act_of blocks sense w [] in
@@ -108,7 +108,8 @@ taken_by blocks sense body _ = None
 abbrev pub less : ℕ → Report → Report
 less n r = record r { residue = r.residue - n }
 
--- the answer ends with a transfer that asked for more than is left, and with the length
+-- the answer ends with a transfer that wanted more than was left, and once as many bytes as the wrapper's length are
+-- given
 abbrev pub gave : Option Sense → ℕ → Answer → Report → Turn
 gave sense wanted answer r =
     let n = min wanted (left_of answer) in

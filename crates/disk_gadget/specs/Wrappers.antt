@@ -6,7 +6,8 @@ use Rattle.disk_gadget.specs.declared.wrapper.TheConstants.{WRAPPER_SIZE, MOST_C
 use Rattle.disk_gadget.specs.declared.wrapper.Wrapper.{Wrapper}
 use Rattle.disk_gadget.specs.Commands.{command_of}
 
--- dCBWSignature is `USBC`, bCBWLUN names unit 0, bCBWCBLength tells how long the command block is
+-- dCBWSignature is `USBC`, dCBWDataTransferLength is no more than may be moved, bCBWLUN names unit 0, and bCBWCBLength
+-- tells how long the command block is, from 1 to 16 bytes
 abbrev pub is_wrapper : List ℕ → Bool
 is_wrapper bytes =
     length bytes == WRAPPER_SIZE

@@ -34,7 +34,7 @@ pub struct Acted {
     pub answer: Answer,
 }
 
-/// Carries a command out, whose data of the host are these. For want of memory nothing has changed.
+/// Carries out the wrapper's command, for which the host sent these bytes. For want of memory nothing has changed.
 pub fn carry_out(
     alloc: Global,
     sense: &mut Option<Sense>,

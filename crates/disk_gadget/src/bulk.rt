@@ -106,7 +106,7 @@ pub fn give(
     }
 }
 
-/// Gives the next bytes of an answer, which then aren't missing any more.
+/// Gives the next bytes of an answer, and takes them off the report's residue.
 fn give_answer(
     alloc: Global,
     answer: &mut Answer,

@@ -35,7 +35,7 @@ impl Status {
 pub struct Report {
     /// dCSWTag: that of its wrapper.
     pub tag: u32,
-    /// dCSWDataResidue: how many of its bytes weren't moved.
+    /// dCSWDataResidue: how many of the bytes that its wrapper tells weren't given, or weren't used.
     pub residue: u32,
     pub status: Status,
 }

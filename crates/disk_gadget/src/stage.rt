@@ -24,7 +24,7 @@ pub enum Answer {
 }
 
 impl Answer {
-    /// How many bytes that are.
+    /// How many bytes are left.
     pub fn left(&self) -> usize
         ensures { result ≡ left_of self.now }
     {
@@ -34,7 +34,7 @@ impl Answer {
         }
     }
 
-    /// The next of them.
+    /// The next `count` of them.
     pub fn bytes(&self, alloc: Global, medium: &Medium, count: u32) -> Result<Bytes, Memory>
         requires count { count ≤ left_of self.now }
         requires within { PlaceWithin (length medium.now) self.now }
@@ -55,7 +55,7 @@ impl Answer {
         Ok(bytes)
     }
 
-    /// Goes on behind them.
+    /// Takes off the first `count` of them, which were given.
     pub fn skip(&mut self, count: u32)
         requires count { count ≤ left_of self.old }
         requires fits { GivenFits self.old }
@@ -70,7 +70,7 @@ impl Answer {
         }
     }
 
-    /// At most so many of them.
+    /// At most the first `length` of them.
     pub fn cut(self, length: u32) -> Answer
         ensures { result ≡ cut_answer length self }
     {
@@ -109,7 +109,7 @@ pub struct Course {
 }
 
 impl Course {
-    /// Of a disk that was just reset.
+    /// That of a disk that was just plugged in.
     pub fn fresh() -> Course
         ensures { result ≡ fresh }
     {

@@ -33,7 +33,7 @@ pub struct Wrapper {
 }
 
 impl Wrapper {
-    /// The wrapper that these bytes are, if they are one for unit 0.
+    /// The wrapper that these bytes are, if they are one for unit 0 that moves no more than `MOST_MOVED` bytes.
     pub fn read(bytes: &[u8]) -> Option<Wrapper>
         ensures { result ≡ wrapper_of bytes.now }
     {

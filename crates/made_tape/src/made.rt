@@ -14,7 +14,7 @@ use std::alloc::Global;
 use std::marker::Model;
 use usb_base::{Bytes, Memory};
 
-/// How many rounds the tape of a number may have that the commands make.
+/// How many rounds a tape that the commands make has at most.
 pub const MOST_ROUNDS: u16 = 1000;
 
 /// A made tape, seen as the lines that are still to come.

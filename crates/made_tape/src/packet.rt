@@ -15,7 +15,7 @@ use usbip_urb::{
 /// SET_CONFIGURATION with the value 1.
 const CONFIGURE: [u8; 8] = [0, 9, 1, 0, 0, 0, 0, 0];
 
-/// The numbers of the unlinks begin behind this one.
+/// The seqnum of a round's unlink is this plus the round.
 pub const UNLINKS: u32 = 0x8000_0000;
 
 /// Asks for the device.
@@ -42,7 +42,7 @@ pub fn configure(alloc: Global) -> Result<Bytes, Memory>
     )
 }
 
-/// Sends so many bytes, each of them the number of the round, from 1 on, modulo 256.
+/// Sends so many bytes, each of them the round, counted from 1, modulo 256.
 pub fn send(alloc: Global, round: u16, size: u16) -> Result<Bytes, Memory>
     ensures { IfOk result (λ bytes. bytes ≡ send_bytes round size) }
 {
@@ -131,7 +131,7 @@ fn head(seqnum: u32, direction: u32, ep: u32) -> Head
     }
 }
 
-/// A byte so often.
+/// The byte, so many times.
 fn repeated(alloc: Global, byte: u8, count: u16) -> Result<Bytes, Memory>
     ensures { IfOk result (λ bytes. bytes ≡ replicate count byte) }
 {

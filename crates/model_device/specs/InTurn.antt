@@ -6,7 +6,7 @@ use Rattle.chapter9.specs.Standard.{stall}
 use Rattle.chapter9.specs.declared.standard_requests.DescriptorSet.{DescriptorSet}
 use Rattle.model_device.specs.Device.{Device}
 
--- what is kept is the number of offers since the last change, modulo that of its packets
+-- what is kept is the number of packets sent since the last change that succeeded, modulo `count`
 abbrev pub in_turn : ℕ → (ℕ → List ℕ) → DescriptorSet → Device ℕ
 in_turn count body_of set = record {
   set = set;

@@ -1,5 +1,5 @@
--- The transfer that a request of a client asks of a device, and what the client sees of its outcome. A route other
--- than Plain is of a setup that isn't given to the device as it came, but as the route alone has it.
+-- The transfer that a request of a client asks of a device, and what the client sees of its outcome. A setup whose
+-- route has a packet of its own isn't given to the device as it came, but as the route alone has it.
 use Rattle.std.specs.Prelude.{◌≡◌, ◌≢◌, ℕ, ◌+◌, ◌<◌, ◌==◌, Bool, true, false, List, [], ◌∷◌, length, take, Option, Some, None, if◌then◌else◌, slice_index}
 use Rattle.usb_base.specs.Status.{is_success}
 use Rattle.usb_base.specs.declared.setup.Setup.{Setup}

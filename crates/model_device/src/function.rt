@@ -36,7 +36,7 @@ pub trait Function: Drop {
         ensures err { OnErr result (self.new ≡ self.old) }
         ensures thrifty { OnErr result (IsSome (described.transfer self.old transfer.now)) };
 
-    /// The packet that an endpoint sends by itself, which is there and isn't halted, or None where it has none. Then,
+    /// The packet that an endpoint which is there and isn't halted sends by itself, or None where it has none. Then,
     /// and for want of memory, which only a packet takes, nothing has changed.
     fn offer(&mut self, alloc: Global, ep: EpAddr) -> Result<Option<StreamPacket>, Memory>
         ensures packet { IfOk result (λ packet. packet ≡ given_in (described.packet self.old ep)) }

@@ -21,8 +21,8 @@ pub struct Product {
 }
 
 impl Product {
-    /// Its descriptors: its device descriptor (USB 2.0, table 9-8), which has this project's vendor, its
-    /// configuration's, and its name.
+    /// Its descriptors: its device descriptor (USB 2.0, table 9-8), with the vendor 0xFFF0, its configuration's, and
+    /// its name.
     pub fn descriptors(&self, alloc: Global) -> Result<DescriptorSet, Memory>
         requires name { 2 + 2 * length self.now.name.now < 256 }
         requires interface { 9 + length self.now.interface.now < 256 }

@@ -30,7 +30,7 @@ const PRODUCT: Product = Product {
 const PACKET: usize = 192;
 
 /// A full-speed device whose alternate setting 1 has an isochronous IN endpoint. Each offer there is a packet
-/// of one byte, which is 0 after a change that succeeds and then 1 more with each packet.
+/// of one byte repeated, which is 0 after a change that succeeds and then 1 more with each packet, modulo 256.
 pub type Tone = Device<NextSample>;
 
 /// The byte of the tone's next offer.
@@ -80,7 +80,7 @@ impl Function for NextSample {
     ghost lawful = { tone_lawful };
 }
 
-// A packet of one sample.
+// The bytes of a packet: one sample, repeated.
 #[tactic(auto, unfolding(crate::specs::Tone::samples))]
 fn samples(alloc: Global, sample: u8) -> Result<Bytes, Memory>
     ensures { IfOk result (λ body. body ≡ samples sample) }

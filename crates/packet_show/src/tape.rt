@@ -51,7 +51,7 @@ pub enum ModelLine {
     Unplug,
 }
 
-/// Why a line says nothing.
+/// Why a line isn't read.
 #[derive(Clone, Copy, Debug)]
 pub enum LineError {
     /// It isn't a line of such a tape.

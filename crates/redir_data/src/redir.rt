@@ -18,8 +18,8 @@ use std::alloc::Global;
 
 /// Reads the packet at the front of what goes this way, of a stream in this state. A packet is refused as soon as the
 /// bytes of what is wrong are there, at its place from the packet's start, by the reasons of `read_header`,
-/// `read_control` and `read_data`. Only a whole packet with data, a hello, an interface_info and an ep_info take memory;
-/// data are copied once.
+/// `read_control` and `read_data`. Only a whole packet with data, a hello, an interface_info and an ep_info take
+/// memory; data are copied once.
 pub fn read_redir(
     alloc: Global,
     state: RedirState,

@@ -60,9 +60,10 @@ pub fn queues_are_lines<G: Gadget>()
     ensures reset { (first : G) (items : List Item) → (run G.meaning first items).resets_next ≡ reset_in false (line G.meaning first items) }
 {}
 
-/// A law: each packet of the guest that asks for a transfer, or goes by a route, is one request, and is answered at
-/// most once: whatever comes, each request has been answered, waits, or was dropped, once, and none is dropped but with
-/// the device. What was sent as answers is, in order, one answer for each request that has been answered.
+/// A law: each packet of the guest that asks for a transfer, also for one that can't be asked, is one request, and is
+/// answered at most once: whatever comes, each request has been answered, waits, or was dropped, once, and none is
+/// dropped but with the device. What was sent as answers is, in order, one answer for each request that has been
+/// answered.
 pub fn answered_at_most_once<G: Gadget>()
     ensures placed { (items : List Item) (place : ℕ) → length (filter (is_placed place) (requests items)) ≤ 1 }
     ensures once { (first : G) (items : List Item) (place : ℕ)

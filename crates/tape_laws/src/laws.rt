@@ -11,10 +11,9 @@ ghost use Rattle.tape_laws.specs.Begun.{IsFresh};
 ghost use Rattle.tape_laws.specs.Plays.{Replays};
 
 /// A law: what every run of `serve` has recorded says which events it took, and `replay` of that, with the same first
-/// id, prints for each of them what was written to the links that were up. It speaks of doors and a tape that tell, as
-/// `run` does, from the first line on, whatever the sink tells, and of tapes that aren't longer than `replay` reads.
-/// Where nothing was served the tape is as it was, or has a front of its first line, whose replay prints what one of
-/// nothing does.
+/// id, prints for each of them what was written to the links that were up. It speaks of doors and a tape that tell
+/// their bytes, whatever the sink tells, and of tapes that aren't longer than `replay` reads. Where nothing was served
+/// the tape is as it was, or has a front of its first line, whose replay prints what one of nothing does.
 pub fn recordings_replay()
     ensures { (status : End) (asked : ServeSettings) (name : List ℕ) (old new : Known) (c : Course) (held : List ℕ)
         → asked.recording ≡ Some name → Serves asked.recording asked status old new

@@ -40,7 +40,7 @@ event_text first events e =
 abbrev pub opening_text : ℕ → List ℕ
 opening_text first = bytes_line (letter (codes "H")) (out_host first [])
 
--- what a step of a gateway and a modelled device tells; `D` are that host's bytes
+-- what a step of a gateway and a modelled device tells; behind `D` are the bytes that the device's host sends
 abbrev pub told_text : Told → List ℕ
 told_text told =
     flat_map item_line told.items ++ bytes_line (letter (codes "C")) told.to_client ++ bytes_line (letter (codes "H")) told.to_host

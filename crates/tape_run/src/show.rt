@@ -62,7 +62,7 @@ impl<F: ShownFormat> Show<F> {
         self.stream = Stream::new(alloc, F::first_state());
     }
 
-    /// A law: an event of the other side shows nothing.
+    /// A law: an event that leaves the side's stream as it is shows nothing.
     fn pass(&self)
         ensures { (events : List PastEvent) (e : PastEvent) (text : List ℕ) → F.bytes (e ∷ events) ≡ F.bytes events
             → ShowsEvent (shown_by F.the_side F.format F.after F.first_state F.bytes F.line) events e self.now.refused self.now.refused self.now.stream self.now.stream text text }

@@ -8,7 +8,8 @@ use usb_base::Side;
 /// How a run ends.
 #[derive(Clone, Copy, PartialEq, Eq)]
 pub enum Status {
-    /// The tape was read to its end, or the links have ended, and no side was refused.
+    /// The tape was read to its end, a made one was printed or counted, or the links have ended, and no side was
+    /// refused.
     Done,
     /// The words are no command, or the file to record in was there before.
     Usage,
@@ -22,8 +23,8 @@ pub enum Status {
     LinkFault(Side),
     /// Memory ran out.
     OutOfMemory,
-    /// The line of this number, counted from 1, is the first that isn't in the tape's grammar or passes its
-    /// limit.
+    /// The line of this number, counted from 1, is the first that isn't in the tape's grammar, may not stand where it
+    /// does, or passes the tape's limit.
     BadTape(u64),
     /// Nothing came for as many rounds as was asked.
     Idle,

@@ -32,8 +32,8 @@ use usbgate_tapes::runs::{model, replay};
 /// `model` does the steps of the tape with a gateway and a modelled device, and prints what each tells; `show` prints
 /// the packets of one side's stream in it; `serve` puts what comes by the doors to a gate, prints which sides it
 /// refuses, and records what comes, where that is asked; `host` lends a modelled device to a guest that comes by the
-/// doors; `make` prints the tape that a number stands for, and `load` what a modelled loop counts over it. Words that
-/// are no command print how they should be.
+/// doors; `make` prints the tape that a number stands for, and `load` what a gateway counts as its steps are done with
+/// a modelled loop. Words that are no command print how they should be.
 pub fn run<S: Source, K: Sink, D: Doors, T: MakeTape>(
     alloc: Global,
     words: &[&str],

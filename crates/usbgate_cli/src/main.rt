@@ -81,7 +81,7 @@ fn run_args(
 #[derive(Clone, Copy)]
 struct Ran {
     status: Status,
-    /// The file to record in couldn't be made or written, which has been said.
+    /// The file to record in was there before, or couldn't be made or written; the tape has said so.
     is_unrecorded: bool,
 }
 
@@ -132,8 +132,8 @@ fn words_behind_the_name(alloc: Global, args: &[String]) -> Result<Vec<&str>, Me
     Ok(words)
 }
 
-/// Says on standard error what is wrong with words that are no command, and which commands there are. Of a file that
-/// was there before the tape has said it.
+/// Says on standard error what is wrong with words that are no command, and which commands there are. Where the words
+/// are one, but the file to record in was there before, the tape has said so.
 fn tell_wrong(rt: &(impl Eprint + AllocGlobal), words: &[&str], ran: &Ran) {
     if ran.is_unrecorded {
         return;

@@ -35,12 +35,13 @@ pub struct RunTerms<'a> {
 }
 
 /// Dials the host, makes the clients' door, writes to the host what the making of `served` has sent (`hello`), and goes
-/// in rounds. A round asks for a client where none is there, and polls the client and then the host, whose link is up.
-/// What comes is an event of what is served. Its line is written to the tape, where that is made, and a comment for
-/// each refusal. What an event sends is written to the client and then to the host, where that link is up. Then a side
-/// that it refuses has its link closed, and its line is written to `out`; and a client that is let go has its link
-/// closed, too. The end of a client whose link is closed so comes next. It ends after `idle` rounds in a row that bring
-/// nothing, and once `budget` bytes have come, where each client counts as one. The first call that fails is the last.
+/// in rounds. A round asks for a client where none is there, and polls the client and then the host, each where its
+/// link is up. What comes is an event of what is served. Its line and a comment for each refusal go to the tape, where
+/// that is made, and may wait as `few_lines_wait` says. What an event sends is written to the client and then to the
+/// host, each where its link is up. Then a side that it refuses has its link closed, and its line is written to `out`;
+/// and a client that is let go has its link closed, too. The next event is the end of a client whose link was closed
+/// so. It ends after `idle` rounds in a row that bring nothing, and once `budget` bytes have come, where each client
+/// counts as one. The first call that fails is the last.
 pub fn run_between<C: Served + Drop, D: Doors, K: Sink, T: Tape>(
     alloc: Global,
     served: C,

@@ -5,8 +5,8 @@ use usb_base::{Memory, Refusal, Side};
 /// Why serving has ended.
 #[derive(Clone, Copy)]
 pub enum ServeEnd {
-    /// No link is up any more: the host has ended or was refused, where one was dialled, and so has the client. With the
-    /// first refusal of all.
+    /// No link is up any more: the host, where one was dialled, has ended or was refused, and no client is there. With
+    /// the first refusal of all.
     Ended { refused: Option<Refusal> },
     /// A call on this side failed.
     LinkFault(Side),

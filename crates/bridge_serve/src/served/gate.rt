@@ -28,7 +28,7 @@ impl Served for Gateway {
     ghost use Rattle.std.specs.Prelude.{is_some};
     ghost use Rattle.bridge_serve.specs.declared.served.after_loss.AfterLoss.{AfterLoss as Setting};
 
-    // what becomes of such a client, and the first id
+    // what becomes of a client whose device is lost, and the first id
     ghost First = { Setting × ℕ };
 
     ghost sends = { λ first. gate_sends first.0 first.1 };

@@ -31,7 +31,7 @@ pub struct Lent<G: Gadget> {
     pub(crate) core: HostCore<G>,
     /// The guest has come.
     pub(crate) has_come: bool,
-    /// What was sent before.
+    /// What was sent and isn't handed on yet.
     pub(crate) waiting: Bytes,
 }
 

@@ -80,13 +80,13 @@ lift_if d (Some done) P Q f h = f done h
 other : (d : DiskState) (t : Transfer) (r : Setup) (P : State Course × Outcome → Type 0) (Q : DiskState × Outcome → Type 0) → t.setup ≡ Some r → class_request r ≡ None → ((done : State Course × Outcome) → P done → Q (record { state = done.0; blocks = d.blocks }, done.1)) → IfSome (perform described d.state t) P → IfSome (disk_step d t) Q
 other d t r P Q e c f h = subst (λ o. IfSome o Q) (sym (step_at d t r e c)) (lift_if d (perform described d.state t) P Q f h)
 
--- one of the class
+-- a transfer with a setup of the class
 of_class : (d : DiskState) (t : Transfer) (r : Setup) (x : ClassRequest) (Q : DiskState × Outcome → Type 0) → t.setup ≡ Some r → class_request r ≡ Some x → IfSome (on_blocks d.blocks (Some (no_access (setup_done d.state t r (Some x))))) Q → IfSome (disk_step d t) Q
 of_class d t r x Q e c h =
     subst (λ o. IfSome (on_blocks d.blocks (step_by (count_of d.blocks) d.state t o)) Q) (sym e)
     (subst (λ o. IfSome (on_blocks d.blocks (Some (no_access (setup_done d.state t r o)))) Q) (sym c) h)
 
--- none
+-- a transfer without a setup
 of_bulk : (d : DiskState) (t : Transfer) (Q : DiskState × Outcome → Type 0) → t.setup ≡ None → IfSome (on_blocks d.blocks (turned d.state.device (bulk_turn (count_of d.blocks) d.state.kept t))) Q → Q (d, stall) → IfSome (disk_step d t) Q
 of_bulk d t Q e running halted =
     subst (λ o. IfSome (on_blocks d.blocks (step_by (count_of d.blocks) d.state t o)) Q) (sym e)

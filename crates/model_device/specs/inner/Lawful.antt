@@ -1,4 +1,4 @@
--- Every device that answers endpoint 0 by its descriptors is one, if its own answers are.
+-- A device that answers endpoint 0 by its descriptors is a gadget (IsGadget), if its function is one (IsFunction).
 use Rattle.std.proofs.Common.{◌≡◌, ◌≢◌, ℕ, ◌≤◌, Bool, true, false, cond, List, [], ◌∷◌, length, take, min, Option, Some, None, refl, sym, ap, ◌∙◌, arith}
 use Rattle.std.specs.Prelude.{◌&&◌, is_some, unwrap_or, IsSome, IfSome}
 use Rattle.std.specs.Option.{option_map_or}

@@ -1,4 +1,4 @@
--- What the keyboard, the loop and the tone do are functions.
+-- What holds of every function holds of those of the keyboard, the loop and the tone.
 use Rattle.std.proofs.Common.{◌≡◌, ℕ, ◌+◌, ◌≤◌, true, false, List, length, None, refl, sym, ◌∙◌, arith}
 use Rattle.std.specs.Prelude.{◌==◌, ◌&&◌, nat_lt, not, IfSome}
 use Rattle.std.proofs.lemmas.Bool.{false≢true, cond_both}

@@ -33,12 +33,12 @@ DoneFits (form.Control setup) done = done < 2 ^ 16
 DoneFits form.Interrupt done = done < 2 ^ 16
 DoneFits _ done = Unit {0}
 
--- and so has that of its packet
+-- the length field of its packet has room for what it wants, and a bulk transfer is within its limit
 abbrev pub WantedFits : Caps → Form → ℕ → Type 0
 WantedFits caps (form.Bulk stream) wanted = (wanted ≤ MAX_TRANSFER) × BulkLengthFits (has caps WIDE_BULK_LENGTH) wanted
 WantedFits caps _ wanted = wanted < 2 ^ 16
 
--- and so have the fields of its answer that are its own
+-- the fields of its answer have room for the setup's value and index, or for the stream
 abbrev pub FormFits : Form → Type 0
 FormFits (form.Control setup) = (setup.value < 2 ^ 16) × (setup.index < 2 ^ 16)
 FormFits (form.Bulk stream) = stream < 2 ^ 32

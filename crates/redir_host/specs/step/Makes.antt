@@ -44,7 +44,7 @@ pub record Tells {S : Type 0} (v : Move S) (new : Host S) (old_out new_out : Lis
   pub makes : Makes v new old_out new_out
   pub in_range : AllByRecursion InRange v.sent
 
--- and so are the notes
+-- the host is that of the move, and the output and the notes gained what it sends and tells
 pub record TakesMove {S : Type 0} (v : Move S) (new : Host S) (old_out new_out : List ℕ) (old_notes new_notes : List HostNote) : Type 0 where
   pub makes : Makes v new old_out new_out
   pub notes : new_notes ≡ old_notes ++ v.notes

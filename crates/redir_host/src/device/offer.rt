@@ -1,4 +1,4 @@
-//! What the host tells of itself: what the device has for a stream, and that it was taken away.
+//! What the host tells unasked: what the device has for a stream, and that it was taken away.
 
 ghost use Rattle.std.specs.Prelude.{◌≡◌, ◌≤◌, length, not, IfOk, OnOk, OnErr};
 ghost use Rattle.model_device.specs.declared.gadget.TheConstants.{MAX_STREAM_PACKET};

@@ -214,7 +214,7 @@ impl<G: Gadget> Host<G> {
 }
 
 impl<G> Host<G> {
-    /// With success, answers the requests that a change touches, and ends the streams that it touches.
+    /// With success, answers the requests that a change touches as cancelled, and ends the streams that it touches.
     fn clear(
         &mut self,
         alloc: Global,

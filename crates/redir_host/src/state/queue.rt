@@ -75,7 +75,7 @@ impl Queue {
         self.waiting.first(ep)
     }
 
-    /// Takes it out.
+    /// Takes an endpoint's first request out.
     pub fn remove_first(&mut self, ep: EpAddr) -> Request
         requires { IsSome (find (is_at ep) self.old) }
         ensures request { find (is_at ep) self.old ≡ Some result }

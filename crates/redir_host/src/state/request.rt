@@ -2,7 +2,7 @@
 
 use usb_base::{Setup, Transfer};
 
-/// The packet by which a request came. Its answer repeats these fields.
+/// The packet by which a request came, with the fields of which its answer, or the change that it asks for, is made.
 #[derive(Clone, Copy)]
 pub enum Form {
     /// `usb_redir_control_packet`, with the fields of its setup.
@@ -35,7 +35,7 @@ pub struct Request {
 /// What a packet that moves data asks.
 #[derive(Drop)]
 pub enum Asking {
-    /// Nothing: it is of a kind that a guest has no use for.
+    /// Nothing: it is of an endpoint that is used by a stream.
     Nothing,
     /// What can't be asked: it is answered at once.
     Refuses { form: Form, endpoint: u8 },

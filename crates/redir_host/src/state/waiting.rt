@@ -34,7 +34,7 @@ pub struct Waiting {
     pub requests: Slab<Request>,
     /// Their keys, under numbers that rise in order of arrival.
     pub order: BTreeMap<u64, usize>,
-    /// Those of each queue, by the place of its endpoint in a table, so that one queue's are found beside all others.
+    /// Those of each queue, by the place of its endpoint in a table, so that they are found without a look at the rest.
     pub queues: [Keys; ENDPOINTS],
     /// Above all numbers.
     pub next: u64,

@@ -8,8 +8,7 @@ ghost use Rattle.tape_run.specs.Causes.{HasCauses};
 use crate::status::Status;
 use gate_outside::{Sink, write_all};
 
-/// Writes the text, and ends with the status: the text of a command, or, of words that are no command, how they should
-/// be.
+/// Writes the text of a command, or how words should be that are no command, and ends with the status.
 pub fn print<K: Sink>(text: &[u8], status: Status, out: &mut K) -> Status
     requires { (status ≡ Status.Done) ⊎ (status ≡ Status.Usage) }
     ensures leaves { RunWrites K.write_gives K.contents result (untaped status text.now) out.old out.new }

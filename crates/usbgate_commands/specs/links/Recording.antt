@@ -23,7 +23,7 @@ IsUnmade WriteFault old new = OneFault old new
 IsUnmade OutOfMemory old new = new ≡ old
 IsUnmade status old new = ⊥
 
--- such a recording has what it had before, or, where its first line couldn't be written, a front of that
+-- such a recording has what it had before, or, where its first line couldn't be written, a front of that line
 abbrev pub IsUnbegun : ℕ → Status → Option (List ℕ) → Option (List ℕ) → Type 0
 IsUnbegun first_id status old new = (new ≡ old) ⊎ ((status ≡ WriteFault) × IfSome new (λ held. Begins held (first_comment first_id)))
 

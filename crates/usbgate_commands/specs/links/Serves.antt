@@ -58,7 +58,7 @@ pub record Known : Type 0 where
   pub faults : Faults
   pub written : Written
 
--- by what doors, sinks and recordings tell, where the sink that the run began with is named first
+-- by what doors, sinks and recordings tell; the sink as the run began with it is given before the doors
 abbrev pub known_of : {D K T : Type 0} → (D → Side → Link) → (D → Door) → (K → ℕ) → (K → Option (List ℕ)) → (T → Counts) → (T → Option (List ℕ)) → K → D → K → T → Known
 known_of link door sink_faults sink_bytes tape_counts tape_bytes begun doors sink tape = record {
   outside = outside (link doors) (door doors);

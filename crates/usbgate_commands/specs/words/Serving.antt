@@ -11,5 +11,5 @@ pub record ServeSettings : Type 0 where
   pub first_id : ℕ
   -- what becomes of a client whose device is lost
   pub after_loss : AfterLoss
-  -- the file that it is recorded in
+  -- the file in which the session is recorded, if any
   pub recording : Option (List ℕ)

@@ -88,7 +88,8 @@ command_in given = option_and_then (λ row. if is_met row given then asked_by ro
 abbrev pub command_of : List Text → Command
 command_of words = unwrap_or (option_and_then (λ rows. command_in (λ name. first_of name rows)) (found words)) Unknown
 
--- its numbers aren't 0 and fit 32 bits, and those of made tapes aren't more than there may be rounds
+-- a first id isn't 0 and fits 32 bits, a number of idle rounds isn't 0, and a made tape's isn't more than there may be
+-- rounds
 abbrev pub HasNumbers : Command → Type 0
 HasNumbers (Replay first) = (1 ≤ first) × (first < 2 ^ 32)
 HasNumbers (Serve asked) = (1 ≤ asked.idle) × ((1 ≤ asked.first_id) × (asked.first_id < 2 ^ 32))

@@ -16,7 +16,7 @@ use model_device::Gadget;
 use std::alloc::Global;
 use tape_run::{DeviceUser, Status};
 
-/// Lends the device to a guest, and writes a line where that is refused.
+/// Lends the device to a guest, and writes a line where the guest is refused.
 pub fn host<D: Doors, K: Sink>(
     alloc: Global,
     lending: &Lending<'_>,

@@ -12,8 +12,8 @@ use tape_run::DeviceUser;
 use usb_base::request::{FROM_DEVICE, GET_DESCRIPTOR};
 use usb_base::{Bytes, EpAddr, Memory, Setup, Speed, Transfer};
 
-/// The shortest interval of the endpoints of the device that the words ask for, by which it sends packets. None where
-/// they lend no device, or one that has no such endpoint.
+/// The shortest of the intervals at which IN endpoints of the device that the words lend have packets. None where they
+/// lend no device, or one that has no such endpoint.
 pub fn pace_of(alloc: Global, words: &[&str]) -> Result<Option<Duration>, Memory> {
     match Command::read(alloc, words)? {
         Command::Host(lending) => lending.device.make_for(alloc, &mut Pacing { alloc })?,

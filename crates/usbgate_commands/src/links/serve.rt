@@ -21,7 +21,7 @@ use session_tape::{MakeTape, NoTape, Tape, Unmade, first_comment};
 use std::alloc::Global;
 use tape_run::Status;
 
-/// How many bytes and clients may come: 2 ^ 62.
+/// How many bytes may come, where each client counts as one: 2 ^ 62.
 pub const BUDGET: u64 = 4_611_686_018_427_387_904;
 
 /// Serves the device of a host to clients, one after another, and writes a line for each refusal. Where that is asked a
@@ -53,7 +53,8 @@ pub fn serve<D: Doors, K: Sink, T: MakeTape>(
     }
 }
 
-/// Makes the file, and writes its first line, which has the first id and is spelled before.
+/// Makes the file, and writes its first line, which tells the first id. The line is spelled first, so that for want of
+/// memory no file is made.
 fn begin<T: MakeTape>(
     alloc: Global,
     name: &str,

@@ -32,7 +32,7 @@ pub enum Command<'a> {
     Host(Lending<'a>),
     /// Prints the tape of a number.
     Make { count: u16 },
-    /// Counts what a modelled loop makes of that tape.
+    /// Does the steps of that tape with a gateway and a modelled loop, and prints the counts.
     Load { count: u16 },
     /// They are no command.
     Unknown,

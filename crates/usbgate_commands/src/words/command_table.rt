@@ -41,7 +41,7 @@ pub struct CommandRow {
     pub recording: Need,
 }
 
-// A command that no word stands with; each row says what stands with its own.
+// A command with which no word stands: each row below says only which do with its own.
 const BARE: CommandRow = CommandRow {
     verb: Verb::Replay,
     number: Need::MustNot,
@@ -55,7 +55,7 @@ const BARE: CommandRow = CommandRow {
     recording: Need::MustNot,
 };
 
-/// The commands that are built.
+/// All commands.
 pub const ROWS: [CommandRow; 7] = [
     CommandRow {
         verb: Verb::Replay,
@@ -102,7 +102,7 @@ pub const ROWS: [CommandRow; 7] = [
 ];
 
 impl Need {
-    /// Whether a word may be given, or may be missing.
+    /// Whether it admits that the word is given, or that it isn't.
     fn admits(self, is_given: bool) -> bool
         ensures { result ≡ admits self is_given }
     {
@@ -139,7 +139,7 @@ impl CommandRow {
         ROWS.iter().find(|row| row.verb.name() == name).copied()
     }
 
-    /// Whether just those words are given that stand with the command.
+    /// Whether all words are given that the command must have, and none that it must not.
     pub fn is_met(&self, given: &Given<'_>) -> bool
         ensures { (words : List ℕ → Option (List ℕ)) → IsGiven given.now words → result ≡ is_met self.now words }
     {

@@ -4,7 +4,7 @@ use bridge_serve::AfterLoss;
 use std::marker::Model;
 
 /// Where the host and the clients' door are, when to end, the id of the first packet to the host, what becomes of
-/// a client whose device is lost, and where it is recorded.
+/// a client whose device is lost, and where the session is recorded.
 #[derive(Drop)]
 pub struct Serving<'a> {
     /// The host's address.
@@ -17,7 +17,7 @@ pub struct Serving<'a> {
     pub first_id: u32,
     /// What becomes of a client whose device is lost.
     pub after_loss: AfterLoss,
-    /// The file that it is recorded in.
+    /// The file in which the session is recorded, if any.
     pub recording: Option<&'a str>,
 }
 

@@ -26,7 +26,7 @@ pub enum Wrong<'a> {
     CommandLine(clap::Error),
     /// No command has this name.
     Name(&'a str),
-    /// The command of this name lacks an option that it needs, or has one that isn't its own.
+    /// The command of this name lacks its number or an option that it needs, or has one that isn't its own.
     Options(&'a str),
     /// A value of this command isn't one that it may be.
     Value(&'a str),

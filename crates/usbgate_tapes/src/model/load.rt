@@ -1,4 +1,5 @@
-//! The command `load`: what a modelled loop makes of the tape that a number stands for.
+//! The command `load`: what a gateway counts as the steps of the tape that a number stands for are done with it and a
+//! modelled loop.
 
 ghost use Rattle.std.specs.Prelude.{◌≡◌, ◌≢◌, ◌≤◌, [], ℕ, IfOk, OnOk};
 ghost use Rattle.direct_system.specs.Stands.{SystemStands};
