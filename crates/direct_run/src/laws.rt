@@ -26,7 +26,7 @@ pub fn wires_are_outputs<G: Gadget>()
 {}
 
 /// A law: what has got to the host, and then what is on the wire to it, is all that the gateway has sent, and likewise
-/// to the gateway: each byte gets there once, in order, and none that wasn't sent.
+/// to the gateway: no byte is lost, comes twice or out of order, and none comes that wasn't sent.
 pub fn wires_lose_nothing<G: Gadget>()
     ensures host { (first : G) (steps : List PastStep)
         → guest_bytes (course G.meaning first steps).acts ++ wire_to_host (course G.meaning first steps) ≡ sent_to_host (course G.meaning first steps) }
